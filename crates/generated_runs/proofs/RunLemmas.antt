@@ -1,5 +1,5 @@
 -- The machine of a generated system starts with the system's channels and keeps them, its run reaches its end, and two lines tell of it.
-use Rattle.std.proofs.Common.{◌≡◌, ℕ, false, List, [], length, None, Result, Ok, Err, refl, sym, ap, ◌∙◌, arith}
+use Rattle.std.proofs.Common.{◌≡◌, ℕ, false, List, [], length, Result, Ok, Err, refl, sym, ap, ◌∙◌, arith}
 use Rattle.std.specs.Prelude.{replicate}
 use Rattle.bin_config.specs.declared.version.Version.TheVariants.{Two}
 use Rattle.loaded_system.specs.System as loaded_system
@@ -12,8 +12,7 @@ use Rattle.xm_conf.specs.Configuration.{Conf}
 use Rattle.xm_container.specs.Box.{box_text}
 use Rattle.xm_container.specs.Reading.{unpacked}
 use Rattle.file_texts.specs.declared.fault.BoxFault.{BoxFault}
-use Rattle.xm_machine.specs.Outcome.{IsWholeRun, report_of}
-use Rattle.xm_machine.specs.declared.run.Ran.{Ran}
+use Rattle.xm_machine.specs.Outcome.{report_of}
 use Rattle.xm_outside.specs.Causes.{Rose}
 use Rattle.xm_report.specs.Report.{ReportLine}
 use Rattle.generated_system.specs.Generated.{all_chans, all_parts, generated_conf, conf_with, generated}
@@ -74,13 +73,13 @@ unfolding report_of report start
 reports_same system ticks = refl
 
 -- what is reported of the machine that has run is told of the number
-pub told_so : (number container : ℕ) (ran : Ran) (system : loaded_system.System) (inputs : List (List ℕ)) (g : Machine) → system ≡ generated number → inputs ≡ replicate 16 []
-    → container ≡ length (box_text Two (generated number)) → IsWholeRun ran run_length (start (with_inputs system inputs)) g None None
-    → told_of number container ran.lines g ≡ generated_text number
+pub told_so : (number container told : ℕ) (system : loaded_system.System) (inputs : List (List ℕ)) (g : Machine) → system ≡ generated number → inputs ≡ replicate 16 []
+    → container ≡ length (box_text Two (generated number)) → g ≡ run (start (with_inputs system inputs)) run_length
+    → told ≡ length (report_of (start (with_inputs system inputs)) run_length) → told_of number container told g ≡ generated_text number
 unfolding generated_text told_of_run
-told_so number container ran system inputs g is words long whole =
+told_so number container told system inputs g is words long ran counted =
     let booted : with_inputs system inputs ≡ without_inputs (generated number) = ap (λ (s : loaded_system.System). with_inputs s inputs) is ∙ ap (with_inputs (generated number)) words in
-    let state : g ≡ run (start (without_inputs (generated number))) run_length = whole.state ∙ ap (λ (b : System). run (start b) run_length) booted in
-    let lines : ran.lines ≡ length (report (without_inputs (generated number)) run_length) =
-    whole.lines ∙ ap (λ (l : List ReportLine). length l) (reports_same (with_inputs system inputs) run_length) ∙ ap (λ (b : System). length (report b run_length)) booted in
+    let state : g ≡ run (start (without_inputs (generated number))) run_length = ran ∙ ap (λ (b : System). run (start b) run_length) booted in
+    let lines : told ≡ length (report (without_inputs (generated number)) run_length) =
+    counted ∙ ap (λ (l : List ReportLine). length l) (reports_same (with_inputs system inputs) run_length) ∙ ap (λ (b : System). length (report b run_length)) booted in
     rw (long, lines, state) refl

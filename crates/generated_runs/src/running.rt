@@ -1,12 +1,13 @@
 //! The run of a generated system.
 
-ghost use Rattle.std.specs.Prelude.{◌≡◌, false, IfOk, None, Ok, length};
+ghost use Rattle.std.specs.Prelude.{◌≡◌, false, IfOk, Ok, length};
 ghost use Rattle.bin_config.specs.declared.version.Version.TheVariants.{Two};
 ghost use Rattle.generated_system.specs.Told.{generated_text, run_length, told_of};
 ghost use Rattle.generated_system.specs.Generated.{generated_conf, generated};
 ghost use Rattle.xm_container.specs.Box.{box_text};
 ghost use Rattle.xm_container.specs.Reading.{unpacked};
-ghost use Rattle.xm_machine.specs.Outcome.{IsWholeRun};
+ghost use Rattle.machine_model.specs.Machine.{run};
+ghost use Rattle.xm_machine.specs.Outcome.{report_of};
 
 use crate::counting::{exec_in, waiting_in};
 use crate::text::two_lines;
@@ -50,7 +51,8 @@ fn run_container(alloc: Global, number: u32, container: &[u8]) -> Result<Vec<u8>
 fn run_frames(machine: &mut Machine) -> Ran
     requires fresh { machine.old.state.ticks ≡ 0 }
     requires running { machine.old.state.halted ≡ false }
-    ensures { IsWholeRun result run_length machine.old.state machine.new.state None None }
+    ensures state { machine.new.state ≡ run machine.old.state run_length }
+    ensures lines { result.lines ≡ length (report_of machine.old.state run_length) }
 {
     let Ok(ran) = machine.run(RUN_TICKS, &mut SureSink::new(), &mut Board::new()) else {
         unreachable!();

@@ -51,13 +51,13 @@ unfolding start
 started-halted system = refl
 
 -- a run that reached its end told its report
-pub finished : (r : Ran) (cores : List PartFile) (scripts : List Output) (system : System) (inputs : List (List ℕ)) (ticks : ℕ) (new : Machine) (had got : Option (List ℕ)) → IsRun (Ok r) ticks (start (with_inputs system inputs)) new had got → got ≡ grown had (outcome_of_run ticks cores scripts system inputs).report
+pub finished : {from to : BoardView} (r : Ran) (cores : List PartFile) (scripts : List Output) (system : System) (inputs : List (List ℕ)) (ticks : ℕ) (new : Machine) (had got : Option (List ℕ)) → IsRun (Ok r) ticks (start (with_inputs system inputs)) new had got from to → got ≡ grown had (outcome_of_run ticks cores scripts system inputs).report
 unfolding outcome_of_run
 finished r cores scripts system inputs ticks new had got is = is.report ∙ ap (λ (lines : List ReportLine). grown had (texts lines)) (reports_same (with_inputs system inputs) ticks)
 
 -- a run whose report was not taken whole
-pub unwritten : (fault : WriteFault) (cores : List PartFile) (scripts : List Output) (system : System) (inputs : List (List ℕ)) (ticks : ℕ) (new : Machine) (had got : Option (List ℕ)) (before now : ℕ) (files : Option Files) (reads writes calls : ℕ)
-    → IsRun (Err fault) ticks (start (with_inputs system inputs)) new had got → Rose before now
+pub unwritten : {from to : BoardView} (fault : WriteFault) (cores : List PartFile) (scripts : List Output) (system : System) (inputs : List (List ℕ)) (ticks : ℕ) (new : Machine) (had got : Option (List ℕ)) (before now : ℕ) (files : Option Files) (reads writes calls : ℕ)
+    → IsRun (Err fault) ticks (start (with_inputs system inputs)) new had got from to → Rose before now
     → Comes Unwritten (outcome_of_run ticks cores scripts system inputs) (outside files reads writes calls had before) (outside files reads writes calls got now)
 unfolding outcome_of_run
 unwritten fault cores scripts system inputs ticks new had got before now files reads writes calls is rose =
@@ -79,16 +79,16 @@ unfolding outcome_of_run
 files_and_after cores scripts system inputs ticks new is = ap (λ (g : Machine). core_outputs g cores ++ scripts) is
 
 -- the outside as its report leaves it
-report_and_after : (r : Ran) (cores : List PartFile) (scripts : List Output) (system : System) (inputs : List (List ℕ)) (ticks : ℕ) (new : Machine) (had got : Option (List ℕ)) (before now : ℕ) (files : Option Files) (reads writes calls : ℕ)
-    → IsRun (Ok r) ticks (start (with_inputs system inputs)) new had got → now ≡ before → outside files reads writes calls got now ≡ told_all (outcome_of_run ticks cores scripts system inputs) (outside files reads writes calls had before)
+report_and_after : {from to : BoardView} (r : Ran) (cores : List PartFile) (scripts : List Output) (system : System) (inputs : List (List ℕ)) (ticks : ℕ) (new : Machine) (had got : Option (List ℕ)) (before now : ℕ) (files : Option Files) (reads writes calls : ℕ)
+    → IsRun (Ok r) ticks (start (with_inputs system inputs)) new had got from to → now ≡ before → outside files reads writes calls got now ≡ told_all (outcome_of_run ticks cores scripts system inputs) (outside files reads writes calls had before)
 unfolding outcome_of_run
 report_and_after r cores scripts system inputs ticks new had got before now files reads writes calls is same =
     let told = finished r cores scripts system inputs ticks new had got is in
     rw (told, same) refl
 
 -- a run whose whole report went out comes to what is done after it
-pub run_and_after : (e : Ending) (board : BoardView) (r : Ran) (cores : List PartFile) (scripts : List Output) (system : System) (inputs : List (List ℕ)) (ticks : ℕ) (new : Machine) (had got : Option (List ℕ)) (before now : ℕ) (files : Option Files) (reads writes calls : ℕ) (after : Outside)
-    → EndsAfter e (core_outputs new cores ++ scripts) board (outside files reads writes calls got now) after → IsRun (Ok r) ticks (start (with_inputs system inputs)) new had got → now ≡ before
+pub run_and_after : {from to : BoardView} (e : Ending) (board : BoardView) (r : Ran) (cores : List PartFile) (scripts : List Output) (system : System) (inputs : List (List ℕ)) (ticks : ℕ) (new : Machine) (had got : Option (List ℕ)) (before now : ℕ) (files : Option Files) (reads writes calls : ℕ) (after : Outside)
+    → EndsAfter e (core_outputs new cores ++ scripts) board (outside files reads writes calls got now) after → IsRun (Ok r) ticks (start (with_inputs system inputs)) new had got from to → now ≡ before
     → Comes e (outcome_of_run ticks cores scripts system inputs) (outside files reads writes calls had before) after
 run_and_after e board r cores scripts system inputs ticks new had got before now files reads writes calls after ends is same =
     outcome_and_after e board (outcome_of_run ticks cores scripts system inputs) (outside files reads writes calls had before) (outside files reads writes calls got now) after

@@ -6,7 +6,6 @@ use Rattle.loaded_system.specs.System.{System}
 use Rattle.uart_board.specs.Heard.{IsHeard}
 use Rattle.uart_board.specs.Views.{BoardView, without_marks}
 use Rattle.whole_system.specs.State.{with_inputs}
-use Rattle.xm_machine.specs.Heard.{IsRunHeard}
 use Rattle.xm_machine.specs.Outcome.{IsRun}
 use Rattle.xm_machine.specs.declared.run.Ran.{Ran}
 use Rattle.xm_report.specs.Report.{ReportLine, texts}
@@ -41,25 +40,25 @@ running ticks system inputs = Together (with_inputs system inputs) ticks
 
 -- a run that reached its end
 whole : (r : Ran) (system : System) (inputs : List (List ℕ)) (ticks : ℕ) (new : Machine) (had got : Option (List ℕ)) (before mid after : BoardView)
-    → IsRun (Ok r) ticks (start (with_inputs system inputs)) new had got → mid ≡ without_marks before → IsRunHeard (start (with_inputs system inputs)) new mid after
+    → IsRun (Ok r) ticks (start (with_inputs system inputs)) new had got mid after → mid ≡ without_marks before
     → IsRunTo ticks (running ticks system inputs) before after
-whole r system inputs ticks new had got before mid after is begins heard =
-    subst (λ (board : BoardView). IsHeard (console (start (with_inputs system inputs)) ticks) board after) begins (heard ticks is.state)
+whole r system inputs ticks new had got before mid after is begins =
+    subst (λ (board : BoardView). IsHeard (console (start (with_inputs system inputs)) ticks) board after) begins is.heard
 
 -- where its whole report went out
 pub left_by_ending : (e : Ending) (outputs : List Output) (from to : Outside) (r : Ran) (cores : List PartFile) (scripts : List Output) (system : System) (inputs : List (List ℕ)) (ticks : ℕ) (new : Machine) (had got : Option (List ℕ)) (before mid after : BoardView)
-    → EndsAfter e outputs after from to → IsRun (Ok r) ticks (start (with_inputs system inputs)) new had got → mid ≡ without_marks before → IsRunHeard (start (with_inputs system inputs)) new mid after
+    → EndsAfter e outputs after from to → IsRun (Ok r) ticks (start (with_inputs system inputs)) new had got mid after → mid ≡ without_marks before
     → LeavesBoard e (outcome_of_run ticks cores scripts system inputs).run had got before after
 unfolding outcome_of_run
-left_by_ending e outputs from to r cores scripts system inputs ticks new had got before mid after ends is begins heard =
-    leaves_and_after e outputs (running ticks system inputs) had got from to before after (whole r system inputs ticks new had got before mid after is begins heard) ends
+left_by_ending e outputs from to r cores scripts system inputs ticks new had got before mid after ends is begins =
+    leaves_and_after e outputs (running ticks system inputs) had got from to before after (whole r system inputs ticks new had got before mid after is begins) ends
 
 -- a run whose report was cut
 pub left_cut : (fault : WriteFault) (cores : List PartFile) (scripts : List Output) (system : System) (inputs : List (List ℕ)) (ticks : ℕ) (new : Machine) (had got : Option (List ℕ)) (before mid after : BoardView)
-    → IsRun (Err fault) ticks (start (with_inputs system inputs)) new had got → mid ≡ without_marks before → IsRunHeard (start (with_inputs system inputs)) new mid after
+    → IsRun (Err fault) ticks (start (with_inputs system inputs)) new had got mid after → mid ≡ without_marks before
     → LeavesBoard Unwritten (outcome_of_run ticks cores scripts system inputs).run had got before after
 unfolding outcome_of_run
-left_cut fault cores scripts system inputs ticks new had got before mid after is begins heard = record {
+left_cut fault cores scripts system inputs ticks new had got before mid after is begins = record {
   front = record {
     count = is.report.count;
     short = subst (λ (lines : List ReportLine). is.report.count < length (texts lines)) (reports_same (with_inputs system inputs) ticks) is.report.short;
@@ -68,7 +67,7 @@ left_cut fault cores scripts system inputs ticks new had got before mid after is
   ticks = is.ticks;
   within = is.within;
   cut = (is.whole, is.cut);
-  heard = subst (λ (board : BoardView). IsHeard (console (start (with_inputs system inputs)) is.ticks) board after) begins (heard is.ticks is.state);
+  heard = subst (λ (board : BoardView). IsHeard (console (start (with_inputs system inputs)) is.ticks) board after) begins is.heard;
 }
 
 -- where nothing was made, the board is left as it was

@@ -9,6 +9,7 @@ use Rattle.machine_model.specs.Lines.{own, report}
 use Rattle.machine_model.specs.Machine.{Machine, run, start}
 use Rattle.machine_model.specs.View.{System}
 use Rattle.xm_machine.specs.Alone.{AreAlone, AreBootedAlone, IsBootedAlone, RunsEachAlone}
+use Rattle.uart_board.specs.Views.{BoardView}
 use Rattle.xm_machine.specs.Outcome.{IsRun, report_of}
 use Rattle.xm_machine.specs.Steps.{IsStep, IsStepCut}
 use Rattle.xm_machine.specs.declared.run.Ran.{Ran}
@@ -39,9 +40,9 @@ pub halted_tick_alone : AllTicks → (g : Machine) → g.halted ≡ true → Are
 halted_tick_alone law g halts = ticks_alone law 1 g g (sym (step_halted g halts))
 
 -- a run, by what it answers
-pub run_alone : AllTicks → (result : Result Ran WriteFault) (asked : ℕ) (old new : Machine) (had got : Option (List ℕ)) → IsRun result asked old new had got → RunsEachAlone result asked old new
-run_alone law (Ok ran) asked old new had got done = ticks_alone law asked old new done.state
-run_alone law (Err fault) asked old new had got cut = record {
+pub run_alone : AllTicks → (result : Result Ran WriteFault) (asked : ℕ) (old new : Machine) (had got : Option (List ℕ)) (before after : BoardView) → IsRun result asked old new had got before after → RunsEachAlone result asked old new
+run_alone law (Ok ran) asked old new had got before after done = ticks_alone law asked old new done.state
+run_alone law (Err fault) asked old new had got before after cut = record {
   ticks = cut.ticks;
   within = cut.within;
   state = cut.state;

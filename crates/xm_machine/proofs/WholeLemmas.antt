@@ -12,6 +12,9 @@ use Rattle.xm_machine.proofs.FrontLemmas.{front_of_all}
 use Rattle.xm_machine.proofs.GoingLemmas.{lines_grow}
 use Rattle.tick_pieces.specs.KeptLemmas.{ticks_exact, ticks_fewer, ticks_most}
 use Rattle.xm_machine.proofs.OutLemmas.{both_out, first_cut, one_cut, one_line, rest_cut}
+use Rattle.uart_board.specs.Heard.{heard_nothing}
+use Rattle.uart_board.specs.Views.{BoardView}
+use Rattle.xm_machine.specs.Heard.{IsRunHeard}
 use Rattle.xm_machine.specs.Outcome.{IsCutRun, IsWholeRun, first_line, last_line, report_of, report_to}
 use Rattle.xm_machine.specs.Steps.{AreRun, IsStepCut}
 use Rattle.xm_machine.specs.declared.run.Ran.{Ran}
@@ -74,8 +77,8 @@ rest_of g asked done within =
     ∙ append_assoc (texts (report_to g asked done)) (texts (lines (run g done) (asked - done))) (texts (end_lines (run g asked)))
 
 -- the first line did not go out whole
-pub first_line_cut : (g : Machine) (asked : ℕ) (had got : Option (List ℕ)) → GrewByPrefix had (text_of (first_line g asked)) got → IsCutRun asked g g had got
-first_line_cut g asked had got cut =
+pub first_line_cut : (g : Machine) (asked : ℕ) (had got : Option (List ℕ)) (board : BoardView) → GrewByPrefix had (text_of (first_line g asked)) got → IsCutRun asked g g had got board board
+first_line_cut g asked had got board cut =
     let all : texts (report_of g asked) ≡ [] ++ text_of (first_line g asked) ++ later_text g asked 0 =
     rest_of g asked 0 (omega arith) ∙ ap (λ (bytes : List ℕ). bytes ++ later_text g asked 0) (append-nil (text_of (first_line g asked))) in
     record {
@@ -83,17 +86,20 @@ first_line_cut g asked had got cut =
       ticks = 0;
       within = omega arith;
       state = refl;
+      heard = heard_nothing board;
       whole = λ (k : ℕ) (below : k < 0). absurd (omega arith);
       cut = λ (some : 0 < asked). omega (arith, cut.short, length-append (text_of (first_line g asked)) []);
     }
 
 -- the ticks did not reach their end
-pub ticks_cut : (g new : Machine) (asked : ℕ) (had mid got : Option (List ℕ)) → mid ≡ grown had (text_of (first_line g asked)) → IsStepCut asked g new mid got → IsCutRun asked g new had got
-ticks_cut g new asked had mid got first cut = record {
+pub ticks_cut : (g new : Machine) (asked : ℕ) (had mid got : Option (List ℕ)) (before after : BoardView) → mid ≡ grown had (text_of (first_line g asked)) → IsStepCut asked g new mid got
+    → IsRunHeard g new before after → IsCutRun asked g new had got before after
+ticks_cut g new asked had mid got before after first cut heard = record {
   report = front_of_all had mid got (text_of (first_line g asked)) (texts (lines g cut.done)) (later_text g asked cut.done) (texts (report_of g asked)) (rest_of g asked cut.done cut.within) first cut.are.report;
   ticks = cut.done;
   within = cut.within;
   state = cut.are.state;
+  heard = heard cut.done cut.are.state;
   whole = λ (k : ℕ) (below : k < cut.done). omega (arith, cut.are.whole k below, length-append (text_of (first_line g asked)) (texts (lines g k)));
   cut = λ (fewer : cut.done < asked). omega (arith, cut.are.cut, length-append (text_of (first_line g asked)) (texts (lines g cut.done)));
 }
@@ -104,8 +110,9 @@ up_to_end g asked had mid end first ticks =
     ticks ∙ ap (λ (m : Option (List ℕ)). grown m (texts (lines g asked))) first ∙ grown_grown had (text_of (first_line g asked)) (texts (lines g asked))
 
 -- the lines of the end did not go out whole
-pub end_cut : (g new : Machine) (asked told : ℕ) (had mid end got : Option (List ℕ)) → mid ≡ grown had (text_of (first_line g asked)) → AreRun asked told g new mid end → GrewByPrefix end (texts (end_lines new)) got → IsCutRun asked g new had got
-end_cut g new asked told had mid end got first ticks cut =
+pub end_cut : (g new : Machine) (asked told : ℕ) (had mid end got : Option (List ℕ)) (before after : BoardView) → mid ≡ grown had (text_of (first_line g asked)) → AreRun asked told g new mid end
+    → GrewByPrefix end (texts (end_lines new)) got → IsRunHeard g new before after → IsCutRun asked g new had got before after
+end_cut g new asked told had mid end got before after first ticks cut heard =
     let ends : GrewByPrefix end (texts (end_lines (run g asked))) got = subst (λ (x : Machine). GrewByPrefix end (texts (end_lines x)) got) ticks.state cut in
     record {
       report = front_of_all had end got (texts (report_to g asked asked)) (texts (end_lines (run g asked))) [] (texts (report_of g asked))
@@ -114,6 +121,7 @@ end_cut g new asked told had mid end got first ticks cut =
       ticks = asked;
       within = omega arith;
       state = ticks.state;
+      heard = heard asked ticks.state;
       whole = λ (k : ℕ) (below : k < asked).
           omega (
             arith,
@@ -138,13 +146,15 @@ fewer_halted g new asked is fresh running = (fewer new.halted refl, halts new.ha
     halts false e stopped = absurd (cc)
 
 -- the whole report went out
-pub whole_out : (ran : Ran) (g new : Machine) (asked told ended : ℕ) (had mid end got : Option (List ℕ)) → mid ≡ grown had (text_of (first_line g asked)) → AreRun asked told g new mid end
+pub whole_out : (ran : Ran) (g new : Machine) (asked told ended : ℕ) (had mid end got : Option (List ℕ)) (before after : BoardView) → mid ≡ grown had (text_of (first_line g asked)) → AreRun asked told g new mid end
     → ended ≡ length (end_lines new) → got ≡ grown end (texts (end_lines new))
-    → ran.ticks ≡ new.ticks → ran.halted ≡ new.halted → ran.lines ≡ 1 + told + ended → g.ticks ≡ 0 → g.halted ≡ false → IsWholeRun ran asked g new had got
-whole_out ran g new asked told ended had mid end got first ticks ends out ran_ticks ran_halted ran_lines fresh running =
+    → ran.ticks ≡ new.ticks → ran.halted ≡ new.halted → ran.lines ≡ 1 + told + ended → g.ticks ≡ 0 → g.halted ≡ false → IsRunHeard g new before after
+    → IsWholeRun ran asked g new had got before after
+whole_out ran g new asked told ended had mid end got before after first ticks ends out ran_ticks ran_halted ran_lines fresh running heard =
     let both = fewer_halted g new asked ticks.state fresh running in
     record {
       state = ticks.state;
+      heard = heard asked ticks.state;
       report = out ∙ ap (λ (m : Option (List ℕ)). grown m (texts (end_lines new))) (up_to_end g asked had mid end first ticks.report)
           ∙ grown_grown had (texts (report_to g asked asked)) (texts (end_lines new))
           ∙ ap (λ (x : Machine). grown had (texts (report_to g asked asked) ++ texts (end_lines x))) ticks.state

@@ -21,7 +21,7 @@ ghost use Rattle.tick_pieces.specs.CueValues.{cue_value};
 ghost use Rattle.xm_machine.specs.Cues.{AreCued, KeepsTicks, RunsCued, told_to};
 ghost use Rattle.xm_machine.specs.Heard.{IsRunHeard};
 ghost use Rattle.tick_pieces.specs.Kept.{no_kept};
-ghost use Rattle.tick_pieces.specs.Machine.{IsCounted};
+ghost use Rattle.tick_pieces.specs.Machine.{IsCounted, IsMachine};
 ghost use Rattle.xm_machine.specs.Outcome.{HasWriteCause, IsRun, IsTick, first_line, last_line};
 ghost use Rattle.xm_machine.specs.Steps.{RunsTicks, Tells};
 ghost use Rattle.xm_machine.specs.Stretch.{AreAllOfStretch, KeepsStepped, Steps, Stretches, StretchesAlone, StretchesCued, left_of};
@@ -92,9 +92,10 @@ impl Machine {
         })
     }
 
-    /// The whole system as it stands.
+    /// The whole system as it stands, and what holds of it at all times.
     pub fn sys(&self) -> &Sys
-        ensures { result.now.machine ≡ self.now.state }
+        ensures machine { result.now.machine ≡ self.now.state }
+        ensures kept { IsMachine result.now }
     {
         &self.sys
     }
@@ -191,7 +192,7 @@ impl Machine {
         requires fresh { self.old.state.ticks ≡ 0 }
         requires running { self.old.state.halted ≡ false }
         requires most { ticks ≤ TICKS }
-        ensures run { IsRun result ticks self.old.state self.new.state (O.got out.old) (O.got out.new) }
+        ensures run { IsRun result ticks self.old.state self.new.state (O.got out.old) (O.got out.new) (⟦<Board as ViewBoard>⟧.board_view board.old) (⟦<Board as ViewBoard>⟧.board_view board.new) }
         ensures alone { RunsEachAlone result ticks self.old.state self.new.state }
         ensures booted { AreBootedAlone self.old.state ticks }
         ensures cues { RunsCued result ticks self.old self.new }

@@ -5,4 +5,4 @@ use Rattle.case_suite.proofs.ticking.are_logs_short.Goals as goal
 
 pub returns : goal.returns
 returns c = all_short c.args.machine.now.state (λ q below. c.loop-part.invariant q
-    (omega (arith, ap (λ (g : Machine). length g.parts) c.sys.ensures, c.count-part-end.ensures.parts)))
+    (omega (arith, ap (λ (g : Machine). length g.parts) c.sys.ensures.machine, c.count-part-end.ensures.parts)))

@@ -35,7 +35,8 @@ lines_of-requires-clause-channels c =
 pub returns : goal.returns
 returns c =
     let is = one_system c.args.container.now (generated c.args.number) c.in_ok-system.system c.requires.read c.in_ok-system.ensures in
-    let whole = rw c.in_ok-machine.ensures.state at c.run_frames-ran.ensures in
+    let state = rw c.in_ok-machine.ensures.state at c.run_frames-ran.ensures.state in
+    let lines = rw c.in_ok-machine.ensures.state at c.run_frames-ran.ensures.lines in
     let long = ap (λ (bytes : List ℕ). length bytes) c.requires.text in
-    let told = told_so c.args.number (length c.args.container.now) c.run_frames-ran.result c.in_ok-system.system c.in_ok-inputs.inputs c.run_frames-ran.new.machine.state is c.in_ok-inputs.ensures.value long whole in
+    let told = told_so c.args.number (length c.args.container.now) c.run_frames-ran.result.lines c.in_ok-system.system c.in_ok-inputs.inputs c.run_frames-ran.new.machine.state is c.in_ok-inputs.ensures.value long state lines in
     rw (← told) c.lines_of.ensures

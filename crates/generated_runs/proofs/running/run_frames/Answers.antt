@@ -7,4 +7,4 @@ unreachable-requires c = never_rose c.in_default.ensures.cause
 
 pub returns : goal.returns
 unfolding run_length
-returns c = c.in-Ok.ensures.run
+returns c = record { state = c.in-Ok.ensures.run.state; lines = c.in-Ok.ensures.run.lines }

@@ -26,10 +26,9 @@ returns-in-Ok-clause-comes g c = λ system inputs starts.
 pub returns-in-Ok-clause-board : goal.returns-in-Ok-clause-board
 returns-in-Ok-clause-board g c = λ system inputs starts.
     let is = rw starts at c.in-Ok.ensures.run in
-    let heard = rw starts at c.in-Ok.ensures.heard in
     let saved = c.write_later.ensures (g.O.Sink.got c.run.new.out) (g.O.Sink.faults c.run.new.out) in
     left_by_ending (ending_of c.ended.result) (core_outputs c.run.new.self.state (seen_files c.args.cores) ++ map made_output c.args.scripts.now) _ _ c.in-Ok.field-0 (seen_files c.args.cores) (map made_output c.args.scripts.now) system inputs c.args.ticks c.run.new.self.state _ _ (record { places = _; marks = _ }) (record { places = _; marks = _ }) (record { places = _; marks = _ })
-    (c.ended.ensures (core_outputs c.run.new.self.state (seen_files c.args.cores) ++ map made_output c.args.scripts.now) _ _ saved) is c.begin.ensures.view heard
+    (c.ended.ensures (core_outputs c.run.new.self.state (seen_files c.args.cores) ++ map made_output c.args.scripts.now) _ _ saved) is c.begin.ensures.view
 
 pub returns-in-Err-clause-comes : goal.returns-in-Err-clause-comes
 returns-in-Err-clause-comes g c = λ system inputs starts.
@@ -39,5 +38,4 @@ returns-in-Err-clause-comes g c = λ system inputs starts.
 pub returns-in-Err-clause-board : goal.returns-in-Err-clause-board
 returns-in-Err-clause-board g c = λ system inputs starts.
     let is = rw starts at c.in-Err.ensures.run in
-    let heard = rw starts at c.in-Err.ensures.heard in
-    left_cut c.in-Err.field-0 (seen_files c.args.cores) (map made_output c.args.scripts.now) system inputs c.args.ticks _ _ _ (record { places = _; marks = _ }) (record { places = _; marks = _ }) (record { places = _; marks = _ }) is c.begin.ensures.view heard
+    left_cut c.in-Err.field-0 (seen_files c.args.cores) (map made_output c.args.scripts.now) system inputs c.args.ticks _ _ _ (record { places = _; marks = _ }) (record { places = _; marks = _ }) (record { places = _; marks = _ }) is c.begin.ensures.view

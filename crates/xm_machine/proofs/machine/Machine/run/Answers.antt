@@ -16,7 +16,7 @@ returns-in_err-put_line-clause-run g c =
     let p = err_from_is_err_and c.from_residual.result c.from_residual.ensures.1 in
     let same = ap (λ (m : Meaning). m.state) c.self.view_is in
     let cut = subst (λ (g0 : Machine). GrewByPrefix (g.O.Sink.got c.args.out.now) (text_of (first_line g0 c.args.ticks)) (g.O.Sink.got c.put_line.new.out)) same (rw c.first_line.ensures at c.in_err-put_line.ensures.got) in
-    rw (p.1) (first_line_cut c.args.self.now.state c.args.ticks (g.O.Sink.got c.args.out.now) (g.O.Sink.got c.put_line.new.out) cut)
+    rw (p.1) (first_line_cut c.args.self.now.state c.args.ticks (g.O.Sink.got c.args.out.now) (g.O.Sink.got c.put_line.new.out) (record { places = _; marks = _ }) cut)
 
 pub returns-in_err-told-clause-run : goal.returns-in_err-told-clause-run
 returns-in_err-told-clause-run g c =
@@ -24,7 +24,8 @@ returns-in_err-told-clause-run g c =
     let same = ap (λ (m : Meaning). m.state) c.self.view_is in
     let first = subst (λ (g0 : Machine). g.O.Sink.got c.put_line.new.out ≡ grown (g.O.Sink.got c.args.out.now) (text_of (first_line g0 c.args.ticks))) same (rw c.first_line.ensures at c.in_ok-put_line.ensures.got) in
     rw (p.1) (ticks_cut c.args.self.now.state c.run_ticks.new.self.state c.args.ticks
-    (g.O.Sink.got c.args.out.now) (g.O.Sink.got c.put_line.new.out) (g.O.Sink.got c.run_ticks.new.out) first c.in_err-told.ensures.run)
+    (g.O.Sink.got c.args.out.now) (g.O.Sink.got c.put_line.new.out) (g.O.Sink.got c.run_ticks.new.out)
+    (record { places = _; marks = _ }) (record { places = _; marks = _ }) first c.in_err-told.ensures.run c.in_err-told.ensures.heard)
 
 pub returns-in_err-ended-clause-run : goal.returns-in_err-ended-clause-run
 returns-in_err-ended-clause-run g c =
@@ -33,7 +34,7 @@ returns-in_err-ended-clause-run g c =
     let first = subst (λ (g0 : Machine). g.O.Sink.got c.put_line.new.out ≡ grown (g.O.Sink.got c.args.out.now) (text_of (first_line g0 c.args.ticks))) same (rw c.first_line.ensures at c.in_ok-put_line.ensures.got) in
     rw (p.1) (end_cut c.args.self.now.state c.run_ticks.new.self.state c.args.ticks c.in_ok-told.told
     (g.O.Sink.got c.args.out.now) (g.O.Sink.got c.put_line.new.out) (g.O.Sink.got c.run_ticks.new.out) (g.O.Sink.got c.end.new.out)
-    first c.in_ok-told.ensures.run c.in_err-ended.ensures.told)
+    (record { places = _; marks = _ }) (record { places = _; marks = _ }) first c.in_ok-told.ensures.run c.in_err-ended.ensures.told c.in_ok-told.ensures.heard)
 
 pub returns-clause-run : goal.returns-clause-run
 returns-clause-run g c =
@@ -41,13 +42,14 @@ returns-clause-run g c =
     let first = subst (λ (g0 : Machine). g.O.Sink.got c.put_line.new.out ≡ grown (g.O.Sink.got c.args.out.now) (text_of (first_line g0 c.args.ticks))) same (rw c.first_line.ensures at c.in_ok-put_line.ensures.got) in
     whole_out _ c.args.self.now.state c.run_ticks.new.self.state c.args.ticks c.in_ok-told.told c.in_ok-ended.ended
     (g.O.Sink.got c.args.out.now) (g.O.Sink.got c.put_line.new.out) (g.O.Sink.got c.run_ticks.new.out) (g.O.Sink.got c.end.new.out)
-    first c.in_ok-told.ensures.run c.in_ok-ended.ensures.told.0 c.in_ok-ended.ensures.told.1
-    c.done.ensures.done c.halted.ensures refl c.requires.fresh c.requires.running
+    (record { places = _; marks = _ }) (record { places = _; marks = _ }) first c.in_ok-told.ensures.run c.in_ok-ended.ensures.told.0 c.in_ok-ended.ensures.told.1
+    c.done.ensures.done c.halted.ensures refl c.requires.fresh c.requires.running c.in_ok-told.ensures.heard
 
 pub returns-in_err-put_line-clause-alone : goal.returns-in_err-put_line-clause-alone
 returns-in_err-put_line-clause-alone g c =
     run_alone c.all_ticks.ensures.law c.from_residual.result c.args.ticks c.args.self.now.state c.args.self.now.state
-    (g.O.Sink.got c.args.out.now) (g.O.Sink.got c.put_line.new.out) (returns-in_err-put_line-clause-run g c)
+    (g.O.Sink.got c.args.out.now) (g.O.Sink.got c.put_line.new.out) (record { places = _; marks = _ }) (record { places = _; marks = _ })
+    (returns-in_err-put_line-clause-run g c)
 
 pub returns-in_err-put_line-clause-booted : goal.returns-in_err-put_line-clause-booted
 returns-in_err-put_line-clause-booted g c = booted_alone c.boots_alone.ensures.law c.own_lines.ensures.law c.args.self.now.state c.args.ticks
@@ -55,7 +57,8 @@ returns-in_err-put_line-clause-booted g c = booted_alone c.boots_alone.ensures.l
 pub returns-in_err-told-clause-alone : goal.returns-in_err-told-clause-alone
 returns-in_err-told-clause-alone g c =
     run_alone c.all_ticks.ensures.law c.from_residual-in_err-told.result c.args.ticks c.args.self.now.state c.run_ticks.new.self.state
-    (g.O.Sink.got c.args.out.now) (g.O.Sink.got c.run_ticks.new.out) (returns-in_err-told-clause-run g c)
+    (g.O.Sink.got c.args.out.now) (g.O.Sink.got c.run_ticks.new.out) (record { places = _; marks = _ }) (record { places = _; marks = _ })
+    (returns-in_err-told-clause-run g c)
 
 pub returns-in_err-told-clause-booted : goal.returns-in_err-told-clause-booted
 returns-in_err-told-clause-booted g c = booted_alone c.boots_alone.ensures.law c.own_lines.ensures.law c.args.self.now.state c.args.ticks
@@ -63,7 +66,8 @@ returns-in_err-told-clause-booted g c = booted_alone c.boots_alone.ensures.law c
 pub returns-in_err-ended-clause-alone : goal.returns-in_err-ended-clause-alone
 returns-in_err-ended-clause-alone g c =
     run_alone c.all_ticks.ensures.law c.from_residual-in_err-ended.result c.args.ticks c.args.self.now.state c.run_ticks.new.self.state
-    (g.O.Sink.got c.args.out.now) (g.O.Sink.got c.end.new.out) (returns-in_err-ended-clause-run g c)
+    (g.O.Sink.got c.args.out.now) (g.O.Sink.got c.end.new.out) (record { places = _; marks = _ }) (record { places = _; marks = _ })
+    (returns-in_err-ended-clause-run g c)
 
 pub returns-in_err-ended-clause-booted : goal.returns-in_err-ended-clause-booted
 returns-in_err-ended-clause-booted g c = booted_alone c.boots_alone.ensures.law c.own_lines.ensures.law c.args.self.now.state c.args.ticks
@@ -71,7 +75,8 @@ returns-in_err-ended-clause-booted g c = booted_alone c.boots_alone.ensures.law 
 pub returns-clause-alone : goal.returns-clause-alone
 returns-clause-alone g c =
     run_alone c.all_ticks.ensures.law (Ok _) c.args.ticks c.args.self.now.state c.run_ticks.new.self.state
-    (g.O.Sink.got c.args.out.now) (g.O.Sink.got c.end.new.out) (returns-clause-run g c)
+    (g.O.Sink.got c.args.out.now) (g.O.Sink.got c.end.new.out) (record { places = _; marks = _ }) (record { places = _; marks = _ })
+    (returns-clause-run g c)
 
 pub returns-clause-booted : goal.returns-clause-booted
 returns-clause-booted g c = booted_alone c.boots_alone.ensures.law c.own_lines.ensures.law c.args.self.now.state c.args.ticks
