@@ -6,7 +6,7 @@ use Rattle.std.proofs.lemmas.List.{get_or-set_same, length-replicate}
 use Rattle.xm_base.specs.Cursor.{Place, cursor_start as begin}
 use Rattle.sealed_files.specs.Fields.{field_bytes}
 use Rattle.sealed_files.specs.Heads.{unsealed}
-use Rattle.sealed_files.specs.Steps.{◌>>=◌, unless}
+use Rattle.sealed_files.specs.Steps.{unless}
 use Rattle.xm_conf.specs.Configuration.{Conf}
 use Rattle.xm_conf.specs.Description.{described}
 use Rattle.xm_conf.specs.FitLemmas.{fits_within}
@@ -41,20 +41,11 @@ use Rattle.xm_container.specs.Entries.{Entries}
 use Rattle.xm_container.specs.Numbers.{extra, missing}
 use Rattle.xm_container.specs.Reading.{as_config, assigned, box_faults, box_short, conf_at, container_fields, length_at, system_in, image_table_at, unless_some, unpacked, version_in}
 use Rattle.file_texts.specs.declared.fault.BoxFault.{BoxFault}
+use Rattle.alone_replay.proofs.RangeLemmas.{last_has, system_in_range, then_has}
 use Rattle.alone_replay.specs.OfRun.{RunIsReplayed}
 use Rattle.file_maker.specs.Ready.{NoPartition, fitting, inputs_given, replay_of, with_container, with_input, with_script, with_system}
 
 -- What is unpacked meets the rules.
-
--- a fact that a step gives of each value, and the next step keeps
-then_has : {A B F : Type 0} (P : A → Type 0) (Q : B → Type 0) (m : Result A F) (f : A → Result B F) → IfOk m P → ((a : A) → P a → IfOk (f a) Q) → IfOk (m >>= f) Q
-then_has P Q (Ok a) f has keeps = keeps a has
-then_has P Q (Err fault) f has keeps = tt
-
--- a fact that the last step gives
-last_has : {A B F : Type 0} (Q : B → Type 0) (m : Result A F) (f : A → Result B F) → ((a : A) → IfOk (f a) Q) → IfOk (m >>= f) Q
-last_has Q (Ok a) f gives = gives a
-last_has Q (Err fault) f gives = tt
 
 -- what meets the rules
 abbrev Meets : Conf → Type 0
@@ -174,7 +165,7 @@ runs_replayed law lines_law core_law takes tells reads container p bytes input s
     let cues = script (start booted) p ticks in
     let fits : Fits (described system.conf) = system_fits law container system is.unpacks in
     let view : view_of lone p ≡ view_of booted p = same_view system inputs p input is.there is.given in
-    let own_script : IsScript system.conf p cues = tells booted p ticks fits (omega (arith, is.most)) is.numbers in
+    let own_script : IsScript system.conf p cues = tells booted p ticks fits (system_in_range container system inputs is.contained is.unpacks) (omega (arith, is.most)) in
     let few : p < 256 = omega (arith, is.there, few_parts system.conf fits) in
     let read : read_script system.conf p bytes ≡ Ok cues = ap (read_script system.conf p) is.told ∙ reads system.conf p cues few own_script in
     let taken : first_untaken (view_of lone p) (alone_start (view_of lone p)) 0 cues ≡ None =

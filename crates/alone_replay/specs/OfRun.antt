@@ -1,6 +1,6 @@
 -- A replay by the script of a run.
 use Rattle.std.specs.Prelude.{◌≡◌, ℕ, ◌%◌, ◌<◌, ◌≤◌, List, [], length, slice_index_or, Some, Result, Ok}
-use Rattle.std.specs.List.{AllByRecursion}
+use Rattle.xm_base.specs.Bytes.{AreBytes}
 use Rattle.xm_base.specs.declared.limits.TheConstants.{TICKS}
 use Rattle.cue_scripts.specs.Spelling.{script_text}
 use Rattle.loaded_system.specs.System as loaded
@@ -10,24 +10,22 @@ use Rattle.machine_model.specs.Laws.{core_file_of}
 use Rattle.machine_model.specs.Lines.{own, report}
 use Rattle.machine_model.specs.Machine.{run, start}
 use Rattle.machine_model.specs.View.{System, view_of}
-use Rattle.told_scripts.specs.Telling.{HasNumbers}
 use Rattle.whole_system.specs.Inputs.{words_in}
 use Rattle.whole_system.specs.State.{with_inputs}
 use Rattle.told_scripts.specs.Replayed.{replay_lines, replayed}
 use Rattle.xm_container.specs.Reading.{unpacked}
 use Rattle.file_maker.specs.Ready.{Replay, Unready, replay_of}
 
--- the bytes of a container, of a script and of input words are those of a run: the container is that of the system, the partition is in it and has
--- there the input words that the bytes spell, and the script is all that the partition is told in so many ticks; bytes in it are bytes, and a
--- status is a word
+-- the bytes of a container, of a script and of input words are those of a run: the container is bytes, as each file is, and that of the system; the
+-- partition is in it and has there the input words that the bytes spell, and the script is all that the partition receives in so many ticks
 pub record IsOfRun (container : List ℕ) (p : ℕ) (bytes input : List ℕ) (system : loaded.System) (inputs : List (List ℕ)) (ticks : ℕ) : Type 0 where
+  pub contained : AreBytes container
   pub unpacks : unpacked container ≡ Ok system
   pub there : p < length system.conf.parts
   pub words : length input % 4 ≡ 0
   pub given : slice_index_or inputs p [] ≡ words_in input
   pub most : ticks ≤ TICKS
   pub told : bytes ≡ script_text p (script (start (with_inputs system inputs)) p ticks)
-  pub numbers : AllByRecursion HasNumbers (script (start (with_inputs system inputs)) p ticks)
 
 -- a replay may begin, and shows the partition's part of a run of so many ticks: its own lines of the report, and its core file after the run
 pub record ShowsRun (made : Result Replay Unready) (system : System) (p ticks : ℕ) : Type 0 where

@@ -28,7 +28,9 @@ use Rattle.machine_model.specs.Traffic.{heard_as, own_puts_at, own_takes_at, put
 use Rattle.machine_model.specs.View.{PartitionView, System, name_of, named, part_of, view_of}
 use Rattle.cue_scripts.specs.Entries.{is_away}
 use Rattle.cue_scripts.specs.Script.{CanHear, CanSee, HaltsLast, HearsNothing, IsCue, IsScript, is_shown, is_system_partition}
-use Rattle.told_scripts.specs.Telling.{HasMessageBytes, HasNumbers, HasShownBytes, TellsBootedScripts, TellsCues, TellsScripts}
+use Rattle.state_ranges.specs.Cues.{HasMessageBytes, HasNumbers, HasShownBytes}
+use Rattle.state_ranges.specs.Laws.{BootedScriptsAreInRange, CuesAreInRange, ScriptsAreInRange}
+use Rattle.told_scripts.specs.Telling.{TellsBootedScripts, TellsCues, TellsScripts}
 use Rattle.told_scripts.proofs.EndLemmas.{put_heard, take_heard}
 use Rattle.told_scripts.proofs.LinkLemmas.{signal_heard}
 
@@ -287,8 +289,8 @@ cue_told bounds own never nothing g p fits facts numbers = record {
   seen = seen_told nothing g p facts numbers.shown;
 }
 
-pub tells_cues : ActsWithinBounds → ActsWithinOwn → NeverUponItself → SeesNothing → TellsCues
-tells_cues bounds own never nothing g p sound numbers = cue_told bounds own never nothing g p sound.fits sound.facts numbers
+pub tells_cues : ActsWithinBounds → ActsWithinOwn → NeverUponItself → SeesNothing → CuesAreInRange → TellsCues
+tells_cues bounds own never nothing ranged g p sound is = cue_told bounds own never nothing g p sound.fits sound.facts (ranged g p is)
 
 -- a tick that tells of a halt of the whole system halts the machine
 halts_so : (g : Machine) (p : ℕ) → g.halted ≡ false → (cue g p).whole ≡ AllHalted → (step g).halted ≡ true
@@ -339,14 +341,15 @@ script_told bounds own never nothing same keeps none g p count fits facts most n
   halts = halts_last none count g p;
 }
 
-pub tells_scripts : ActsWithinBounds → ActsWithinOwn → NeverUponItself → SeesNothing → KeepsNumbers → KeepsFacts → NoScript → TellsScripts
-tells_scripts bounds own never nothing same keeps none g p count sound most numbers = script_told bounds own never nothing same keeps none g p count sound.fits sound.facts most numbers
+pub tells_scripts : ActsWithinBounds → ActsWithinOwn → NeverUponItself → SeesNothing → KeepsNumbers → KeepsFacts → NoScript → ScriptsAreInRange → TellsScripts
+tells_scripts bounds own never nothing same keeps none ranged g p count sound is most =
+    script_told bounds own never nothing same keeps none g p count sound.fits sound.facts most (ranged g p count is)
 
 start_conf : (system : System) → (start system).system.conf ≡ system.conf
 unfolding start
 start_conf system = refl
 
-pub tells_booted : ActsWithinBounds → ActsWithinOwn → NeverUponItself → SeesNothing → KeepsNumbers → KeepsFacts → NoScript → BootsWithFacts → TellsBootedScripts
-tells_booted bounds own never nothing same keeps none boots system p count fits most numbers =
+pub tells_booted : ActsWithinBounds → ActsWithinOwn → NeverUponItself → SeesNothing → KeepsNumbers → KeepsFacts → NoScript → BootsWithFacts → BootedScriptsAreInRange → TellsBootedScripts
+tells_booted bounds own never nothing same keeps none boots ranged system p count fits images most =
     subst (λ (conf : Conf). IsScript conf p (script (start system) p count)) (start_conf system)
-    (script_told bounds own never nothing same keeps none (start system) p count (subst (λ (conf : Conf). Fits (described conf)) (sym (start_conf system)) fits) (boots system) most numbers)
+    (script_told bounds own never nothing same keeps none (start system) p count (subst (λ (conf : Conf). Fits (described conf)) (sym (start_conf system)) fits) (boots system) most (ranged system p count fits images))

@@ -3,7 +3,7 @@
 ghost use Rattle.xm_base.specs.Bytes.{AreBytes};
 ghost use Rattle.cue_scripts.specs.Script.{IsOrder};
 ghost use Rattle.cue_scripts.specs.Values.{script_cue_value, script_sight_value, script_traffic_value};
-ghost use Rattle.told_scripts.specs.Telling.{HasMessageBytes, HasNumbers, HasShownBytes};
+ghost use Rattle.state_ranges.specs.Cues.{HasMessageBytes, HasNumbers, HasShownBytes};
 
 use cue_scripts::{ScriptCue, ScriptSight, ScriptTraffic};
 use xm_base::Order;

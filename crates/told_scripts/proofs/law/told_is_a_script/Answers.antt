@@ -11,7 +11,7 @@ returns c =
     let keeps = c.keeps_facts.ensures.ticks in
     let none = c.scripts_end.ensures.none in
     record {
-      tick = tells_cues bounds own never nothing;
-      run = tells_scripts bounds own never nothing same keeps none;
-      booted = tells_booted bounds own never nothing same keeps none c.keeps_facts.ensures.boots;
+      tick = tells_cues bounds own never nothing c.cues_are_in_range.ensures.tick;
+      run = tells_scripts bounds own never nothing same keeps none c.cues_are_in_range.ensures.run;
+      booted = tells_booted bounds own never nothing same keeps none c.keeps_facts.ensures.boots c.cues_are_in_range.ensures.booted;
     }
