@@ -1,9 +1,10 @@
 -- A replay by the script of a run may begin, and shows the partition's part of the run.
 use Rattle.std.proofs.Common.{◌≡◌, ℕ, ◌%◌, ◌<◌, ◌≤◌, Bool, true, false, nat_eq, nat_le, if◌then◌else◌, List, [], ◌∷◌, ◌++◌, length, replicate, slice_set, codes, IfOk, Option, Some, None, Result, Ok, Err, refl, sym, ap, ◌∙◌, subst, arith}
-use Rattle.std.specs.Prelude.{slice_index_or}
+use Rattle.std.specs.Prelude.{slice_get, slice_index_or}
 use Rattle.std.proofs.lemmas.Bool.Decides.{nat_tests}
 use Rattle.std.proofs.lemmas.List.{get_or-set_same, length-replicate}
 use Rattle.xm_base.specs.Cursor.{Place, cursor_start as begin}
+use Rattle.xm_base.specs.Options.{on}
 use Rattle.sealed_files.specs.Fields.{field_bytes}
 use Rattle.sealed_files.specs.Heads.{unsealed}
 use Rattle.sealed_files.specs.Steps.{unless}
@@ -25,13 +26,16 @@ use Rattle.cue_scripts.specs.Script.{IsScript}
 use Rattle.alone_passes.specs.Taking.{first_untaken}
 use Rattle.alone_passes.specs.TellingLaws.{BootedScriptIsTaken}
 use Rattle.loaded_system.specs.System as loaded
-use Rattle.machine_model.specs.Alone.{alone_start}
+use Rattle.machine_model.specs.Alone.{Alone, alone_said, alone_start}
 use Rattle.machine_model.specs.CoreFile.{core_file}
 use Rattle.machine_model.specs.Cue.{Cue, script}
-use Rattle.machine_model.specs.Laws.{OwnLines, SameCoreFile}
-use Rattle.machine_model.specs.Lines.{end_line}
+use Rattle.machine_model.specs.Laws.{AllTicks, BootsAlone, OwnLines, SameCoreFile, alone_part_at}
+use Rattle.machine_model.specs.Laws as laws
+use Rattle.machine_model.specs.Lines.{end_line, said}
+use Rattle.machine_model.specs.Lists.{is_number}
 use Rattle.machine_model.specs.Machine.{start}
-use Rattle.machine_model.specs.View.{PartitionView, System, view_of}
+use Rattle.machine_model.specs.Partition.{PartitionState}
+use Rattle.machine_model.specs.View.{PartitionView, System, part_of, view_of}
 use Rattle.told_scripts.specs.Telling.{TellsBootedScripts}
 use Rattle.whole_system.specs.Inputs.{words_in}
 use Rattle.whole_system.specs.State.{with_inputs}
@@ -158,8 +162,36 @@ own_end : (system : System) (p : ℕ) (cues : List Cue) → replay_lines (view_o
 unfolding view_of
 own_end system p cues = refl
 
-pub runs_replayed : IsBrokenUnlessFits → OwnLines → SameCoreFile → BootedScriptIsTaken → TellsBootedScripts → WrittenScriptIsRead → RunIsReplayed
-runs_replayed law lines_law core_law takes tells reads container p bytes input system inputs ticks is =
+-- a machine that boots runs its system
+started_view : (system : System) (p : ℕ) → view_of (start system).system p ≡ view_of system p
+unfolding start
+started_view system p = refl
+
+-- what is there is one thing
+some_is : (a b : Alone) → Some a ≡ Some b → a ≡ b
+some_is a b same = cc
+
+part_none : (system : System) (p : ℕ) (a : Alone) → slice_get (start system).parts p ≡ None → alone_part_at (start system) p ≡ Some a → ⊥
+unfolding alone_part_at
+part_none system p a none is = (let both : None ≡ Some a = sym (ap (on (laws.part (start system) p)) none) ∙ is in cc)
+
+part_some : (system : System) (p : ℕ) (ps : PartitionState) (a : Alone) → slice_get (start system).parts p ≡ Some ps → alone_part_at (start system) p ≡ Some a → laws.part (start system) p ps ≡ a
+unfolding alone_part_at
+part_some system p ps a some is = some_is (laws.part (start system) p ps) a (sym (ap (on (laws.part (start system) p)) some) ∙ is)
+
+-- what a partition says in a run is what it says alone
+said_alone : AllTicks → BootsAlone → (system : System) (p ticks : ℕ) → p < length system.conf.parts → said (start system) ticks p ≡ alone_said (view_of system p) (alone_start (view_of system p)) (script (start system) p ticks)
+said_alone all boots system p ticks there = at (slice_get (start system).parts p) refl
+  where
+    at : (o : Option PartitionState) → slice_get (start system).parts p ≡ o → said (start system) ticks p ≡ alone_said (view_of system p) (alone_start (view_of system p)) (script (start system) p ticks)
+    at None none = absurd (part_none system p (alone_start (view_of system p)) none (boots system p there))
+    at (Some ps) some =
+        let is = all ticks (start system) p ps some in
+        is.said ∙ ap (λ (v : PartitionView). alone_said v (laws.part (start system) p ps) (script (start system) p ticks)) (started_view system p)
+        ∙ ap (λ (a : Alone). alone_said (view_of system p) a (script (start system) p ticks)) (part_some system p ps (alone_start (view_of system p)) some (boots system p there))
+
+pub runs_replayed : AllTicks → BootsAlone → IsBrokenUnlessFits → OwnLines → SameCoreFile → BootedScriptIsTaken → TellsBootedScripts → WrittenScriptIsRead → RunIsReplayed
+runs_replayed all boots law lines_law core_law takes tells reads container p bytes input system inputs ticks is =
     let booted = with_inputs system inputs in
     let lone = with_inputs system (lone_inputs (length system.conf.parts) p input) in
     let cues = script (start booted) p ticks in
@@ -175,4 +207,6 @@ runs_replayed law lines_law core_law takes tells reads container p bytes input s
       begins = replays_by container p bytes input system is.unpacks ∙ begins_so system inputs p bytes input cues is.there is.words read taken;
       lines = ap (λ (v : PartitionView). replay_lines v cues) view ∙ own_end booted p cues ∙ sym (lines_law booted p ticks is.there);
       core = core_law booted p ticks is.there ∙ ap (λ (v : PartitionView). Some (core_file v (replayed v cues).state)) (sym view);
+      said = λ uart. ap (λ (bytes : List ℕ). if is_number (part_of system.conf p).console uart then bytes else [])
+          (ap (λ (v : PartitionView). alone_said v (alone_start v) cues) view ∙ sym (said_alone all boots booted p ticks is.there));
     }

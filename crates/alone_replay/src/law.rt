@@ -4,15 +4,17 @@ ghost use Rattle.alone_replay.specs.OfRun.{RunIsReplayed};
 
 use alone_passes::told_can_be_taken;
 use cue_scripts::written_is_read;
-use machine_model::{own_lines, same_core_file};
+use machine_model::{all_ticks, boots_alone, own_lines, same_core_file};
 use told_scripts::told_is_a_script;
 use xm_conf::broken_unless_fits;
 
 /// A replay by the script that a run made, with the input words that the partition had in the run, may begin, and shows the partition's
-/// own lines of the run's report and its core file after the run.
+/// own lines of the run's report, its core file after the run, and the console bytes that it wrote to its UART in the run.
 pub fn run_is_replayed()
     ensures law { RunIsReplayed }
 {
+    all_ticks();
+    boots_alone();
     broken_unless_fits();
     own_lines();
     same_core_file();

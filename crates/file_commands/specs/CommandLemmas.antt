@@ -14,7 +14,7 @@ use Rattle.file_commands.specs.Makes.{IsUnmadeOf}
 use Rattle.file_maker.specs.declared.unmade.Unmade.{Unmade}
 use Rattle.file_maker.specs.declared.unmade.Unmade.TheVariants as unmade
 use Rattle.file_commands.specs.OutputLemmas.{called_for-is, no_output, output-named}
-use Rattle.file_commands.specs.Work.{Outside, AreNotRead, Comes, IsDone, IsNotRead, ReadsFiles, Reports, after_store_call, called_for, outside}
+use Rattle.file_commands.specs.Work.{Outside, AreNotRead, Comes, Does, IsDone, IsNotRead, ReadsFiles, Reports, after_store_call, called_for, outside}
 
 -- What one file comes to.
 
@@ -67,39 +67,44 @@ unmade_reports e file unmade.Memory m had faults ends is = rw ends (refl, refl)
 
 -- From what is done with files to what is done in all.
 
--- a command whose files were read did all of its work
-pub done_by : (e : Ending) (command : Command) (contents : List (List ℕ)) (before after : Outside) → ReadsFiles before.files (inputs_of command) contents → Comes e (outcome_of command contents) (called_for (inputs_of command) before) after → IsDone e command before after
-done_by Finished command contents before after read comes = record { contents = contents; read = read; denied = comes.0; outside = comes.1 }
-done_by Misused command contents before after read comes = absurd comes
-done_by (Unread other) command contents before after read comes = absurd comes
-done_by (Denied other text) command contents before after read comes = record { contents = contents; read = read; denied = comes.0; outside = comes.1 }
-done_by Unwritten command contents before after read comes =
+-- a command whose files were read did all of its work, by what was read
+pub does_by : (e : Ending) (command : Command) (contents : List (List ℕ)) (before after : Outside) → ReadsFiles before.files (inputs_of command) contents → Comes e (outcome_of command contents) (called_for (inputs_of command) before) after → Does e contents command before after
+does_by Finished command contents before after read comes = record { read = read; denied = comes.0; outside = comes.1 }
+does_by Misused command contents before after read comes = absurd comes
+does_by (Unread other) command contents before after read comes = absurd comes
+does_by (Denied other text) command contents before after read comes = record { read = read; denied = comes.0; outside = comes.1 }
+does_by Unwritten command contents before after read comes =
     let same = called_for-is (inputs_of command) before in
     record {
-      contents = contents;
       read = read;
       cause = subst (λ (n : ℕ). Rose n after.faults) (ap (λ (x : Outside). x.faults) same) comes.0;
       front = subst (λ (g : Option (List ℕ)). GrewByPrefix g (outcome_of command contents).report after.got) (ap (λ (x : Outside). x.got) same) comes.1;
       outside = comes.2;
     }
-done_by (Unsaved other) command contents before after read comes = record { contents = contents; read = read; lost = comes }
-done_by (Unheard place) command contents before after read comes = record { carried = record { contents = contents; read = read; denied = comes.1; outside = comes.2 }; run = comes.0 }
-done_by Starved command contents before after read comes = record { first = inputs_of command; rest = []; named = sym (append-nil (inputs_of command)); outside = comes }
+does_by (Unsaved other) command contents before after read comes = record { read = read; lost = comes }
+does_by (Unheard place) command contents before after read comes = record { carried = record { read = read; denied = comes.1; outside = comes.2 }; run = comes.0 }
+does_by Starved command contents before after read comes = record { first = inputs_of command; rest = []; named = sym (append-nil (inputs_of command)); outside = comes }
+
+pub done_by : (e : Ending) (command : Command) (contents : List (List ℕ)) (before after : Outside) → ReadsFiles before.files (inputs_of command) contents → Comes e (outcome_of command contents) (called_for (inputs_of command) before) after → IsDone e command before after
+done_by e command contents before after read comes = record { contents = contents; does = does_by e command contents before after read comes }
 
 -- a command that reads one file did all of its work
 pub done_by_one : (e : Ending) (command : Command) (file bytes : List ℕ) (before after : Outside) → inputs_of command ≡ file ∷ [] → ReadsFile before.files file FILE_BYTES bytes → Comes e (outcome_of command (bytes ∷ [])) (after_store_call before) after → IsDone e command before after
 done_by_one e command file bytes before after one read comes = done_by e command (bytes ∷ []) before after (rw one (read, tt)) (rw one comes)
 
--- a command whose files were not all read ends so
+-- a command whose files were not all read ends so, whatever their contents
+pub not_all_read_does : (e : Ending) (contents : List (List ℕ)) (command : Command) (before after : Outside) → AreNotRead e (inputs_of command) before after → Does e contents command before after
+not_all_read_does Finished contents command before after not_read = absurd not_read
+not_all_read_does Misused contents command before after not_read = absurd not_read
+not_all_read_does (Unread other) contents command before after not_read = not_read
+not_all_read_does (Denied other text) contents command before after not_read = absurd not_read
+not_all_read_does Unwritten contents command before after not_read = absurd not_read
+not_all_read_does (Unsaved other) contents command before after not_read = absurd not_read
+not_all_read_does (Unheard place) contents command before after not_read = absurd not_read
+not_all_read_does Starved contents command before after not_read = not_read
+
 pub not_all_read_done : (e : Ending) (command : Command) (before after : Outside) → AreNotRead e (inputs_of command) before after → IsDone e command before after
-not_all_read_done Finished command before after not_read = absurd not_read
-not_all_read_done Misused command before after not_read = absurd not_read
-not_all_read_done (Unread other) command before after not_read = not_read
-not_all_read_done (Denied other text) command before after not_read = absurd not_read
-not_all_read_done Unwritten command before after not_read = absurd not_read
-not_all_read_done (Unsaved other) command before after not_read = absurd not_read
-not_all_read_done (Unheard place) command before after not_read = absurd not_read
-not_all_read_done Starved command before after not_read = not_read
+not_all_read_done e command before after not_read = record { contents = []; does = not_all_read_does e [] command before after not_read }
 
 -- what is done, seen from another state that is the same
 pub comes_from : (e : Ending) (outcome : Outcome) (mid other after : Outside) → mid ≡ other → Comes e outcome mid after → Comes e outcome other after

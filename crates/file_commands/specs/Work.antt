@@ -96,20 +96,18 @@ pub record IsUnread (file : List ℕ) (files : List (List ℕ)) (before after : 
 
 -- the files were read, and what they come to was done: the file that comes first is written, the report went out, and the files after it are
 -- written
-pub record IsCarriedOut (denial : Option Denial) (command : Command) (before after : Outside) : Type 0 where
-  pub contents : List (List ℕ)
+pub record IsCarriedOut (denial : Option Denial) (contents : List (List ℕ)) (command : Command) (before after : Outside) : Type 0 where
   pub read : ReadsFiles before.files (inputs_of command) contents
   pub denied : (outcome_of command contents).denial ≡ denial
   pub outside : after ≡ did (outcome_of command contents) (called_for (inputs_of command) before)
 
 -- the same, of a command that runs something
-pub record IsRunOut (command : Command) (before after : Outside) : Type 0 where
-  pub carried : IsCarriedOut None command before after
-  pub run : IsSome (outcome_of command carried.contents).run
+pub record IsRunOut (contents : List (List ℕ)) (command : Command) (before after : Outside) : Type 0 where
+  pub carried : IsCarriedOut None contents command before after
+  pub run : IsSome (outcome_of command contents).run
 
 -- the files were read, and the sink took a prefix of the report, after the file that is written
-pub record IsUnwritten (command : Command) (before after : Outside) : Type 0 where
-  pub contents : List (List ℕ)
+pub record IsUnwritten (contents : List (List ℕ)) (command : Command) (before after : Outside) : Type 0 where
   pub read : ReadsFiles before.files (inputs_of command) contents
   pub cause : Rose before.faults after.faults
   pub front : GrewByPrefix before.got (outcome_of command contents).report after.got
@@ -137,8 +135,7 @@ abbrev pub IsNotSaved : List ℕ → Outcome → Outside → Outside → Type 0
 IsNotSaved file outcome before after = IsLostOf file (file_in outcome.output) before after ⊎ IsLostOf file outcome.later (told_all outcome before) after
 
 -- the files were read, and one of those that they come to was not written
-pub record IsUnsaved (file : List ℕ) (command : Command) (before after : Outside) : Type 0 where
-  pub contents : List (List ℕ)
+pub record IsUnsaved (file : List ℕ) (contents : List (List ℕ)) (command : Command) (before after : Outside) : Type 0 where
   pub read : ReadsFiles before.files (inputs_of command) contents
   pub lost : IsNotSaved file (outcome_of command contents) (called_for (inputs_of command) before) after
 
@@ -149,16 +146,21 @@ pub record IsStarved (files : List (List ℕ)) (before after : Outside) : Type 0
   pub named : files ≡ first ++ rest
   pub outside : after ≡ called_for first before
 
--- what a command did, by cases on how it ended
-abbrev pub IsDone : Ending → Command → Outside → Outside → Type 0
-IsDone Finished command before after = IsCarriedOut None command before after
-IsDone Misused command before after = ⊥
-IsDone (Unread file) command before after = IsUnread file (inputs_of command) before after
-IsDone (Denied file text) command before after = IsCarriedOut (Some (record { file = file; text = text })) command before after
-IsDone Unwritten command before after = IsUnwritten command before after
-IsDone (Unsaved file) command before after = IsUnsaved file command before after
-IsDone (Unheard place) command before after = IsRunOut command before after
-IsDone Starved command before after = IsStarved (inputs_of command) before after
+-- what a command did, by cases on how it ended and by the contents of its files; where not all of them were read, those contents do not matter
+abbrev pub Does : Ending → List (List ℕ) → Command → Outside → Outside → Type 0
+Does Finished contents command before after = IsCarriedOut None contents command before after
+Does Misused contents command before after = ⊥
+Does (Unread file) contents command before after = IsUnread file (inputs_of command) before after
+Does (Denied file text) contents command before after = IsCarriedOut (Some (record { file = file; text = text })) contents command before after
+Does Unwritten contents command before after = IsUnwritten contents command before after
+Does (Unsaved file) contents command before after = IsUnsaved file contents command before after
+Does (Unheard place) contents command before after = IsRunOut contents command before after
+Does Starved contents command before after = IsStarved (inputs_of command) before after
+
+-- a command ended so, by some contents of its files
+pub record IsDone (ending : Ending) (command : Command) (before after : Outside) : Type 0 where
+  pub contents : List (List ℕ)
+  pub does : Does ending contents command before after
 
 -- words that spell no command change nothing
 abbrev pub IsMisuse : Ending → Outside → Outside → Type 0
@@ -171,10 +173,10 @@ IsMisuse (Unsaved file) before after = ⊥
 IsMisuse (Unheard place) before after = ⊥
 IsMisuse Starved before after = ⊥
 
--- what the program did, by its command and its ending
-abbrev pub IsWorked : Ending → Option Command → Outside → Outside → Type 0
-IsWorked ending None before after = IsMisuse ending before after
-IsWorked ending (Some command) before after = IsDone ending command before after
+-- what the program did, by its command, its ending and the contents of the files that it read
+abbrev pub Works : Ending → List (List ℕ) → Option Command → Outside → Outside → Type 0
+Works ending contents None before after = IsMisuse ending before after
+Works ending contents (Some command) before after = Does ending contents command before after
 
 -- what is done once the files are read: what they come to, by cases on how that ended
 abbrev pub Comes : Ending → Outcome → Outside → Outside → Type 0

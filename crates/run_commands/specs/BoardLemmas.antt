@@ -10,17 +10,15 @@ use Rattle.xm_machine.specs.Outcome.{IsRun}
 use Rattle.xm_machine.specs.declared.run.Ran.{Ran}
 use Rattle.xm_report.specs.Report.{ReportLine, texts}
 use Rattle.xm_report.specs.declared.output.WriteFault.{WriteFault}
-use Rattle.xm_outside.specs.Files.{Files}
 use Rattle.xm_outside.specs.Growth.{grown}
-use Rattle.xm_words.specs.Words.{Command, PartFile}
+use Rattle.xm_words.specs.Words.{PartFile}
 use Rattle.run_commands.specs.EndsAfter.{EndsAfter}
 use Rattle.run_commands.specs.EndsAfterLemmas.{leaves_and_after}
-use Rattle.run_commands.specs.Boards.{IsLeft, IsRunTo, LeavesBoard}
-use Rattle.file_commands.specs.CommandLemmas.{not_all_of_one}
-use Rattle.file_commands.specs.Ending.{Ending, Finished, Misused, Unread, Denied, Unwritten, Unsaved, Unheard, Starved}
+use Rattle.run_commands.specs.Boards.{IsRunTo, LeavesBoard}
+use Rattle.file_commands.specs.Ending.{Ending, Unwritten}
 use Rattle.file_commands.specs.Makes.{IsUnmadeOf}
-use Rattle.file_commands.specs.Outcome.{Output, Running, Together, inputs_of, outcome_of, outcome_of_run}
-use Rattle.file_commands.specs.Work.{AreNotRead, IsNotRead, Outside, ReadsFiles}
+use Rattle.file_commands.specs.Outcome.{Output, Running, Together, outcome_of_run}
+use Rattle.file_commands.specs.Work.{Outside}
 use Rattle.file_maker.specs.declared.unmade.Unmade.{Unmade}
 use Rattle.file_maker.specs.declared.unmade.Unmade.TheVariants as unmade
 use Rattle.xm_machine.specs.Outcome.{report_of}
@@ -74,31 +72,3 @@ left_cut fault cores scripts system inputs ticks new had got before mid after is
 pub unmade_leaves : (e : Ending) (file : List ℕ) (why : Unmade) (run : Option Running) (had got : Option (List ℕ)) (board : BoardView) → IsUnmadeOf e file why → LeavesBoard e run had got board board
 unmade_leaves e file (unmade.Refused text) run had got board ends = rw ends refl
 unmade_leaves e file unmade.Memory run had got board ends = rw ends refl
-
--- a command whose files were read
-pub left_by : (e : Ending) (command : Command) (files : Option Files) (contents : List (List ℕ)) (had got : Option (List ℕ)) (before after : BoardView) → ReadsFiles files (inputs_of command) contents
-    → LeavesBoard e (outcome_of command contents).run had got before after → IsLeft e (Some command) files had got before after
-left_by Finished command files contents had got before after read leaves = record { contents = contents; read = read; leaves = leaves }
-left_by Misused command files contents had got before after read leaves = leaves
-left_by (Unread file) command files contents had got before after read leaves = leaves
-left_by (Denied file text) command files contents had got before after read leaves = leaves
-left_by Unwritten command files contents had got before after read leaves = record { contents = contents; read = read; leaves = leaves }
-left_by (Unsaved file) command files contents had got before after read leaves = record { contents = contents; read = read; leaves = leaves }
-left_by (Unheard place) command files contents had got before after read leaves = record { contents = contents; read = read; leaves = leaves }
-left_by Starved command files contents had got before after read leaves = leaves
-
--- one whose files were not all read
-pub left_not_all_read : (e : Ending) (command : Command) (names : List (List ℕ)) (files : Option Files) (before after : Outside) (had got : Option (List ℕ)) (board : BoardView) → AreNotRead e names before after → IsLeft e (Some command) files had got board board
-left_not_all_read Finished command names files before after had got board not_read = absurd not_read
-left_not_all_read Misused command names files before after had got board not_read = absurd not_read
-left_not_all_read (Unread other) command names files before after had got board not_read = refl
-left_not_all_read (Denied other text) command names files before after had got board not_read = absurd not_read
-left_not_all_read Unwritten command names files before after had got board not_read = absurd not_read
-left_not_all_read (Unsaved other) command names files before after had got board not_read = absurd not_read
-left_not_all_read (Unheard place) command names files before after had got board not_read = absurd not_read
-left_not_all_read Starved command names files before after had got board not_read = refl
-
--- one whose one file was not read
-pub left_unread : (e : Ending) (command : Command) (file : List ℕ) (files : Option Files) (before after : Outside) (had got : Option (List ℕ)) (board : BoardView) → IsNotRead e file before after → IsLeft e (Some command) files had got board board
-left_unread e command file files before after had got board not_read =
-    left_not_all_read e command (file ∷ []) files before after had got board (not_all_of_one e file before after not_read)

@@ -6,15 +6,13 @@ use Rattle.machine_model.specs.View.{view_of}
 use Rattle.uart_board.specs.Heard.{IsHeard}
 use Rattle.uart_board.specs.Views.{BoardView, without_marks, mark_at}
 use Rattle.xm_machine.specs.Outcome.{report_to}
-use Rattle.xm_outside.specs.Files.{Files}
 use Rattle.xm_outside.specs.Growth.{GrewByPrefix}
 use Rattle.xm_report.specs.Report.{ReportLine, texts}
 use Rattle.told_scripts.specs.Replayed.{cue_lines, replay_lines}
 use Rattle.told_scripts.specs.Lone.{booted_alone, replay_said}
 use Rattle.xm_words.specs.Words.{Command}
 use Rattle.file_commands.specs.Ending.{Ending, Finished, Misused, Unread, Denied, Unwritten, Unsaved, Unheard, Starved}
-use Rattle.file_commands.specs.Outcome.{Running, Together, Apart, inputs_of, outcome_of}
-use Rattle.file_commands.specs.Work.{ReadsFiles}
+use Rattle.file_commands.specs.Outcome.{Running, Together, Apart, outcome_of}
 
 -- no place has a mark
 abbrev pub HasNoMark : BoardView → Type 0
@@ -99,20 +97,8 @@ LeavesBoard (Unheard place) None had got before after = ⊥
 LeavesBoard (Unheard place) (Some run) had got before after = IsRunMarked place run before after
 LeavesBoard Starved run had got before after = after ≡ before
 
--- the files of a command were read, and what they come to left this of the board
-pub record HasLeft (ending : Ending) (command : Command) (files : Option Files) (had got : Option (List ℕ)) (before after : BoardView) : Type 0 where
-  pub contents : List (List ℕ)
-  pub read : ReadsFiles files (inputs_of command) contents
-  pub leaves : LeavesBoard ending (outcome_of command contents).run had got before after
-
--- what a call leaves of the board, by its command and its ending, and by what the sink of the report had and has got
-abbrev pub IsLeft : Ending → Option Command → Option Files → Option (List ℕ) → Option (List ℕ) → BoardView → BoardView → Type 0
-IsLeft ending None files had got before after = after ≡ before
-IsLeft Finished (Some command) files had got before after = HasLeft Finished command files had got before after
-IsLeft Misused (Some command) files had got before after = after ≡ before
-IsLeft (Unread file) (Some command) files had got before after = after ≡ before
-IsLeft (Denied file text) (Some command) files had got before after = after ≡ before
-IsLeft Unwritten (Some command) files had got before after = HasLeft Unwritten command files had got before after
-IsLeft (Unsaved file) (Some command) files had got before after = HasLeft (Unsaved file) command files had got before after
-IsLeft (Unheard place) (Some command) files had got before after = HasLeft (Unheard place) command files had got before after
-IsLeft Starved (Some command) files had got before after = after ≡ before
+-- what a call leaves of the board, by its command, its ending and the contents of the files that it read, and by what the sink of the report had and
+-- has got; words that are no command leave it as it was
+abbrev pub Plays : Ending → List (List ℕ) → Option Command → Option (List ℕ) → Option (List ℕ) → BoardView → BoardView → Type 0
+Plays ending contents None had got before after = after ≡ before
+Plays ending contents (Some command) had got before after = LeavesBoard ending (outcome_of command contents).run had got before after

@@ -1,3 +1,5 @@
+pub mod AccountLemmas
+pub mod Accounts
 pub mod BoardLemmas
 pub mod Boards
 pub mod ContentLemmas

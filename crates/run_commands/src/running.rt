@@ -5,12 +5,13 @@ ghost use Rattle.xm_base.specs.declared.limits.TheConstants.{TICKS};
 ghost use Rattle.loaded_system.specs.System.{System as Loaded};
 ghost use Rattle.machine_model.specs.Machine.{start};
 ghost use Rattle.whole_system.specs.State.{with_inputs};
-ghost use Rattle.run_commands.specs.Boards.{IsLeft, LeavesBoard};
+ghost use Rattle.run_commands.specs.Accounts.{HasAccount};
+ghost use Rattle.run_commands.specs.Boards.{LeavesBoard};
 ghost use Rattle.run_commands.specs.Cores.{AreForPartitions, FitInto};
 ghost use Rattle.file_commands.specs.Outcome.{outcome_of, outcome_of_run};
 ghost use Rattle.run_commands.specs.Scripts.{made_output};
 ghost use Rattle.file_commands.specs.Told.{ending_of};
-ghost use Rattle.file_commands.specs.Work.{Comes, IsDone, outside};
+ghost use Rattle.file_commands.specs.Work.{Comes, outside};
 ghost use Rattle.xm_words.specs.Seen.{seen_files};
 ghost use Rattle.xm_words.specs.Words.{Bare};
 
@@ -37,10 +38,10 @@ pub fn run_file<'a, S: Store, O: Sink>(
     board: &mut Board,
 ) -> Ending<'a>
     requires { ticks ≤ TICKS }
-    ensures done { IsDone (ending_of result) (Bare image.now ticks)
+    ensures accounted { HasAccount (ending_of result) (Some (Bare image.now ticks))
         (outside (S.files files.old) (S.read_faults files.old) (S.write_faults files.old) (S.calls files.old) (O.got out.old) (O.faults out.old))
-        (outside (S.files files.new) (S.read_faults files.new) (S.write_faults files.new) (S.calls files.new) (O.got out.new) (O.faults out.new)) }
-    ensures board { IsLeft (ending_of result) (Some (Bare image.now ticks)) (S.files files.old) (O.got out.old) (O.got out.new) (⟦<Board as ViewBoard>⟧.board_view board.old) (⟦<Board as ViewBoard>⟧.board_view board.new) }
+        (outside (S.files files.new) (S.read_faults files.new) (S.write_faults files.new) (S.calls files.new) (O.got out.new) (O.faults out.new))
+        (⟦<Board as ViewBoard>⟧.board_view board.old) (⟦<Board as ViewBoard>⟧.board_view board.new) }
 {
     match read_file(alloc, image, files) {
         Ok(bytes) => run_bytes(alloc, image, ticks, &bytes, files, out, board),

@@ -4,7 +4,8 @@ ghost use Rattle.std.specs.Prelude.{◌≡◌, ◌≤◌, ◌∷◌, ℕ, List, 
 ghost use Rattle.xm_base.specs.declared.limits.TheConstants.{TICKS};
 ghost use Rattle.xm_container.specs.Reading.{unpacked};
 ghost use Rattle.whole_system.specs.State.{with_inputs};
-ghost use Rattle.run_commands.specs.Boards.{IsLeft, LeavesBoard};
+ghost use Rattle.run_commands.specs.Accounts.{HasAccount};
+ghost use Rattle.run_commands.specs.Boards.{LeavesBoard};
 ghost use Rattle.run_commands.specs.Cores.{AreForPartitions};
 ghost use Rattle.run_commands.specs.Numbers.{HaveTold, HasScripts, TellsIn, TellsOf, TellsShort};
 ghost use Rattle.run_commands.specs.Scripts.{made_output};
@@ -12,7 +13,7 @@ ghost use Rattle.file_commands.specs.Inputs.{inputs_for};
 ghost use Rattle.file_commands.specs.Outcome.{content, first_long, outcome_of, outcome_of_run, ran_with, run_outcome, ticks_asked};
 ghost use Rattle.file_commands.specs.Packing.{file_names};
 ghost use Rattle.file_commands.specs.Told.{vector_bytes, ending_of};
-ghost use Rattle.file_commands.specs.Work.{Comes, IsDone, outside};
+ghost use Rattle.file_commands.specs.Work.{Comes, outside};
 ghost use Rattle.xm_words.specs.Grammar.{count_of};
 ghost use Rattle.xm_words.specs.Seen.{seen_files, seen_options};
 ghost use Rattle.xm_words.specs.Words.{Run, inputs_in, scripts_in, span_in};
@@ -37,10 +38,10 @@ pub fn run_container<'a, S: Store, O: Sink>(
     board: &mut Board,
 ) -> Ending<'a>
     requires { count_of (span_in (seen_options options)) ≤ TICKS }
-    ensures done { IsDone (ending_of result) (Run container.now (seen_options options.entry))
+    ensures accounted { HasAccount (ending_of result) (Some (Run container.now (seen_options options.entry)))
         (outside (S.files files.old) (S.read_faults files.old) (S.write_faults files.old) (S.calls files.old) (O.got out.old) (O.faults out.old))
-        (outside (S.files files.new) (S.read_faults files.new) (S.write_faults files.new) (S.calls files.new) (O.got out.new) (O.faults out.new)) }
-    ensures board { IsLeft (ending_of result) (Some (Run container.now (seen_options options.entry))) (S.files files.old) (O.got out.old) (O.got out.new) (⟦<Board as ViewBoard>⟧.board_view board.old) (⟦<Board as ViewBoard>⟧.board_view board.new) }
+        (outside (S.files files.new) (S.read_faults files.new) (S.write_faults files.new) (S.calls files.new) (O.got out.new) (O.faults out.new))
+        (⟦<Board as ViewBoard>⟧.board_view board.old) (⟦<Board as ViewBoard>⟧.board_view board.new) }
     ensures numbers { HasScripts (ending_of result) → TellsOf container.now (seen_options options.entry) (S.files files.old) }
 {
     match read_files(alloc, container, options.inputs(), files) {

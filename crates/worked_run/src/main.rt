@@ -2,8 +2,8 @@
 #![tactic(auto)]
 
 use std::process::ExitCode;
-use xm_commands::program;
+use xm_commands::{arguments_of, program};
 
 fn main(rt: HostRuntime) -> ExitCode {
-    program(&rt, rt.stdout(), rt.stderr())
+    program(&rt, arguments_of(&rt), rt.stdout(), rt.stderr())
 }

@@ -2,32 +2,19 @@
 use Rattle.std.proofs.Common.{◌≡◌, ℕ, List, Option, Some, None, Result, Ok, Err, refl, sym, subst}
 use Rattle.std.specs.Prelude.{IsSome}
 use Rattle.uart_board.specs.Views.{BoardView}
-use Rattle.xm_outside.specs.Files.{Files}
 use Rattle.xm_words.specs.Words.{Command, PartFile, Parse, Upgrade, BuildImage, ReadImage, Pack, ListContainer, CheckContainer, MakePlan, CheckPlan, TellGroups, Generate}
-use Rattle.run_commands.specs.Boards.{IsLeft, LeavesBoard}
+use Rattle.run_commands.specs.Boards.{LeavesBoard, Plays}
 use Rattle.xm_commands.specs.Played.{IsMarked}
 use Rattle.file_commands.specs.Denial.{Denial}
 use Rattle.file_commands.specs.Ending.{Ending, Finished, Misused, Unread, Denied, Unwritten, Unsaved, Unheard, Starved, status_of}
 use Rattle.file_commands.specs.Outcome.{Running, first_long, inputs_of, file_made, outcome_of, packed_to, text_reported, unless_long, outcome_of_contents}
 use Rattle.xm_commands.specs.Top.{IsQuiet}
-use Rattle.file_commands.specs.Work.{IsDone, Outside}
 use Rattle.file_commands.specs.declared.status.Status.TheVariants as status
 use Rattle.file_commands.specs.declared.status.Status.TheVariants.{Done, Usage, UartFault}
 use Rattle.xm_commands.proofs.TopLemmas.{loud}
 
--- a command that runs nothing
-pub left_still : (e : Ending) (command : Command) (before after : Outside) (had got : Option (List ℕ)) (board : BoardView) → ((contents : List (List ℕ)) → (outcome_of command contents).run ≡ None)
-    → IsDone e command before after → IsLeft e (Some command) before.files had got board board
-left_still Finished command before after had got board none w = record { contents = w.contents; read = w.read; leaves = subst (λ (run : Option Running). LeavesBoard Finished run had got board board) (sym (none w.contents)) refl }
-left_still Misused command before after had got board none w = absurd w
-left_still (Unread file) command before after had got board none w = refl
-left_still (Denied file text) command before after had got board none w = refl
-left_still Unwritten command before after had got board none w = record { contents = w.contents; read = w.read; leaves = subst (λ (run : Option Running). LeavesBoard Unwritten run had got board board) (sym (none w.contents)) refl }
-left_still (Unsaved file) command before after had got board none w = record { contents = w.contents; read = w.read; leaves = subst (λ (run : Option Running). LeavesBoard (Unsaved file) run had got board board) (sym (none w.contents)) refl }
-left_still (Unheard place) command before after had got board none w = absurd (let some : IsSome {T = Running} None = subst (λ (run : Option Running). IsSome run) (none w.carried.contents) w.run in cc)
-left_still Starved command before after had got board none w = refl
+-- Commands that run nothing.
 
--- these do
 no_run : (command : Command) (contents : List (List ℕ)) → (outcome_of_contents command contents).run ≡ None → (outcome_of command contents).run ≡ None
 unfolding outcome_of
 no_run command contents none = at (first_long (inputs_of command) contents)
@@ -84,29 +71,29 @@ generate_runs number contents = no_run (Generate number) contents refl
 -- What the top call says of it.
 
 -- a fault of a UART has left a mark
-pub marked : (e : Ending) (command : Option Command) (files : Option Files) (had got : Option (List ℕ)) (before after : BoardView) → IsLeft e command files had got before after → status_of e ≡ UartFault → (command ≡ None → status_of e ≡ Usage) → IsMarked after
-marked Finished command files had got before after left h usage = absurd (cc)
-marked Misused command files had got before after left h usage = absurd (cc)
-marked (Unread file) command files had got before after left h usage = absurd (cc)
-marked (Denied file text) command files had got before after left h usage = absurd (cc)
-marked Unwritten command files had got before after left h usage = absurd (cc)
-marked (Unsaved file) command files had got before after left h usage = absurd (cc)
-marked (Unheard place) None files had got before after left h usage = absurd (let wrong : UartFault ≡ Usage = usage refl in cc)
-marked (Unheard place) (Some command) files had got before after left h usage = by (outcome_of command left.contents).run left.leaves
+pub marked : (e : Ending) (contents : List (List ℕ)) (command : Option Command) (had got : Option (List ℕ)) (before after : BoardView) → Plays e contents command had got before after → status_of e ≡ UartFault → (command ≡ None → status_of e ≡ Usage) → IsMarked after
+marked Finished contents command had got before after left h usage = absurd (cc)
+marked Misused contents command had got before after left h usage = absurd (cc)
+marked (Unread file) contents command had got before after left h usage = absurd (cc)
+marked (Denied file text) contents command had got before after left h usage = absurd (cc)
+marked Unwritten contents command had got before after left h usage = absurd (cc)
+marked (Unsaved file) contents command had got before after left h usage = absurd (cc)
+marked (Unheard place) contents None had got before after left h usage = absurd (let wrong : UartFault ≡ Usage = usage refl in cc)
+marked (Unheard place) contents (Some command) had got before after left h usage = by (outcome_of command contents).run left
   where
     by : (run : Option Running) → LeavesBoard (Unheard place) run had got before after → IsMarked after
     by None leaves = absurd leaves
     by (Some run) leaves = record { place = place; marked = leaves.marked.marked }
-marked Starved command files had got before after left h usage = absurd (cc)
+marked Starved contents command had got before after left h usage = absurd (cc)
 
 -- a quiet call has left the board
-pub still : (e : Ending) (command : Option Command) (files : Option Files) (had got : Option (List ℕ)) (before after : BoardView) → IsLeft e command files had got before after → IsQuiet (status_of e) → after ≡ before
-still e None files had got before after left q = left
-still Finished (Some command) files had got before after left q = absurd (loud Done (λ h. cc) (λ h. cc) (λ h. cc) (λ h. cc) q)
-still Misused (Some command) files had got before after left q = left
-still (Unread file) (Some command) files had got before after left q = left
-still (Denied file text) (Some command) files had got before after left q = left
-still Unwritten (Some command) files had got before after left q = absurd (loud status.WriteFault (λ h. cc) (λ h. cc) (λ h. cc) (λ h. cc) q)
-still (Unsaved file) (Some command) files had got before after left q = absurd (loud status.WriteFault (λ h. cc) (λ h. cc) (λ h. cc) (λ h. cc) q)
-still (Unheard place) (Some command) files had got before after left q = absurd (loud UartFault (λ h. cc) (λ h. cc) (λ h. cc) (λ h. cc) q)
-still Starved (Some command) files had got before after left q = left
+pub still : (e : Ending) (contents : List (List ℕ)) (command : Option Command) (had got : Option (List ℕ)) (before after : BoardView) → Plays e contents command had got before after → IsQuiet (status_of e) → after ≡ before
+still e contents None had got before after left q = left
+still Finished contents (Some command) had got before after left q = absurd (loud Done (λ h. cc) (λ h. cc) (λ h. cc) (λ h. cc) q)
+still Misused contents (Some command) had got before after left q = left
+still (Unread file) contents (Some command) had got before after left q = left
+still (Denied file text) contents (Some command) had got before after left q = left
+still Unwritten contents (Some command) had got before after left q = absurd (loud status.WriteFault (λ h. cc) (λ h. cc) (λ h. cc) (λ h. cc) q)
+still (Unsaved file) contents (Some command) had got before after left q = absurd (loud status.WriteFault (λ h. cc) (λ h. cc) (λ h. cc) (λ h. cc) q)
+still (Unheard place) contents (Some command) had got before after left q = absurd (loud UartFault (λ h. cc) (λ h. cc) (λ h. cc) (λ h. cc) q)
+still Starved contents (Some command) had got before after left q = left

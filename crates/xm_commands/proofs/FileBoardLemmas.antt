@@ -1,13 +1,9 @@
--- A board that gets the UARTs of files, one after the other, and what a call over it comes to.
-use Rattle.std.proofs.Common.{◌≡◌, ℕ, zero, suc, ◌+◌, ◌-◌, ◌<◌, List, ◌∷◌, ◌++◌, map, Option, Some, None, replicate, refl, ◌∙◌, ap, subst, arith, slice_set}
+-- A board that gets the UARTs of files, one after the other.
+use Rattle.std.proofs.Common.{◌≡◌, ℕ, zero, suc, ◌+◌, ◌-◌, ◌<◌, List, ◌∷◌, ◌++◌, map, Option, Some, None, replicate, refl, ◌∙◌, ap, arith, slice_set}
 use Rattle.std.proofs.lemmas.List.{map-set}
 use Rattle.std.specs.Prelude.{option_map}
 use Rattle.uart_board.specs.Views.{BoardView, UartView}
-use Rattle.file_commands.specs.Status.{IsCodeOf}
-use Rattle.file_commands.specs.declared.status.Status.{Status}
-use Rattle.file_commands.specs.declared.status.Status.TheVariants.{Done}
-use Rattle.xm_commands.specs.Called.{IsSomeCall}
-use Rattle.xm_commands.specs.Ended.{IsEnded, files_below, unwritten}
+use Rattle.xm_commands.specs.Ended.{files_below, unwritten}
 
 -- the board with the UARTs of files at the places below this number, and no mark
 abbrev pub filled : ℕ → BoardView
@@ -40,20 +36,3 @@ pub board_more : {U : Type 0} (view : U → UartView) (places : List (Option U))
 board_more view places marks place uart within before same =
     ap (λ told. record { places = told; marks = marks }) (file_more view places place uart within (ap (λ (b : BoardView). b.places) before) same)
     ∙ ap (λ (m : List (Option ℕ)). record { places = files_below (place + 1); marks = m }) (ap (λ (b : BoardView). b.marks) before)
-
--- a call over the whole board, with devices that counted no fault before
-pub ended : (exit : ℕ) (status : Status) (before after error_before error_after place : ℕ) (board left : BoardView)
-    → IsCodeOf status exit → before ≡ 0 → error_before ≡ 0 → place ≡ 8 → board ≡ filled place
-    → IsSomeCall status None before None after None error_before None error_after board left → (status ≡ Done → error_after ≡ 0) → IsEnded exit
-ended exit status before after error_before error_after place board left code none no_error last whole call silent = record {
-  status = status;
-  faults = after;
-  error_faults = error_after;
-  left = left;
-  code = code;
-  call =
-      subst (λ n. IsSomeCall status None n None after None 0 None error_after (filled 8) left) none (
-      subst (λ n. IsSomeCall status None before None after None n None error_after (filled 8) left) no_error (
-      subst (λ b. IsSomeCall status None before None after None error_before None error_after b left) (whole ∙ ap filled last) call));
-  silent = silent;
-}

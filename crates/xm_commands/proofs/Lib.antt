@@ -1,11 +1,13 @@
 pub mod BoardLemmas
-pub mod CallLemmas
+pub mod CompleteLemmas
+pub mod EndedLemmas
 pub mod FileBoardLemmas
 pub mod GeneratingLemmas
 pub mod NumberLemmas
 pub mod OutsideLemmas
 pub mod ReplayLemmas
 pub mod ReplayedLemmas
+pub mod RunThenAloneLemmas
 pub mod SeparationLemmas
 pub mod TickLemmas
 pub mod TopLemmas

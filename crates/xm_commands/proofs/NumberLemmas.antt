@@ -3,9 +3,8 @@ use Rattle.std.proofs.Common.{◌≡◌, ◌⊎◌, ⊎_elim}
 use Rattle.file_commands.specs.Ending.{Ending, Finished, Misused, Unread, Denied, Unwritten, Unsaved, Unheard, Starved, status_of}
 use Rattle.run_commands.specs.Numbers.{HasScripts}
 use Rattle.xm_commands.specs.Top.{IsCompleteStatus}
-use Rattle.file_commands.specs.declared.status.Status.TheVariants.{WriteFault}
 
--- a call that is carried out made its scripts before, and so did one that ended at a write
+-- a call that is carried out made its scripts before
 pub complete_made : (e : Ending) → IsCompleteStatus (status_of e) → HasScripts e
 complete_made Finished complete = tt
 complete_made Misused complete = ⊎_elim (λ done. absurd (cc)) (λ fault. absurd (cc)) complete
@@ -15,13 +14,3 @@ complete_made Unwritten complete = tt
 complete_made (Unsaved file) complete = tt
 complete_made (Unheard place) complete = tt
 complete_made Starved complete = ⊎_elim (λ done. absurd (cc)) (λ fault. absurd (cc)) complete
-
-pub lost_made : (e : Ending) → status_of e ≡ WriteFault → HasScripts e
-lost_made Finished fault = absurd (cc)
-lost_made Misused fault = absurd (cc)
-lost_made (Unread file) fault = absurd (cc)
-lost_made (Denied file text) fault = absurd (cc)
-lost_made Unwritten fault = tt
-lost_made (Unsaved file) fault = tt
-lost_made (Unheard place) fault = absurd (cc)
-lost_made Starved fault = absurd (cc)

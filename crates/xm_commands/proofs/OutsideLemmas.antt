@@ -3,6 +3,8 @@ use Rattle.std.proofs.Common.{◌≡◌, ◌≢◌, ℕ, zero, suc, ◌+◌, con
 use Rattle.std.specs.Cmp.Lexicographic.{slice_cmp, nat_list_cmp_total}
 use Rattle.std.specs.FinMap.{get, insert, get-insert, slice_cmp-IsAntisymmetric, nat_cmp-IsAntisymmetric}
 use Rattle.std.specs.Ordering.{nat_cmp, is_eq}
+use Rattle.std.proofs.lemmas.Map.Text.{is_eq-slice_cmp}
+use Rattle.std.proofs.lemmas.Slice.Eq.{bytes_eq-Decides}
 use Rattle.std.specs.declared.cmp.Ordering.{Ordering}
 use Rattle.std.specs.declared.cmp.Ordering.TheVariants.{Less, Equal, Greater}
 use Rattle.xm_base.specs.Options.{on}
@@ -64,8 +66,13 @@ pub wrote-files : (o : Option Output) (x : Outside) (files : Files) → x.files 
 wrote-files None x files told = told
 wrote-files (Some output) x files told = rw told refl
 
+-- a file that is written has these bytes
+pub stored-same : (files : Files) (file bytes : List ℕ) → get (insert files file bytes) file ≡ Some bytes
+stored-same files file bytes =
+    get-insert nat_list_cmp_total files file bytes file ∙ ap (λ (t : Bool). cond t (Some bytes) (get files file)) (is_eq-slice_cmp file file ∙ (bytes_eq-Decides file file).1 refl)
+
 -- a file that is written leaves the others
-stored-others : (files : Files) (file bytes other : List ℕ) → other ≢ file → get (insert files file bytes) other ≡ get files other
+pub stored-others : (files : Files) (file bytes other : List ℕ) → other ≢ file → get (insert files file bytes) other ≡ get files other
 stored-others files file bytes other differs = get-insert nat_list_cmp_total files file bytes other ∙ at (slice_cmp nat_cmp other file) refl
   where
     at : (r : Ordering) → slice_cmp nat_cmp other file ≡ r → cond (is_eq r) (Some bytes) (get files other) ≡ get files other

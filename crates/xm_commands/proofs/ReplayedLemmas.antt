@@ -1,26 +1,31 @@
 -- A replay by the script of a run, as a command.
-use Rattle.std.proofs.Common.{◌≡◌, ℕ, ⊎_elim, List, [], ◌∷◌, map, Option, Some, None, Ok, refl, sym, ap, ◌∙◌, subst}
+use Rattle.std.proofs.Common.{◌≡◌, ℕ, ⊎_elim, List, [], ◌∷◌, length, map, take, Option, Some, None, Ok, refl, sym, ap, ◌∙◌, subst}
 use Rattle.std.specs.Prelude.{IsSome}
 use Rattle.xm_outside.specs.Files.{Files}
 use Rattle.xm_outside.specs.Growth.{grown}
 use Rattle.xm_report.specs.Report.{ReportLine, texts}
-use Rattle.alone_replay.specs.OfRun.{RunIsReplayed}
+use Rattle.uart_board.specs.Heard.{IsHeard}
+use Rattle.uart_board.specs.Views.{BoardView, without_marks}
+use Rattle.alone_replay.specs.OfRun.{RunIsReplayed, own_console}
 use Rattle.file_maker.specs.Ready.{Replay as Readied, replay_of}
 use Rattle.machine_model.specs.CoreFile.{core_file}
+use Rattle.machine_model.specs.Cue.{Cue}
 use Rattle.machine_model.specs.Laws.{core_file_of}
 use Rattle.machine_model.specs.Lines.{own, report}
 use Rattle.machine_model.specs.Machine.{run, start}
 use Rattle.machine_model.specs.View.{System, view_of}
 use Rattle.whole_system.specs.State.{with_inputs}
+use Rattle.told_scripts.specs.Lone.{booted_alone, replay_said}
 use Rattle.told_scripts.specs.Replayed.{replay_lines, replayed}
 use Rattle.xm_words.specs.Words.{Command, ReplayFiles, Bare, Parse, Upgrade, BuildImage, ReadImage, Pack, ListContainer, CheckContainer, MakePlan, CheckPlan, TellGroups, Generate, Run, Replay, replay_core, replay_input}
+use Rattle.run_commands.specs.Boards.{IsRunTo, LeavesBoard, Plays, said_in_run, ticks_of_run}
 use Rattle.run_commands.specs.Contents.{read_all}
 use Rattle.file_commands.specs.Denial.{Denial}
-use Rattle.file_commands.specs.Ending.{Ending, status_of}
-use Rattle.file_commands.specs.Outcome.{Output, Outcome, content, core_output, first_long, input_bytes, inputs_of, name_if_any, outcome_of, played, replay_outcome_by, replay_outcome, replay_output, unless_long, outcome_of_contents}
+use Rattle.file_commands.specs.Ending.{Ending, Finished, Misused, Unread, Denied, Unwritten, Unsaved, Unheard, Starved, status_of}
+use Rattle.file_commands.specs.Outcome.{Apart, Output, Outcome, Running, content, core_output, first_long, input_bytes, inputs_of, name_if_any, outcome_of, played, replay_outcome_by, replay_outcome, replay_output, unless_long, outcome_of_contents}
 use Rattle.xm_commands.specs.Separation.{ReplaysAlone, ShowsOwn}
-use Rattle.xm_commands.specs.Top.{AreContents, IsRefusedIn}
-use Rattle.file_commands.specs.Work.{Outside, IsCarriedOut, IsWorked, called_for, did, told_all, wrote_all}
+use Rattle.xm_commands.specs.Top.{AreContents, IsCompleteStatus, IsRefusedIn}
+use Rattle.file_commands.specs.Work.{Outside, IsCarriedOut, Works, called_for, did, told_all, wrote_all}
 use Rattle.file_commands.specs.OutputLemmas.{called_for-is}
 use Rattle.xm_commands.proofs.OutsideLemmas.{told_outcome}
 use Rattle.xm_commands.proofs.SeparationLemmas.{core_there}
@@ -28,7 +33,7 @@ use Rattle.xm_commands.proofs.TopLemmas.{done_is_finished, has_causes, unheard_f
 use Rattle.xm_commands.proofs.WrittenLemmas.{did-got, wrote_all-from}
 
 -- what a replay that may begin comes to
-begun_outcome : (container : List ℕ) (part : ℕ) (script : List ℕ) (further : ReplayFiles) (contents : List (List ℕ)) (replay : Readied)
+pub begun_outcome : (container : List ℕ) (part : ℕ) (script : List ℕ) (further : ReplayFiles) (contents : List (List ℕ)) (replay : Readied)
     → first_long (container ∷ script ∷ name_if_any (replay_input further)) contents ≡ None
     → replay_of (content 0 contents) part (content 1 contents) (input_bytes (replay_input further) (content 2 contents)) ≡ Ok replay
     → outcome_of (Replay container part script further) contents ≡ played (replay_core further) replay
@@ -47,7 +52,7 @@ abbrev one_output : List ℕ → List ℕ → List Output
 one_output file bytes = record { file = file; bytes = bytes } ∷ []
 
 -- the core file that it writes is that after the run
-own_cores : (system : System) (ticks part : ℕ) (replay : Readied) (core : Option (List ℕ))
+pub own_cores : (system : System) (ticks part : ℕ) (replay : Readied) (core : Option (List ℕ))
     → core_file_of (run (start system) ticks) part ≡ Some (core_file (view_of replay.system replay.p) (replayed (view_of replay.system replay.p) replay.cues).state)
     → map (replay_output replay) (name_if_any core) ≡ map (λ (file : List ℕ). core_output (run (start system) ticks) (record { part = part; file = file })) (name_if_any core)
 own_cores system ticks part replay None is = refl
@@ -55,18 +60,19 @@ own_cores system ticks part replay (Some file) is =
     ap (one_output file) (sym (core_there (run (start system) ticks) part _ is))
 
 -- what is carried out of it shows the partition's part of the run
-shows_own : (system : System) (ticks part : ℕ) (replay : Readied) (core : Option (List ℕ)) (before read_from after : Outside)
+shows_own : (system : System) (ticks part : ℕ) (replay : Readied) (core : Option (List ℕ)) (before read_from after : Outside) (board left : BoardView)
     → replay_lines (view_of replay.system replay.p) replay.cues ≡ own part (report system ticks)
     → core_file_of (run (start system) ticks) part ≡ Some (core_file (view_of replay.system replay.p) (replayed (view_of replay.system replay.p) replay.cues).state)
-    → read_from.files ≡ before.files → read_from.got ≡ before.got → after ≡ did (played core replay) read_from → ShowsOwn system ticks part core before after
+    → read_from.files ≡ before.files → read_from.got ≡ before.got → after ≡ did (played core replay) read_from → IsHeard (own_console system ticks part) (without_marks board) left → ShowsOwn system ticks part core before after board left
 unfolding played
-shows_own system ticks part replay core before read_from after lines file files got is = record {
+shows_own system ticks part replay core before read_from after board left lines file files got is heard = record {
   printed = ap (λ (x : Outside). x.got) is ∙ did-got (played core replay) read_from
       ∙ ap (λ (g : Option (List ℕ)). grown g (texts (replay_lines (view_of replay.system replay.p) replay.cues))) got
       ∙ ap (λ (ls : List ReportLine). grown before.got (texts ls)) lines;
   written = ap (λ (x : Outside). x.files) is
       ∙ ap (λ (os : List Output). (wrote_all os (told_all (played core replay) read_from)).files) (own_cores system ticks part replay core file)
       ∙ wrote_all-from (map (λ (f : List ℕ). core_output (run (start system) ticks) (record { part = part; file = f })) (name_if_any core)) (told_all (played core replay) read_from) before files;
+  said = heard;
 }
 
 -- contents that were read of known files are these
@@ -83,44 +89,81 @@ refused_never command before after files contents core replay known all comes re
     let same : refused.contents ≡ contents = same_contents files before.files command contents refused.contents known all refused.are in
     never_refused core replay (subst (λ (o : Outcome). IsSome o.denial) (ap (outcome_of command) same ∙ comes) refused.refused)
 
+-- what it runs
+played_run : (core : Option (List ℕ)) (replay : Readied) → (played core replay).run ≡ Some (Apart replay.system replay.p replay.cues)
+unfolding played
+played_run core replay = refl
+
+-- all cues are as many as they are
+all_cues : (cues : List Cue) → take (length cues) cues ≡ cues
+all_cues [] = refl
+all_cues (cue ∷ cues) = ap (λ more. cue ∷ more) (all_cues cues)
+
+-- a replay all of whose cues are done has said what the partition said in the run
+run_heard : (system : System) (ticks part : ℕ) (replay : Readied) (board left : BoardView) → ((uart : ℕ) → replay_said (booted_alone replay.system replay.p) replay.cues uart ≡ own_console system ticks part uart)
+    → IsRunTo (ticks_of_run (Apart replay.system replay.p replay.cues)) (Apart replay.system replay.p replay.cues) board left → IsHeard (own_console system ticks part) (without_marks board) left
+run_heard system ticks part replay board left said heard =
+    let same : said_in_run (Apart replay.system replay.p replay.cues) (length replay.cues) ≡ own_console system ticks part = λ i uart.
+    (ap (λ cues. replay_said (booted_alone replay.system replay.p) cues uart) (all_cues replay.cues) ∙ said uart) i in
+    subst (λ (f : ℕ → List ℕ). IsHeard f (without_marks board) left) same heard
+
+-- so it is where it was carried out
+replay_heard : (e : Ending) (run : Option Running) (system : System) (ticks part : ℕ) (replay : Readied) (had got : Option (List ℕ)) (board left : BoardView) → ((uart : ℕ) → replay_said (booted_alone replay.system replay.p) replay.cues uart ≡ own_console system ticks part uart)
+    → IsCompleteStatus (status_of e) → LeavesBoard e run had got board left → run ≡ Some (Apart replay.system replay.p replay.cues) → IsHeard (own_console system ticks part) (without_marks board) left
+replay_heard e run system ticks part replay had got board left said complete leaves runs =
+    by e complete (subst (λ (r : Option Running). LeavesBoard e r had got board left) runs leaves)
+  where
+    by : (e : Ending) → IsCompleteStatus (status_of e) → LeavesBoard e (Some (Apart replay.system replay.p replay.cues)) had got board left → IsHeard (own_console system ticks part) (without_marks board) left
+    by Finished complete leaves = run_heard system ticks part replay board left said leaves.heard
+    by Misused complete leaves = absurd (⊎_elim (λ h. cc) (λ h. cc) complete)
+    by (Unread file) complete leaves = absurd (⊎_elim (λ h. cc) (λ h. cc) complete)
+    by (Denied file text) complete leaves = absurd (⊎_elim (λ h. cc) (λ h. cc) complete)
+    by Unwritten complete leaves = absurd (⊎_elim (λ h. cc) (λ h. cc) complete)
+    by (Unsaved file) complete leaves = absurd (⊎_elim (λ h. cc) (λ h. cc) complete)
+    by (Unheard place) complete leaves = run_heard system ticks part replay board left said leaves.heard
+    by Starved complete leaves = absurd (⊎_elim (λ h. cc) (λ h. cc) complete)
+
 -- one that was carried out shows the partition's part
-carried_own : (command : Command) (before after : Outside) (files : Files) (contents : List (List ℕ)) (system : System) (ticks part : ℕ) (core : Option (List ℕ)) (replay : Readied) → before.files ≡ Some files
+carried_own : (command : Command) (read : List (List ℕ)) (before after : Outside) (board left : BoardView) (files : Files) (contents : List (List ℕ)) (system : System) (ticks part : ℕ) (core : Option (List ℕ)) (replay : Readied) → before.files ≡ Some files
     → read_all files (inputs_of command) ≡ Ok contents → outcome_of command contents ≡ played core replay
     → replay_lines (view_of replay.system replay.p) replay.cues ≡ own part (report system ticks)
     → core_file_of (run (start system) ticks) part ≡ Some (core_file (view_of replay.system replay.p) (replayed (view_of replay.system replay.p) replay.cues).state)
-    → IsCarriedOut None command before after → ShowsOwn system ticks part core before after
-carried_own command before after files contents system ticks part core replay known all comes lines file w =
-    let told = told_outcome before.files command w.contents w.read in
+    → IsCarriedOut None read command before after → ((outcome_of command read).run ≡ Some (Apart replay.system replay.p replay.cues) → IsHeard (own_console system ticks part) (without_marks board) left)
+    → ShowsOwn system ticks part core before after board left
+carried_own command read before after board left files contents system ticks part core replay known all comes lines file w heard =
+    let told = told_outcome before.files command read w.read in
     let same : told.contents ≡ contents = same_contents files before.files command contents told.contents known all told.are in
-    shows_own system ticks part replay core before (called_for (inputs_of command) before) after lines file
+    shows_own system ticks part replay core before (called_for (inputs_of command) before) after board left lines file
     (ap (λ (x : Outside). x.files) (called_for-is (inputs_of command) before)) (ap (λ (x : Outside). x.got) (called_for-is (inputs_of command) before))
     (w.outside ∙ ap (λ (o : Outcome). did o (called_for (inputs_of command) before)) (told.outcome ∙ ap (outcome_of command) same ∙ comes))
+    (heard (ap (λ (o : Outcome). o.run) (told.outcome ∙ ap (outcome_of command) same ∙ comes) ∙ played_run core replay))
 
 -- a replay by the script of a run
-replayed_so : RunIsReplayed → (e : Ending) (container : List ℕ) (part : ℕ) (script : List ℕ) (further : ReplayFiles) (before after : Outside) → IsWorked e (Some (Replay container part script further)) before after
-    → ReplaysAlone (status_of e) (Some (Replay container part script further)) before after
-replayed_so law e container part script further before after w = λ files known contents all short system inputs ticks is.
+replayed_so : RunIsReplayed → (e : Ending) (read : List (List ℕ)) (container : List ℕ) (part : ℕ) (script : List ℕ) (further : ReplayFiles) (before after : Outside) (board left : BoardView) → Works e read (Some (Replay container part script further)) before after
+    → Plays e read (Some (Replay container part script further)) before.got after.got board left → ReplaysAlone (status_of e) (Some (Replay container part script further)) before after board left
+replayed_so law e read container part script further before after board left w plays = λ files known contents all short system inputs ticks is.
     let command = Replay container part script further in
     let shows = law (content 0 contents) part (content 1 contents) (input_bytes (replay_input further) (content 2 contents)) system inputs ticks is in
     let comes : outcome_of command contents ≡ played (replay_core further) shows.replay = begun_outcome container part script further contents shows.replay short shows.begins in (
-      λ refused. refused_never command before after files contents (replay_core further) shows.replay known all comes ((has_causes e (Some command) before after w).refused refused),
-      λ complete. carried_own command before after files contents (with_inputs system inputs) ticks part (replay_core further) shows.replay known all comes shows.lines shows.core
-          (⊎_elim (λ done. subst (λ (e : Ending). IsWorked e (Some command) before after) (done_is_finished e done) w) (λ fault. unheard_finished e command before after fault w) complete),
+      λ refused. refused_never command before after files contents (replay_core further) shows.replay known all comes ((has_causes e read (Some command) before after w).refused refused),
+      λ complete. carried_own command read before after board left files contents (with_inputs system inputs) ticks part (replay_core further) shows.replay known all comes shows.lines shows.core
+          (⊎_elim (λ done. subst (λ (e : Ending). Works e read (Some command) before after) (done_is_finished e done) w) (λ fault. unheard_finished e read command before after fault w) complete)
+          (replay_heard e (outcome_of command read).run (with_inputs system inputs) ticks part shows.replay before.got after.got board left shows.said complete plays),
     )
 
-pub are_replayed : RunIsReplayed → (e : Ending) (command : Option Command) (before after : Outside) → IsWorked e command before after → ReplaysAlone (status_of e) command before after
-are_replayed law e None before after w = tt
-are_replayed law e (Some (Bare image ticks)) before after w = tt
-are_replayed law e (Some (Parse description output)) before after w = tt
-are_replayed law e (Some (Upgrade configuration output)) before after w = tt
-are_replayed law e (Some (BuildImage program output)) before after w = tt
-are_replayed law e (Some (ReadImage image)) before after w = tt
-are_replayed law e (Some (Pack configuration output images)) before after w = tt
-are_replayed law e (Some (ListContainer container)) before after w = tt
-are_replayed law e (Some (CheckContainer container)) before after w = tt
-are_replayed law e (Some (MakePlan description)) before after w = tt
-are_replayed law e (Some (CheckPlan description)) before after w = tt
-are_replayed law e (Some (TellGroups description)) before after w = tt
-are_replayed law e (Some (Generate number)) before after w = tt
-are_replayed law e (Some (Run container options)) before after w = tt
-are_replayed law e (Some (Replay container part script further)) before after w = replayed_so law e container part script further before after w
+pub are_replayed : RunIsReplayed → (e : Ending) (read : List (List ℕ)) (command : Option Command) (before after : Outside) (board left : BoardView) → Works e read command before after → Plays e read command before.got after.got board left → ReplaysAlone (status_of e) command before after board left
+are_replayed law e read None before after board left w plays = tt
+are_replayed law e read (Some (Bare image ticks)) before after board left w plays = tt
+are_replayed law e read (Some (Parse description output)) before after board left w plays = tt
+are_replayed law e read (Some (Upgrade configuration output)) before after board left w plays = tt
+are_replayed law e read (Some (BuildImage program output)) before after board left w plays = tt
+are_replayed law e read (Some (ReadImage image)) before after board left w plays = tt
+are_replayed law e read (Some (Pack configuration output images)) before after board left w plays = tt
+are_replayed law e read (Some (ListContainer container)) before after board left w plays = tt
+are_replayed law e read (Some (CheckContainer container)) before after board left w plays = tt
+are_replayed law e read (Some (MakePlan description)) before after board left w plays = tt
+are_replayed law e read (Some (CheckPlan description)) before after board left w plays = tt
+are_replayed law e read (Some (TellGroups description)) before after board left w plays = tt
+are_replayed law e read (Some (Generate number)) before after board left w plays = tt
+are_replayed law e read (Some (Run container options)) before after board left w plays = tt
+are_replayed law e read (Some (Replay container part script further)) before after board left w plays = replayed_so law e read container part script further before after board left w plays

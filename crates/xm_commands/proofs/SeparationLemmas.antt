@@ -26,19 +26,21 @@ use Rattle.whole_system.specs.State.{part_at, with_inputs}
 use Rattle.xm_words.specs.Words.{Command, PartFile, RunOption, Bare, Parse, Upgrade, BuildImage, ReadImage, Pack, ListContainer, CheckContainer, MakePlan, CheckPlan, TellGroups, Generate, Run, Replay, cores_in, inputs_in, span_in, scripts_in}
 use Rattle.run_commands.specs.Cores.{AreForPartitions}
 use Rattle.file_commands.specs.Denial.{Denial}
-use Rattle.file_commands.specs.Ending.{Ending, length_text, status_of, ticks_text}
+use Rattle.file_commands.specs.Ending.{Ending, Finished, Misused, Unread, Denied, Unwritten, Unsaved, Unheard, Starved, length_text, status_of, ticks_text}
 use Rattle.file_commands.specs.Inputs.{first_beyond, inputs_for, inputs_with, no_inputs, unless_beyond}
 use Rattle.file_commands.specs.Outcome.{Output, Outcome, bare_outcome, content, core_output, core_outputs, first_long, inputs_of, outcome_of, outcome_of_run, ran_scripted, ran_with, ran_within, command_refused, refused_by, run_by, run_outcome, script_before, script_denial, script_output, scripts_for, ticks_asked, unless_denied, unless_long, outcome_of_contents}
 use Rattle.xm_commands.specs.Separation.{AreShownAlone, CommandAlone, ContainerAlone, PrintsAlone, ShowsAlone, ShowsFront, ShowsPart, ShowsSome, alone_output, alone_outputs}
-use Rattle.xm_commands.specs.Top.{AreContents, IsCompleteStatus, IsCutShort, IsNotWritten, IsLostAfter, IsWriteCause}
-use Rattle.file_commands.specs.Work.{Outside, IsCarriedOut, IsWorked, called_for, did, told_all, wrote, wrote_all}
+use Rattle.xm_commands.specs.Top.{AreContents, IsCompleteStatus, IsNotWritten}
+use Rattle.file_commands.specs.Work.{Does, Outside, IsCarriedOut, IsUnsaved, IsUnwritten, ReadsFiles, Works, called_for, did, told_all, wrote, wrote_all}
+use Rattle.file_commands.specs.declared.status.Status.TheVariants.{WriteFault}
+use Rattle.run_commands.specs.ContentLemmas.{are_whole}
+use Rattle.run_commands.specs.Contents.{read_all}
 use Rattle.run_commands.specs.Numbers.{CommandTells, HasScripts, WordsTell, TellsOf}
 use Rattle.run_commands.specs.CoreLemmas.{cores_inside}
 use Rattle.file_commands.specs.OutputLemmas.{called_for-is}
-use Rattle.xm_commands.proofs.OutsideLemmas.{told_outcome}
 use Rattle.xm_commands.proofs.NumberLemmas.{complete_made}
-use Rattle.xm_commands.proofs.TopLemmas.{done_is_finished, unheard_finished}
-use Rattle.xm_commands.proofs.WrittenLemmas.{did-got, wrote_all-from}
+use Rattle.xm_commands.proofs.TopLemmas.{IsSomeOf, done_is_finished, lost_first, lost_some, unheard_finished}
+use Rattle.xm_commands.proofs.WrittenLemmas.{did-got, wrote-from, wrote_all-from}
 
 -- Core files.
 
@@ -74,7 +76,7 @@ abbrev ran_to : ℕ → List PartFile → List PartFile → Loaded → List (Lis
 ran_to ticks cores scripts system inputs = outcome_of_run ticks cores (map (script_output (with_inputs system inputs) ticks) scripts) system inputs
 
 -- where none is refused they are what the partitions were told
-scripts_are : (system : System) (ticks : ℕ) (names : List PartFile) (outputs : List Output) → scripts_for system ticks names ≡ Ok outputs → outputs ≡ map (script_output system ticks) names
+pub scripts_are : (system : System) (ticks : ℕ) (names : List PartFile) (outputs : List Output) → scripts_for system ticks names ≡ Ok outputs → outputs ≡ map (script_output system ticks) names
 scripts_are system ticks [] outputs made = (let none : [] ≡ outputs = cc in sym none)
 scripts_are system ticks (named ∷ names) outputs made = at (script_denial system ticks named) (scripts_for system ticks names) refl (scripts_are system ticks names) made
   where
@@ -96,15 +98,6 @@ IsAllOf read_from after outcome = (outcome.denial ≡ None) × (after ≡ did ou
 -- a prefix of the report, after the file that comes first
 abbrev IsFrontOf : Outside → Outside → Outcome → Type 0
 IsFrontOf before after outcome = GrewByPrefix before.got outcome.report after.got × (after.files ≡ (wrote outcome.output before).files)
-
--- all but a file after the report, and those after it
-record IsSomeOf (before after : Outside) (outcome : Outcome) : Type 0 where
-  first : List Output
-  output : Output
-  rest : List Output
-  split : outcome.later ≡ first ++ output ∷ rest
-  report : after.got ≡ (told_all outcome before).got
-  others : OthersStay (wrote_all first (told_all outcome before)).files output.file after.files
 
 -- none of these is done by a command that is refused
 never_all : (read_from after : Outside) (denial : Denial) → IsAllOf read_from after (refused_by denial) → ⊥
@@ -176,7 +169,7 @@ are_cut (line ∷ others) had got p = ⊎_elim here (later (are_cut others (grow
 
 -- whose whole report went out
 prints_run : OwnLines → (system : System) (ticks : ℕ) (before after : Outside) → after.got ≡ grown before.got (texts (report system ticks)) → PrintsAlone system ticks before after
-prints_run law system ticks before after got = record { lines = report system ticks; report = got; own = λ p there. law system p ticks there }
+prints_run law system ticks before after got = record { lines = report system ticks; whole = refl; report = got; own = λ p there. law system p ticks there }
 
 -- what a run comes to
 shows_run : OwnLines → SameCoreFile → (system : Loaded) (inputs : List (List ℕ)) (ticks : ℕ) (cores scripts : List PartFile) (before read_from after : Outside) → AreForPartitions (length system.conf.parts) cores
@@ -225,13 +218,21 @@ shows_some lines_law core_law system inputs ticks cores scripts before after ins
 -- Commands that are not refused, by what was done.
 
 -- none of the files is too long
-worked_by : {R : Type 0} (Did : Outcome → Type 0) (command : Command) (contents : List (List ℕ)) → ((denial : Denial) → Did (refused_by denial) → ⊥) → (Did (outcome_of_contents command contents) → R) → Did (outcome_of command contents) → R
+worked_by : {R : Type 0} (Did : Outcome → Type 0) (command : Command) (contents : List (List ℕ)) → ((denial : Denial) → Did (refused_by denial) → ⊥)
+    → (first_long (inputs_of command) contents ≡ None → Did (outcome_of_contents command contents) → R) → Did (outcome_of command contents) → R
 unfolding outcome_of
-worked_by {R} Did command contents never ran_so is = at (first_long (inputs_of command) contents) is
+worked_by {R} Did command contents never ran_so is = at (first_long (inputs_of command) contents) refl is
   where
-    at : (long : Option (List ℕ)) → Did (unless_long long (outcome_of_contents command contents)) → R
-    at None done = ran_so done
-    at (Some file) done = absurd (never _ done)
+    at : (long : Option (List ℕ)) → first_long (inputs_of command) contents ≡ long → Did (unless_long long (outcome_of_contents command contents)) → R
+    at None short done = ran_so short done
+    at (Some file) long done = absurd (never _ done)
+
+-- so what was read is the whole of the files
+whole_contents : (told : Option Files) (command : Command) (contents : List (List ℕ)) → ReadsFiles told (inputs_of command) contents → first_long (inputs_of command) contents ≡ None → AreContents told command contents
+whole_contents None command contents read short = tt
+whole_contents (Some files) command contents read short =
+    let is = are_whole files (inputs_of command) contents read in
+    subst (λ (all : List (List ℕ)). read_all files (inputs_of command) ≡ Ok all) (sym (is.whole (sym is.long ∙ short))) is.read
 
 -- an image that was run
 bare_by : {R : Type 0} (Did : Outcome → Type 0) (file : List ℕ) (ticks : ℕ) (image : List ℕ) → ((denial : Denial) → Did (refused_by denial) → ⊥) → (Did (outcome_of_run ticks [] [] (bare_system image) (no_inputs 1)) → R) → Did (bare_outcome file ticks image) → R
@@ -282,14 +283,13 @@ RunShows Did Shows before after =
 -- a container that was run
 container_by : (Did : Outcome → Type 0) (Shows : System → ℕ → List PartFile → List PartFile → Outside → Outside → Type 0) (container : List ℕ) (options : List RunOption) (contents : List (List ℕ)) (before after : Outside)
     → AreContents before.files (Run container options) contents → TellsOf container options before.files → ((denial : Denial) → Did (refused_by denial) → ⊥) → RunShows Did Shows before after
-    → Did (run_outcome container options (content 0 contents) (drop 1 contents)) → ContainerAlone Shows container options before after
+    → Did (run_outcome container options (content 0 contents) (drop 1 contents)) → ContainerAlone Shows contents container options before after
 unfolding run_outcome
 container_by Did Shows container options contents before after are tells never shows is = at (unpacked (content 0 contents)) refl is
   where
     given : (system : Loaded) → unpacked (content 0 contents) ≡ Ok system → (read : Result (List (List ℕ)) Denial) → inputs_for (length system.conf.parts) options (drop 1 contents) ≡ read
-        → Did (ran_with container options system read) → ContainerAlone Shows container options before after
+        → Did (ran_with container options system read) → ContainerAlone Shows contents container options before after
     given system unpacks (Ok inputs) reads done = record {
-      contents = contents;
       are = are;
       system = system;
       unpacks = unpacks;
@@ -301,15 +301,14 @@ container_by Did Shows container options contents before after are tells never s
     }
     given system unpacks (Err refusal) reads done = absurd (never _ done)
 
-    at : (read : Result Loaded BoxFault) → unpacked (content 0 contents) ≡ read → Did (run_by container options (drop 1 contents) read) → ContainerAlone Shows container options before after
+    at : (read : Result Loaded BoxFault) → unpacked (content 0 contents) ≡ read → Did (run_by container options (drop 1 contents) read) → ContainerAlone Shows contents container options before after
     at (Ok system) unpacks done = given system unpacks (inputs_for (length system.conf.parts) options (drop 1 contents)) refl done
     at (Err fault) unpacks done = absurd (never _ done)
 
 -- what a command shows
 command_by : (Did : Outcome → Type 0) (Shows : System → ℕ → List PartFile → List PartFile → Outside → Outside → Type 0) (command : Command) (contents : List (List ℕ)) (before after : Outside)
-    → AreContents before.files command contents → CommandTells command before.files → ((denial : Denial) → Did (refused_by denial) → ⊥) → RunShows Did Shows before after → Did (outcome_of_contents command contents) → CommandAlone Shows command before after
+    → AreContents before.files command contents → CommandTells command before.files → ((denial : Denial) → Did (refused_by denial) → ⊥) → RunShows Did Shows before after → Did (outcome_of_contents command contents) → CommandAlone Shows contents command before after
 command_by Did Shows (Bare image ticks) contents before after are tells never shows is = record {
-  contents = contents;
   are = are;
   shows = bare_by Did image ticks (content 0 contents) never (shows (bare_system (content 0 contents)) (no_inputs 1) ticks [] [] tt) is;
 }
@@ -328,59 +327,77 @@ command_by Did Shows (Replay container part script further) contents before afte
 command_by Did Shows (Run container options) contents before after are tells never shows is = container_by Did Shows container options contents before after are tells never shows is
 
 outcome_by : (Did : Outcome → Type 0) (Shows : System → ℕ → List PartFile → List PartFile → Outside → Outside → Type 0) (command : Command) (contents : List (List ℕ)) (before after : Outside)
-    → AreContents before.files command contents → CommandTells command before.files → ((denial : Denial) → Did (refused_by denial) → ⊥) → RunShows Did Shows before after → Did (outcome_of command contents) → CommandAlone Shows command before after
-outcome_by Did Shows command contents before after are tells never shows is = worked_by Did command contents never (command_by Did Shows command contents before after are tells never shows) is
+    → ReadsFiles before.files (inputs_of command) contents → CommandTells command before.files → ((denial : Denial) → Did (refused_by denial) → ⊥) → RunShows Did Shows before after → Did (outcome_of command contents)
+    → CommandAlone Shows contents command before after
+outcome_by Did Shows command contents before after read tells never shows is =
+    worked_by Did command contents never (λ short. command_by Did Shows command contents before after (whole_contents before.files command contents read short) tells never shows) is
 
 -- Where the command was carried out.
 
-carried_alone : OwnLines → SameCoreFile → (command : Command) (before after : Outside) → CommandTells command before.files → IsCarriedOut None command before after → CommandAlone ShowsAlone command before after
-carried_alone lines_law core_law command before after tells w =
-    let told = told_outcome before.files command w.contents w.read in
+carried_alone : OwnLines → SameCoreFile → (command : Command) (contents : List (List ℕ)) (before after : Outside) → CommandTells command before.files → IsCarriedOut None contents command before after → CommandAlone ShowsAlone contents command before after
+carried_alone lines_law core_law command contents before after tells w =
     let read_from = called_for (inputs_of command) before in
     let files : read_from.files ≡ before.files = ap (λ (x : Outside). x.files) (called_for-is (inputs_of command) before) in
     let got : read_from.got ≡ before.got = ap (λ (x : Outside). x.got) (called_for-is (inputs_of command) before) in
-    outcome_by (IsAllOf read_from after) ShowsAlone command told.contents before after told.are tells (never_all read_from after)
+    outcome_by (IsAllOf read_from after) ShowsAlone command contents before after w.read tells (never_all read_from after)
     (λ system inputs ticks cores scripts inside done. shows_run lines_law core_law system inputs ticks cores scripts before read_from after inside files got done)
-    (subst (IsAllOf read_from after) told.outcome (w.denied, w.outside))
+    (w.denied, w.outside)
 
-pub are_alone : OwnLines → SameCoreFile → (e : Ending) (command : Option Command) (before after : Outside) → (HasScripts e → WordsTell command before.files) → IsWorked e command before after → IsCompleteStatus (status_of e) → AreShownAlone ShowsAlone command before after
-are_alone lines_law core_law e None before after tells w complete = tt
-are_alone lines_law core_law e (Some command) before after tells w complete =
-    let carried : IsCarriedOut None command before after =
-    ⊎_elim (λ done. subst (λ (e : Ending). IsWorked e (Some command) before after) (done_is_finished e done) w) (λ fault. unheard_finished e command before after fault w) complete in
-    carried_alone lines_law core_law command before after (tells (complete_made e complete)) carried
+pub are_alone : OwnLines → SameCoreFile → (e : Ending) (contents : List (List ℕ)) (command : Option Command) (before after : Outside) → (HasScripts e → WordsTell command before.files) → Works e contents command before after
+    → IsCompleteStatus (status_of e) → AreShownAlone ShowsAlone contents command before after
+are_alone lines_law core_law e contents None before after tells w complete = tt
+are_alone lines_law core_law e contents (Some command) before after tells w complete =
+    let carried : IsCarriedOut None contents command before after =
+    ⊎_elim (λ done. subst (λ (e : Ending). Does e contents command before after) (done_is_finished e done) w) (λ fault. unheard_finished e contents command before after fault w) complete in
+    carried_alone lines_law core_law command contents before after (tells (complete_made e complete)) carried
 
 -- Where its report or one of its files was not written.
 
-front_alone : OwnLines → (command : Command) (before after : Outside) → CommandTells command before.files → IsCutShort command before after → CommandAlone ShowsPart command before after
-front_alone law command before after tells w =
-    outcome_by (IsFrontOf before after) ShowsPart command w.contents before after w.are tells (never_front before after)
-    (λ system inputs ticks cores scripts inside done. inl (shows_front law system inputs ticks cores scripts before after done)) (w.front, w.files)
+front_alone : OwnLines → (command : Command) (contents : List (List ℕ)) (before after : Outside) → CommandTells command before.files → IsUnwritten contents command before after → CommandAlone ShowsPart contents command before after
+front_alone law command contents before after tells w =
+    let files : (called_for (inputs_of command) before).files ≡ before.files = ap (λ (x : Outside). x.files) (called_for-is (inputs_of command) before) in
+    outcome_by (IsFrontOf before after) ShowsPart command contents before after w.read tells (never_front before after)
+    (λ system inputs ticks cores scripts inside done. inl (shows_front law system inputs ticks cores scripts before after done))
+    (w.front, ap (λ (x : Outside). x.files) w.outside ∙ wrote-from (outcome_of command contents).output (called_for (inputs_of command) before) before files)
 
-some_alone : OwnLines → SameCoreFile → (command : Command) (before after : Outside) → CommandTells command before.files → IsLostAfter command before after → CommandAlone ShowsPart command before after
-some_alone lines_law core_law command before after tells w =
-    outcome_by (IsSomeOf before after) ShowsPart command w.contents before after w.are tells (never_some before after)
-    (λ system inputs ticks cores scripts inside done. inr (shows_some lines_law core_law system inputs ticks cores scripts before after inside done))
-    (record { first = w.first; output = w.output; rest = w.rest; split = w.split; report = w.report; others = w.others })
+some_alone : OwnLines → SameCoreFile → (command : Command) (contents : List (List ℕ)) (before after : Outside) → CommandTells command before.files → ReadsFiles before.files (inputs_of command) contents
+    → IsSomeOf before after (outcome_of command contents) → CommandAlone ShowsPart contents command before after
+some_alone lines_law core_law command contents before after tells read some =
+    outcome_by (IsSomeOf before after) ShowsPart command contents before after read tells (never_some before after)
+    (λ system inputs ticks cores scripts inside done. inr (shows_some lines_law core_law system inputs ticks cores scripts before after inside done)) some
 
 -- a command that writes a file before its report runs nothing
-lost_alone : (command : Command) (before after : Outside) → IsNotWritten command before after → CommandAlone ShowsPart command before after
-lost_alone (Bare image ticks) before after w = absurd (let some : IsSome {T = List ℕ} None = w.output in cc)
-lost_alone (Parse description output) before after w = tt
-lost_alone (Upgrade configuration output) before after w = tt
-lost_alone (BuildImage program output) before after w = tt
-lost_alone (ReadImage image) before after w = tt
-lost_alone (Pack configuration output images) before after w = tt
-lost_alone (ListContainer container) before after w = tt
-lost_alone (CheckContainer container) before after w = tt
-lost_alone (MakePlan description) before after w = tt
-lost_alone (CheckPlan description) before after w = tt
-lost_alone (TellGroups description) before after w = tt
-lost_alone (Generate number) before after w = tt
-lost_alone (Replay container part script further) before after w = tt
-lost_alone (Run container options) before after w = absurd (let some : IsSome {T = List ℕ} None = w.output in cc)
+lost_alone : (command : Command) (contents : List (List ℕ)) (before after : Outside) → IsNotWritten command before after → CommandAlone ShowsPart contents command before after
+lost_alone (Bare image ticks) contents before after w = absurd (let some : IsSome {T = List ℕ} None = w.output in cc)
+lost_alone (Parse description output) contents before after w = tt
+lost_alone (Upgrade configuration output) contents before after w = tt
+lost_alone (BuildImage program output) contents before after w = tt
+lost_alone (ReadImage image) contents before after w = tt
+lost_alone (Pack configuration output images) contents before after w = tt
+lost_alone (ListContainer container) contents before after w = tt
+lost_alone (CheckContainer container) contents before after w = tt
+lost_alone (MakePlan description) contents before after w = tt
+lost_alone (CheckPlan description) contents before after w = tt
+lost_alone (TellGroups description) contents before after w = tt
+lost_alone (Generate number) contents before after w = tt
+lost_alone (Replay container part script further) contents before after w = tt
+lost_alone (Run container options) contents before after w = absurd (let some : IsSome {T = List ℕ} None = w.output in cc)
 
-pub are_part : OwnLines → SameCoreFile → (command : Option Command) (before after : Outside) → WordsTell command before.files → IsWriteCause command before after → AreShownAlone ShowsPart command before after
-are_part lines_law core_law None before after tells w = tt
-are_part lines_law core_law (Some command) before after tells w =
-    ⊎_elim (front_alone lines_law command before after tells) (λ lost. ⊎_elim (lost_alone command before after) (some_alone lines_law core_law command before after tells) lost) w
+unsaved_alone : OwnLines → SameCoreFile → (file : List ℕ) (command : Command) (contents : List (List ℕ)) (before after : Outside) → CommandTells command before.files → IsUnsaved file contents command before after
+    → CommandAlone ShowsPart contents command before after
+unsaved_alone lines_law core_law file command contents before after tells w = ⊎_elim
+    (λ first. lost_alone command contents before after (lost_first command contents file before after first))
+    (λ later. some_alone lines_law core_law command contents before after tells w.read (lost_some command (outcome_of command contents) file before after later))
+    w.lost
+
+pub are_part : OwnLines → SameCoreFile → (e : Ending) (contents : List (List ℕ)) (command : Option Command) (before after : Outside) → (HasScripts e → WordsTell command before.files) → Works e contents command before after
+    → status_of e ≡ WriteFault → AreShownAlone ShowsPart contents command before after
+are_part lines_law core_law e contents None before after tells w fault = tt
+are_part lines_law core_law Finished contents (Some command) before after tells w fault = absurd (cc)
+are_part lines_law core_law Misused contents (Some command) before after tells w fault = absurd w
+are_part lines_law core_law (Unread file) contents (Some command) before after tells w fault = absurd (cc)
+are_part lines_law core_law (Denied file text) contents (Some command) before after tells w fault = absurd (cc)
+are_part lines_law core_law Unwritten contents (Some command) before after tells w fault = front_alone lines_law command contents before after (tells tt) w
+are_part lines_law core_law (Unsaved file) contents (Some command) before after tells w fault = unsaved_alone lines_law core_law file command contents before after (tells tt) w
+are_part lines_law core_law (Unheard place) contents (Some command) before after tells w fault = absurd (cc)
+are_part lines_law core_law Starved contents (Some command) before after tells w fault = absurd (cc)

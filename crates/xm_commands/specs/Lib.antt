@@ -1,9 +1,12 @@
+pub mod Accounted
 pub mod Answer
 pub mod Arguments
 pub mod Called
+pub mod Complete
 pub mod Ended
 pub mod Played
 pub mod Replaying
+pub mod RunThenAlone
 pub mod Separation
 pub mod Ticks
 pub mod Top

@@ -6,7 +6,9 @@ use Rattle.xm_report.specs.Report.{ReportLine, text_of, texts}
 use Rattle.loaded_system.specs.Bare.{bare_system}
 use Rattle.loaded_system.specs.System as loaded
 use Rattle.xm_container.specs.Reading.{unpacked}
-use Rattle.alone_replay.specs.OfRun.{IsOfRun}
+use Rattle.alone_replay.specs.OfRun.{IsOfRun, own_console}
+use Rattle.uart_board.specs.Heard.{IsHeard}
+use Rattle.uart_board.specs.Views.{BoardView, without_marks}
 use Rattle.machine_model.specs.Alone.{Alone, alone_from, alone_lines, alone_start}
 use Rattle.machine_model.specs.CoreFile.{core_file}
 use Rattle.machine_model.specs.Cue.{script}
@@ -37,9 +39,10 @@ alone_report system p ticks =
 abbrev pub alone_output : System → ℕ → PartFile → Output
 alone_output system ticks named = record { file = named.file; bytes = core_file (view_of system named.part) (alone_after_ticks system named.part ticks).state }
 
--- what a run of so many ticks prints, where all of it went out: lines, of which each partition's own are those of that partition alone
+-- what a run of so many ticks prints, where all of it went out: the lines of its report, of which each partition's own are those of that partition alone
 pub record PrintsAlone (system : System) (ticks : ℕ) (before after : Outside) : Type 0 where
   pub lines : List ReportLine
+  pub whole : lines ≡ report system ticks
   pub report : after.got ≡ grown before.got (texts lines)
   pub own : (p : ℕ) → p < length system.conf.parts → own p lines ≡ alone_report system p ticks
 
@@ -78,16 +81,14 @@ pub record ShowsSome (system : System) (ticks : ℕ) (cores scripts : List PartF
 abbrev pub ShowsPart : System → ℕ → List PartFile → List PartFile → Outside → Outside → Type 0
 ShowsPart system ticks cores scripts before after = ShowsFront system ticks cores scripts before after ⊎ ShowsSome system ticks cores scripts before after
 
--- a raw image was run, and the run shows this
-pub record BareAlone (Shows : System → ℕ → List PartFile → List PartFile → Outside → Outside → Type 0) (image : List ℕ) (ticks : ℕ) (before after : Outside) : Type 0 where
-  pub contents : List (List ℕ)
+-- a raw image with these contents was run, and the run shows this
+pub record BareAlone (Shows : System → ℕ → List PartFile → List PartFile → Outside → Outside → Type 0) (contents : List (List ℕ)) (image : List ℕ) (ticks : ℕ) (before after : Outside) : Type 0 where
   pub are : AreContents before.files (Bare image ticks) contents
   pub shows : Shows (with_inputs (bare_system (content 0 contents)) (no_inputs 1)) ticks [] [] before after
 
--- a container was run, with input words for its partitions, and the run shows this; where the store's files are known, what the partitions of its scripts are
--- told has its numbers, so that each script can be replayed
-pub record ContainerAlone (Shows : System → ℕ → List PartFile → List PartFile → Outside → Outside → Type 0) (container : List ℕ) (options : List RunOption) (before after : Outside) : Type 0 where
-  pub contents : List (List ℕ)
+-- a container with these contents was run, with input words for its partitions, and the run shows this; where the store's files are known, what the partitions of its scripts are
+-- told has its numbers: what is a byte is one, and the status of each reset is a word
+pub record ContainerAlone (Shows : System → ℕ → List PartFile → List PartFile → Outside → Outside → Type 0) (contents : List (List ℕ)) (container : List ℕ) (options : List RunOption) (before after : Outside) : Type 0 where
   pub are : AreContents before.files (Run container options) contents
   pub system : loaded.System
   pub unpacks : unpacked (content 0 contents) ≡ Ok system
@@ -96,57 +97,59 @@ pub record ContainerAlone (Shows : System → ℕ → List PartFile → List Par
   pub numbers : (files : Files) → before.files ≡ Some files → HaveTold (with_inputs system inputs) (ticks_asked (span_in options) system.conf) (scripts_in options)
   pub shows : Shows (with_inputs system inputs) (ticks_asked (span_in options) system.conf) (cores_in options) (scripts_in options) before after
 
--- what a command shows of partitions; those that print no report of a run show nothing here
-abbrev pub CommandAlone : (System → ℕ → List PartFile → List PartFile → Outside → Outside → Type 0) → Command → Outside → Outside → Type 0
-CommandAlone Shows (Bare image ticks) before after = BareAlone Shows image ticks before after
-CommandAlone Shows (Parse description output) before after = Unit {0}
-CommandAlone Shows (Upgrade configuration output) before after = Unit {0}
-CommandAlone Shows (BuildImage program output) before after = Unit {0}
-CommandAlone Shows (ReadImage image) before after = Unit {0}
-CommandAlone Shows (Pack configuration output images) before after = Unit {0}
-CommandAlone Shows (ListContainer container) before after = Unit {0}
-CommandAlone Shows (CheckContainer container) before after = Unit {0}
-CommandAlone Shows (MakePlan description) before after = Unit {0}
-CommandAlone Shows (CheckPlan description) before after = Unit {0}
-CommandAlone Shows (TellGroups description) before after = Unit {0}
-CommandAlone Shows (Generate number) before after = Unit {0}
-CommandAlone Shows (Run container options) before after = ContainerAlone Shows container options before after
-CommandAlone Shows (Replay container part script further) before after = Unit {0}
+-- what a command shows of partitions, by the contents of its files; those that print no report of a run show nothing here
+abbrev pub CommandAlone : (System → ℕ → List PartFile → List PartFile → Outside → Outside → Type 0) → List (List ℕ) → Command → Outside → Outside → Type 0
+CommandAlone Shows contents (Bare image ticks) before after = BareAlone Shows contents image ticks before after
+CommandAlone Shows contents (Parse description output) before after = Unit {0}
+CommandAlone Shows contents (Upgrade configuration output) before after = Unit {0}
+CommandAlone Shows contents (BuildImage program output) before after = Unit {0}
+CommandAlone Shows contents (ReadImage image) before after = Unit {0}
+CommandAlone Shows contents (Pack configuration output images) before after = Unit {0}
+CommandAlone Shows contents (ListContainer container) before after = Unit {0}
+CommandAlone Shows contents (CheckContainer container) before after = Unit {0}
+CommandAlone Shows contents (MakePlan description) before after = Unit {0}
+CommandAlone Shows contents (CheckPlan description) before after = Unit {0}
+CommandAlone Shows contents (TellGroups description) before after = Unit {0}
+CommandAlone Shows contents (Generate number) before after = Unit {0}
+CommandAlone Shows contents (Run container options) before after = ContainerAlone Shows contents container options before after
+CommandAlone Shows contents (Replay container part script further) before after = Unit {0}
 
 -- what words show that are a command
-abbrev pub AreShownAlone : (System → ℕ → List PartFile → List PartFile → Outside → Outside → Type 0) → Option Command → Outside → Outside → Type 0
-AreShownAlone Shows None before after = Unit {0}
-AreShownAlone Shows (Some command) before after = CommandAlone Shows command before after
+abbrev pub AreShownAlone : (System → ℕ → List PartFile → List PartFile → Outside → Outside → Type 0) → List (List ℕ) → Option Command → Outside → Outside → Type 0
+AreShownAlone Shows contents None before after = Unit {0}
+AreShownAlone Shows contents (Some command) before after = CommandAlone Shows contents command before after
 
 -- What a replay shows of a run.
 
--- the partition's own lines of the report of that run and the line of its end went out, and its core file is that after the run
-pub record ShowsOwn (system : System) (ticks part : ℕ) (core : Option (List ℕ)) (before after : Outside) : Type 0 where
+-- the partition's own lines of the report of that run and the line of its end went out, its core file is that after the run, and its UART got the console
+-- bytes that the partition wrote to it in that run
+pub record ShowsOwn (system : System) (ticks part : ℕ) (core : Option (List ℕ)) (before after : Outside) (board left : BoardView) : Type 0 where
   pub printed : after.got ≡ grown before.got (texts (own part (report system ticks)))
   pub written : after.files ≡ (wrote_all (map (λ file. core_output (run (start system) ticks) (record { part = part; file = file })) (name_if_any core)) before).files
+  pub said : IsHeard (own_console system ticks part) (without_marks board) left
 
 -- a replay by the script of a run is not refused, and shows the partition's part of that run
-abbrev pub ReplaysRun : Status → Command → Outside → Outside → Type 0
-ReplaysRun status (Bare image ticks) before after = Unit {0}
-ReplaysRun status (Parse description output) before after = Unit {0}
-ReplaysRun status (Upgrade configuration output) before after = Unit {0}
-ReplaysRun status (BuildImage program output) before after = Unit {0}
-ReplaysRun status (ReadImage image) before after = Unit {0}
-ReplaysRun status (Pack configuration output images) before after = Unit {0}
-ReplaysRun status (ListContainer container) before after = Unit {0}
-ReplaysRun status (CheckContainer container) before after = Unit {0}
-ReplaysRun status (MakePlan description) before after = Unit {0}
-ReplaysRun status (CheckPlan description) before after = Unit {0}
-ReplaysRun status (TellGroups description) before after = Unit {0}
-ReplaysRun status (Generate number) before after = Unit {0}
-ReplaysRun status (Run container options) before after = Unit {0}
-ReplaysRun status (Replay container part script further) before after =
+abbrev pub ReplaysRun : Status → Command → Outside → Outside → BoardView → BoardView → Type 0
+ReplaysRun status (Bare image ticks) before after board left = Unit {0}
+ReplaysRun status (Parse description output) before after board left = Unit {0}
+ReplaysRun status (Upgrade configuration output) before after board left = Unit {0}
+ReplaysRun status (BuildImage program output) before after board left = Unit {0}
+ReplaysRun status (ReadImage image) before after board left = Unit {0}
+ReplaysRun status (Pack configuration output images) before after board left = Unit {0}
+ReplaysRun status (ListContainer container) before after board left = Unit {0}
+ReplaysRun status (CheckContainer container) before after board left = Unit {0}
+ReplaysRun status (MakePlan description) before after board left = Unit {0}
+ReplaysRun status (CheckPlan description) before after board left = Unit {0}
+ReplaysRun status (TellGroups description) before after board left = Unit {0}
+ReplaysRun status (Generate number) before after board left = Unit {0}
+ReplaysRun status (Run container options) before after board left = Unit {0}
+ReplaysRun status (Replay container part script further) before after board left =
     (files : Files) → before.files ≡ Some files → (contents : List (List ℕ)) → read_all files (container ∷ script ∷ name_if_any (replay_input further)) ≡ Ok contents
     → first_long (container ∷ script ∷ name_if_any (replay_input further)) contents ≡ None
     → (system : loaded.System) (inputs : List (List ℕ)) (ticks : ℕ) → IsOfRun (content 0 contents) part (content 1 contents) (input_bytes (replay_input further) (content 2 contents)) system inputs ticks
-    → (status ≢ Refused) × (IsCompleteStatus status → ShowsOwn (with_inputs system inputs) ticks part (replay_core further) before after)
+    → (status ≢ Refused) × (IsCompleteStatus status → ShowsOwn (with_inputs system inputs) ticks part (replay_core further) before after board left)
 
 -- words that are no command replay nothing
-abbrev pub ReplaysAlone : Status → Option Command → Outside → Outside → Type 0
-ReplaysAlone status None before after = Unit {0}
-ReplaysAlone status (Some command) before after = ReplaysRun status command before after
+abbrev pub ReplaysAlone : Status → Option Command → Outside → Outside → BoardView → BoardView → Type 0
+ReplaysAlone status None before after board left = Unit {0}
+ReplaysAlone status (Some command) before after board left = ReplaysRun status command before after board left

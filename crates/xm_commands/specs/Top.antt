@@ -7,9 +7,8 @@ use Rattle.xm_outside.specs.Growth.{grown, GrewByPrefix}
 use Rattle.xm_words.specs.Words.{Command}
 use Rattle.xm_commands.specs.Answer.{answer}
 use Rattle.run_commands.specs.Contents.{read_all}
-use Rattle.file_commands.specs.Ending.{Ending, complaint, status_of}
 use Rattle.file_commands.specs.Outcome.{Output, inputs_of, later_of, name_if_any, outcome_of, output_of}
-use Rattle.file_commands.specs.Work.{Outside, IsWorked, told_all, wrote, wrote_all, counted_by}
+use Rattle.file_commands.specs.Work.{Outside, told_all, wrote, wrote_all, counted_by}
 use Rattle.file_commands.specs.declared.status.Status.{Status}
 use Rattle.file_commands.specs.declared.status.Status.TheVariants.{Done, Refused, Usage, ReadFault, WriteFault, UartFault, NoMemory}
 
@@ -17,13 +16,6 @@ use Rattle.file_commands.specs.declared.status.Status.TheVariants.{Done, Refused
 abbrev pub IsSaid : List ℕ → Option (List ℕ) → ℕ → Option (List ℕ) → ℕ → Type 0
 IsSaid line had before got now =
     ((got ≡ grown had line) × (now ≡ before)) ⊎ (GrewByPrefix had line got × Rose before now)
-
--- the call is explained by an ending: the status and the line on the error output are its own, and its cause holds
-pub record IsExplained (status : Status) (command : Option Command) (before after : Outside) (had : Option (List ℕ)) (error_faults : ℕ) (got : Option (List ℕ)) (error_faults_after : ℕ) : Type 0 where
-  pub ending : Ending
-  pub answered : status ≡ status_of ending
-  pub line : IsSaid (complaint ending) had error_faults got error_faults_after
-  pub cause : IsWorked ending command before after
 
 -- no count of the store or of the report's sink rose
 pub record HasNoFault (before after : Outside) : Type 0 where

@@ -1,38 +1,80 @@
 //! The program over the system: its arguments, its files, its streams, and the files of its UARTs.
 
-ghost use Rattle.std.specs.Prelude.{◌≡◌, ◌<◌, IfOk, false};
+ghost use Rattle.std.specs.Prelude.{◌≡◌, ◌≢◌, ◌<◌, ◌↔◌, IfOk, None, false};
+ghost use Rattle.std.specs.IoError.{error_kind};
 ghost use Rattle.std.specs.Process.{exit_status};
+ghost use Rattle.file_commands.specs.Status.{IsCodeOf};
 ghost use Rattle.xm_outside.specs.FileUart.{uart_file};
-ghost use Rattle.xm_commands.specs.Called.{IsSomeCall};
-ghost use Rattle.xm_commands.specs.Ended.{IsEnded};
+ghost use Rattle.xm_commands.specs.Arguments.{after_name};
+ghost use Rattle.xm_commands.specs.Ended.{IsEndedBy, IsMisuse, IsOnFiles};
+ghost use Rattle.xm_words.specs.Words.{command_of};
 
 use crate::arguments::carry_out;
 use crate::top::misused;
 use file_commands::Status;
-use std::io::{ErrorKind, Write};
+use std::io::{Error, ErrorKind, Write};
 use std::process::ExitCode;
-use std::rt::Runtime;
 use std::{env, io};
-use uart_board::{Board, ViewBoard};
+use uart_board::Board;
 use xm_base::Memory;
 use xm_outside::{FileStore, FileUart, OutSink, Sink, Uart};
 
-/// Does what the process's arguments say, and ends with the code of the status. `stdout` gets the report,
-/// `stderr` the line on an error, and the files `uart0.out` to `uart7.out` what goes to the UARTs. Out of memory for
-/// the UARTs is told by the status alone.
-pub fn program<O: Write + Drop, E: Write + Drop>(rt: &HostRuntime, stdout: O, stderr: E) -> ExitCode
-    ensures ended { IsEnded (exit_status result) }
+/// The process's arguments, the program's name first.
+pub fn arguments_of(rt: &HostRuntime) -> io::Result<Vec<String>> {
+    let given = env::args(rt)?.collect(rt.alloc())?;
+    Ok(given)
+}
+
+/// Does what the arguments say, and ends with the code of the status. `stdout` gets the report, `stderr` the line on an
+/// error, and the files `uart0.out` to `uart7.out` what goes to the UARTs. Out of memory for the arguments or for the
+/// UARTs is reported by the status alone; arguments that cannot be read for another cause are misuse.
+pub fn program<O: Write + Drop, E: Write + Drop>(
+    rt: &HostRuntime,
+    given: io::Result<Vec<String>>,
+    stdout: O,
+    stderr: E,
+) -> ExitCode
+    ensures ended { IsEndedBy given (exit_status result) }
+    ensures usage { IfOk given (λ texts. exit_status result ≢ 6 → ((exit_status result ≡ 2) ↔ (command_of (after_name texts.items) ≡ None))) }
+{
+    let mut out = OutSink::new(stdout);
+    let mut err = OutSink::new(stderr);
+    match given {
+        Ok(texts) => exit_code(on_files(rt, &texts, &mut out, &mut err)),
+        Err(error) => exit_code(unread(&error, &mut err)),
+    }
+}
+
+// The code of a status.
+fn exit_code(status: Status) -> ExitCode
+    ensures { IsCodeOf status (exit_status result) }
+{
+    ExitCode::from(status.code())
+}
+
+// Does what the arguments say, over the files of the system and with the UART of a file at each place of the board.
+fn on_files<O: Sink, E: Sink>(
+    rt: &HostRuntime,
+    given: &[String],
+    out: &mut O,
+    err: &mut E,
+) -> Status
+    ensures called { IsOnFiles result (after_name given.now) (O.got out.old) (O.faults out.old) (O.got out.new) (O.faults out.new)
+        (E.got err.old) (E.faults err.old) (E.got err.new) (E.faults err.new) }
+    ensures silent { result ≡ Status.Done → err.new ≡ err.old }
 {
     let mut board = Board::new();
     for place in 0..8 {
         let Ok(uart) = file_uart(rt, place) else {
-            return ExitCode::from(Status::NoMemory.code());
+            return Status::NoMemory;
         };
         board.set(place, uart);
     }
-    let mut out = OutSink::new(stdout);
-    let mut err = OutSink::new(stderr);
-    ExitCode::from(run(rt, &mut out, &mut err, &mut board).code())
+    let Ok(store) = rt.clone() else {
+        return Status::NoMemory;
+    };
+    let mut files = FileStore::new(store);
+    carry_out(rt.alloc(), given, &mut files, out, err, &mut board)
 }
 
 // The UART of the place's file, which no write has made yet, in a box.
@@ -51,38 +93,15 @@ fn file_uart(rt: &HostRuntime, place: u8) -> Result<Box<FileUart<HostRuntime>>, 
     }
 }
 
-/// Reads the process's arguments and does what they say. Out of memory for them is told by the status
-/// alone; arguments that cannot be read for another cause are misuse.
-pub fn run<R: Runtime + AllocGlobal, O: Sink, E: Sink>(
-    rt: &R,
-    out: &mut O,
-    err: &mut E,
-    board: &mut Board,
-) -> Status
-    ensures called { IsSomeCall result (O.got out.old) (O.faults out.old) (O.got out.new) (O.faults out.new)
-        (E.got err.old) (E.faults err.old) (E.got err.new) (E.faults err.new)
-        (⟦<Board as ViewBoard>⟧.board_view board.old) (⟦<Board as ViewBoard>⟧.board_view board.new) }
+// The answer to arguments that could not be read: there was no memory for them, or they are misused.
+fn unread<E: Sink>(error: &Error, err: &mut E) -> Status
+    ensures starved { error_kind error.now ≡ ErrorKind.OutOfMemory → result ≡ Status.NoMemory }
+    ensures quiet { error_kind error.now ≡ ErrorKind.OutOfMemory → err.new ≡ err.old }
+    ensures misused { error_kind error.now ≢ ErrorKind.OutOfMemory → IsMisuse result (E.got err.old) (E.faults err.old) (E.got err.new) (E.faults err.new) }
     ensures silent { result ≡ Status.Done → err.new ≡ err.old }
 {
-    let Ok(store) = rt.clone() else {
+    if error.kind() == ErrorKind::OutOfMemory {
         return Status::NoMemory;
-    };
-    match arguments(rt) {
-        Ok(given) => carry_out(
-            rt.alloc(),
-            &given,
-            &mut FileStore::new(store),
-            out,
-            err,
-            board,
-        ),
-        Err(error) if error.kind() == ErrorKind::OutOfMemory => Status::NoMemory,
-        Err(_) => misused(err),
     }
-}
-
-// The process's arguments, the program's name first.
-fn arguments<R: Runtime + AllocGlobal>(rt: &R) -> io::Result<Vec<String>> {
-    let given = env::args(rt)?.collect(rt.alloc())?;
-    Ok(given)
+    misused(err)
 }

@@ -5,12 +5,14 @@
 mod arguments;
 mod edge;
 mod generating;
+mod law;
 mod lone_core;
 mod replaying;
 mod top;
 mod work;
 
 pub use arguments::{carry_out, words_after_name};
-pub use edge::{program, run};
+pub use edge::{arguments_of, program};
 pub use file_commands::Status;
+pub use law::runs_then_alone;
 pub use top::{misused, xm_main};

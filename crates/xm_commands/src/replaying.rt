@@ -4,7 +4,8 @@ ghost use Rattle.std.specs.Prelude.{◌≡◌, ◌≤◌, ◌∷◌, None, Some,
 ghost use Rattle.xm_base.specs.declared.limits.TheConstants.{FILE_BYTES};
 ghost use Rattle.alone_replay.specs.Readied.{IsReady, Readies, unready_of};
 ghost use Rattle.file_maker.specs.Ready.{replay_of};
-ghost use Rattle.run_commands.specs.Boards.{IsLeft, LeavesBoard};
+ghost use Rattle.run_commands.specs.Accounts.{HasAccount};
+ghost use Rattle.run_commands.specs.Boards.{LeavesBoard};
 ghost use Rattle.file_commands.specs.Outcome.{content, first_long, input_bytes, input_name, name_if_any, outcome_of, played, replay_outcome};
 ghost use Rattle.core_files.specs.Length.{core_length_of};
 ghost use Rattle.told_scripts.specs.Replayed.{replay_lines};
@@ -13,7 +14,7 @@ ghost use Rattle.told_scripts.specs.Lone.{booted_alone, own_view};
 ghost use Rattle.xm_machine.specs.Outcome.{HasWriteCause};
 ghost use Rattle.xm_commands.specs.Replaying.{HasCoreRoom, ready_of, unready_ending};
 ghost use Rattle.file_commands.specs.Told.{vector_bytes, ending_of};
-ghost use Rattle.file_commands.specs.Work.{Comes, IsDone, outside};
+ghost use Rattle.file_commands.specs.Work.{Comes, outside};
 ghost use Rattle.xm_words.specs.Seen.{seen_further};
 ghost use Rattle.xm_words.specs.Words.{Replay as ReplayPart, replay_input};
 
@@ -41,10 +42,10 @@ pub(crate) fn replay_container<'a, S: Store, O: Sink>(
     out: &mut O,
     board: &mut Board,
 ) -> Ending<'a>
-    ensures done { IsDone (ending_of result) (ReplayPart container.now part script.now (seen_further further.entry))
+    ensures accounted { HasAccount (ending_of result) (Some (ReplayPart container.now part script.now (seen_further further.entry)))
         (outside (S.files files.old) (S.read_faults files.old) (S.write_faults files.old) (S.calls files.old) (O.got out.old) (O.faults out.old))
-        (outside (S.files files.new) (S.read_faults files.new) (S.write_faults files.new) (S.calls files.new) (O.got out.new) (O.faults out.new)) }
-    ensures board { IsLeft (ending_of result) (Some (ReplayPart container.now part script.now (seen_further further.entry))) (S.files files.old) (O.got out.old) (O.got out.new) (⟦<Board as ViewBoard>⟧.board_view board.old) (⟦<Board as ViewBoard>⟧.board_view board.new) }
+        (outside (S.files files.new) (S.read_faults files.new) (S.write_faults files.new) (S.calls files.new) (O.got out.new) (O.faults out.new))
+        (⟦<Board as ViewBoard>⟧.board_view board.old) (⟦<Board as ViewBoard>⟧.board_view board.new) }
 {
     match read_three(alloc, container, script, further.input(), files) {
         Ok(contents) => replay_files(

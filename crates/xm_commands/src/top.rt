@@ -1,10 +1,12 @@
 //! The top call: from words and files to a report and a status.
 
 ghost use Rattle.std.specs.Prelude.{◌≡◌, ◌≢◌, ◌↔◌, None};
-ghost use Rattle.xm_commands.specs.Played.{IsMarked, IsPlayed};
+ghost use Rattle.xm_commands.specs.Accounted.{IsAccounted};
+ghost use Rattle.xm_commands.specs.Complete.{Completes};
+ghost use Rattle.xm_commands.specs.Played.{IsMarked};
 ghost use Rattle.file_commands.specs.Ending.{Misused, complaint};
-ghost use Rattle.xm_commands.specs.Separation.{AreShownAlone, ReplaysAlone, ShowsAlone, ShowsPart};
-ghost use Rattle.xm_commands.specs.Top.{Answers, HasCauses, IsCompleteStatus, IsExplained, IsQuiet, IsSaid, OtherFilesStay};
+ghost use Rattle.xm_commands.specs.Separation.{ReplaysAlone};
+ghost use Rattle.xm_commands.specs.Top.{Answers, HasCauses, IsQuiet, IsSaid, OtherFilesStay};
 ghost use Rattle.file_commands.specs.Work.{outside};
 ghost use Rattle.xm_words.specs.Words.{command_of};
 
@@ -33,35 +35,36 @@ pub fn xm_main<S: Store, O: Sink, E: Sink>(
         (outside (S.files files.new) (S.read_faults files.new) (S.write_faults files.new) (S.calls files.new) (O.got out.new) (O.faults out.new))
         (E.got err.old) (E.faults err.old) (E.got err.new) (E.faults err.new) }
 
-    // Whatever happens, the status and the line on `err` have their cause.
-    ensures explained { IsExplained result (command_of words.now)
+    // Whatever happens, there is one account of the call: status, line, store, report, UARTs, and what a run shows of each partition are of one
+    // ending, and of the same contents of the files that were read.
+    ensures accounted { IsAccounted result (command_of words.now)
         (outside (S.files files.old) (S.read_faults files.old) (S.write_faults files.old) (S.calls files.old) (O.got out.old) (O.faults out.old))
         (outside (S.files files.new) (S.read_faults files.new) (S.write_faults files.new) (S.calls files.new) (O.got out.new) (O.faults out.new))
-        (E.got err.old) (E.faults err.old) (E.got err.new) (E.faults err.new) }
+        (E.got err.old) (E.faults err.old) (E.got err.new) (E.faults err.new)
+        (⟦<Board as ViewBoard>⟧.board_view board.old) (⟦<Board as ViewBoard>⟧.board_view board.new) }
+
+    // Each status has its cause.
     ensures causes { HasCauses result (command_of words.now)
         (outside (S.files files.old) (S.read_faults files.old) (S.write_faults files.old) (S.calls files.old) (O.got out.old) (O.faults out.old))
         (outside (S.files files.new) (S.read_faults files.new) (S.write_faults files.new) (S.calls files.new) (O.got out.new) (O.faults out.new)) }
     ensures usage { (result ≡ Status.Usage) ↔ (command_of words.now ≡ None) }
 
-    // The UARTs of the board got the console bytes of the run, and a place is marked exactly where its UART failed.
-    ensures played { IsPlayed result (command_of words.now) (S.files files.old) (O.got out.old) (O.got out.new) (E.got err.old) (E.faults err.old) (E.got err.new) (E.faults err.new)
-        (⟦<Board as ViewBoard>⟧.board_view board.old) (⟦<Board as ViewBoard>⟧.board_view board.new) }
+    // A command against which nothing stands is done, or memory ran out.
+    ensures complete { Completes result (command_of words.now)
+        (outside (S.files files.old) (S.read_faults files.old) (S.write_faults files.old) (S.calls files.old) (O.got out.old) (O.faults out.old))
+        (outside (S.files files.new) (S.read_faults files.new) (S.write_faults files.new) (S.calls files.new) (O.got out.new) (O.faults out.new))
+        (⟦<Board as ViewBoard>⟧.board_view board.new) }
+
+    // The board of UARTs.
     ensures marked { result ≡ Status.UartFault → IsMarked (⟦<Board as ViewBoard>⟧.board_view board.new) }
     ensures still { IsQuiet result → ⟦<Board as ViewBoard>⟧.board_view board.new ≡ ⟦<Board as ViewBoard>⟧.board_view board.old }
 
-    // After a run that is carried out, what went out and what was written shows of each partition what it is alone; so does what there is
-    // of it where the report or a core file was not written.
-    ensures alone { IsCompleteStatus result → AreShownAlone ShowsAlone (command_of words.now)
-        (outside (S.files files.old) (S.read_faults files.old) (S.write_faults files.old) (S.calls files.old) (O.got out.old) (O.faults out.old))
-        (outside (S.files files.new) (S.read_faults files.new) (S.write_faults files.new) (S.calls files.new) (O.got out.new) (O.faults out.new)) }
-    ensures part { result ≡ Status.WriteFault → AreShownAlone ShowsPart (command_of words.now)
-        (outside (S.files files.old) (S.read_faults files.old) (S.write_faults files.old) (S.calls files.old) (O.got out.old) (O.faults out.old))
-        (outside (S.files files.new) (S.read_faults files.new) (S.write_faults files.new) (S.calls files.new) (O.got out.new) (O.faults out.new)) }
-
-    // A replay by the script that a run made is not refused, and what goes out and is written is the partition's part of that run.
+    // A replay by the script that a run made is not refused, and what goes out, is written and is said to UARTs is the partition's part
+    // of that run.
     ensures replayed { ReplaysAlone result (command_of words.now)
         (outside (S.files files.old) (S.read_faults files.old) (S.write_faults files.old) (S.calls files.old) (O.got out.old) (O.faults out.old))
-        (outside (S.files files.new) (S.read_faults files.new) (S.write_faults files.new) (S.calls files.new) (O.got out.new) (O.faults out.new)) }
+        (outside (S.files files.new) (S.read_faults files.new) (S.write_faults files.new) (S.calls files.new) (O.got out.new) (O.faults out.new))
+        (⟦<Board as ViewBoard>⟧.board_view board.old) (⟦<Board as ViewBoard>⟧.board_view board.new) }
 
     // What stands afterwards.
     ensures silent { result ≡ Status.Done → err.new ≡ err.old }

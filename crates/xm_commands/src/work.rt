@@ -1,10 +1,10 @@
 //! What the words say is done.
 
 ghost use Rattle.std.specs.Prelude.{Some};
-ghost use Rattle.run_commands.specs.Boards.{IsLeft};
+ghost use Rattle.run_commands.specs.Accounts.{HasAccount};
 ghost use Rattle.file_commands.specs.Told.{ending_of};
 ghost use Rattle.xm_commands.specs.Ticks.{HasTicks};
-ghost use Rattle.file_commands.specs.Work.{IsWorked, outside};
+ghost use Rattle.file_commands.specs.Work.{outside};
 ghost use Rattle.run_commands.specs.Numbers.{HasScripts, WordsTell};
 ghost use Rattle.xm_words.specs.Seen.{command_seen};
 ghost use Rattle.xm_words.specs.Words.{command_of};
@@ -31,10 +31,10 @@ pub(crate) fn work<'a, S: Store, O: Sink>(
     out: &mut O,
     board: &mut Board,
 ) -> Ending<'a>
-    ensures worked { IsWorked (ending_of result) (command_of words.now)
+    ensures accounted { HasAccount (ending_of result) (command_of words.now)
         (outside (S.files files.old) (S.read_faults files.old) (S.write_faults files.old) (S.calls files.old) (O.got out.old) (O.faults out.old))
-        (outside (S.files files.new) (S.read_faults files.new) (S.write_faults files.new) (S.calls files.new) (O.got out.new) (O.faults out.new)) }
-    ensures board { IsLeft (ending_of result) (command_of words.now) (S.files files.old) (O.got out.old) (O.got out.new) (⟦<Board as ViewBoard>⟧.board_view board.old) (⟦<Board as ViewBoard>⟧.board_view board.new) }
+        (outside (S.files files.new) (S.read_faults files.new) (S.write_faults files.new) (S.calls files.new) (O.got out.new) (O.faults out.new))
+        (⟦<Board as ViewBoard>⟧.board_view board.old) (⟦<Board as ViewBoard>⟧.board_view board.new) }
     ensures numbers { HasScripts (ending_of result) → WordsTell (command_of words.now) (S.files files.old) }
 {
     grammar();
@@ -53,10 +53,10 @@ fn carry_out<'a, S: Store, O: Sink>(
     board: &mut Board,
 ) -> Ending<'a>
     requires { HasTicks command }
-    ensures worked { IsWorked (ending_of result) (command_seen (Some command.entry))
+    ensures accounted { HasAccount (ending_of result) (command_seen (Some command.entry))
         (outside (S.files files.old) (S.read_faults files.old) (S.write_faults files.old) (S.calls files.old) (O.got out.old) (O.faults out.old))
-        (outside (S.files files.new) (S.read_faults files.new) (S.write_faults files.new) (S.calls files.new) (O.got out.new) (O.faults out.new)) }
-    ensures board { IsLeft (ending_of result) (command_seen (Some command.entry)) (S.files files.old) (O.got out.old) (O.got out.new) (⟦<Board as ViewBoard>⟧.board_view board.old) (⟦<Board as ViewBoard>⟧.board_view board.new) }
+        (outside (S.files files.new) (S.read_faults files.new) (S.write_faults files.new) (S.calls files.new) (O.got out.new) (O.faults out.new))
+        (⟦<Board as ViewBoard>⟧.board_view board.old) (⟦<Board as ViewBoard>⟧.board_view board.new) }
     ensures numbers { HasScripts (ending_of result) → WordsTell (command_seen (Some command.entry)) (S.files files.old) }
 {
     match command {

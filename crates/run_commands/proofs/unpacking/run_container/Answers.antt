@@ -2,35 +2,25 @@ use Rattle.std.proofs.Common.{map}
 use Rattle.xm_words.specs.Seen.{seen_options}
 use Rattle.xm_words.specs.Words.{Run}
 use Rattle.file_commands.specs.Told.{vector_bytes, ending_of}
-use Rattle.run_commands.specs.BoardLemmas.{left_by, left_not_all_read}
-use Rattle.file_commands.specs.CommandLemmas.{comes_from, done_by, not_all_read_done}
+use Rattle.run_commands.specs.AccountLemmas.{accounted_by, accounted_unread}
+use Rattle.file_commands.specs.CommandLemmas.{comes_from}
 use Rattle.run_commands.proofs.NumberLemmas.{told_whole, unread_unmade}
 use Rattle.run_commands.proofs.unpacking.run_container.Goals as goal
 
-pub returns-in-Ok-clause-done : goal.returns-in-Ok-clause-done
-returns-in-Ok-clause-done g c =
+pub returns-in-Ok-clause-accounted : goal.returns-in-Ok-clause-accounted
+returns-in-Ok-clause-accounted g c =
     let command = Run c.args.container.now (seen_options c.args.options) in
     let ending = ending_of c.run_files.result in
     let contents = map vector_bytes c.in-Ok.contents.items in
     let read = rw c.inputs.ensures.value at c.in-Ok.ensures (g.O.Sink.got c.args.out.now) (g.O.Sink.faults c.args.out.now) in
     let comes = rw c.deref.ensures.value at c.run_files.ensures.comes in
-    done_by ending command contents _ _ read.0 (comes_from ending _ _ _ _ read.1 comes)
-
-pub returns-in-Err-clause-done : goal.returns-in-Err-clause-done
-returns-in-Err-clause-done g c =
-    let not_read = rw c.inputs.ensures.value at c.in-Err.ensures (g.O.Sink.got c.args.out.now) (g.O.Sink.faults c.args.out.now) in
-    not_all_read_done (ending_of c.in-Err.ending) (Run c.args.container.now (seen_options c.args.options)) _ _ not_read
-
-pub returns-in-Ok-clause-board : goal.returns-in-Ok-clause-board
-returns-in-Ok-clause-board g c =
-    let read = rw c.inputs.ensures.value at c.in-Ok.ensures (g.O.Sink.got c.args.out.now) (g.O.Sink.faults c.args.out.now) in
     let leaves = rw c.deref.ensures.value at c.run_files.ensures.board in
-    left_by (ending_of c.run_files.result) (Run c.args.container.now (seen_options c.args.options)) _ (map vector_bytes c.in-Ok.contents.items) _ _ (record { places = _; marks = _ }) (record { places = _; marks = _ }) read.0 leaves
+    accounted_by ending command contents _ _ (record { places = _; marks = _ }) (record { places = _; marks = _ }) read.0 (comes_from ending _ _ _ _ read.1 comes) leaves
 
-pub returns-in-Err-clause-board : goal.returns-in-Err-clause-board
-returns-in-Err-clause-board g c =
+pub returns-in-Err-clause-accounted : goal.returns-in-Err-clause-accounted
+returns-in-Err-clause-accounted g c =
     let not_read = rw c.inputs.ensures.value at c.in-Err.ensures (g.O.Sink.got c.args.out.now) (g.O.Sink.faults c.args.out.now) in
-    left_not_all_read (ending_of c.in-Err.ending) (Run c.args.container.now (seen_options c.args.options)) _ _ _ _ _ _ (record { places = _; marks = _ }) not_read
+    accounted_unread (ending_of c.in-Err.ending) (Run c.args.container.now (seen_options c.args.options)) _ _ (record { places = _; marks = _ }) not_read
 
 pub returns-in-Ok-clause-numbers : goal.returns-in-Ok-clause-numbers
 returns-in-Ok-clause-numbers g c = λ made.

@@ -1,48 +1,46 @@
 use Rattle.file_commands.specs.Told.{ending_of}
 use Rattle.xm_words.specs.Seen.{seen_files}
 use Rattle.xm_words.specs.Words.{Parse, Upgrade, BuildImage, ReadImage, Pack, ListContainer, CheckContainer, MakePlan, CheckPlan, TellGroups, Generate}
-use Rattle.xm_commands.proofs.BoardLemmas.{build_runs, check_plan_runs, check_runs, generate_runs, left_still, list_runs, make_plan_runs, pack_runs, parse_runs, read_runs, tell_groups_runs, upgrade_runs}
+use Rattle.xm_commands.proofs.BoardLemmas.{build_runs, check_plan_runs, check_runs, generate_runs, list_runs, make_plan_runs, pack_runs, parse_runs, read_runs, tell_groups_runs, upgrade_runs}
+use Rattle.run_commands.specs.AccountLemmas.{still_accounted}
 use Rattle.xm_commands.proofs.GeneratingLemmas.{generate_done}
 use Rattle.xm_commands.proofs.work.carry_out.Goals as goal
 
-pub returns-in-Parse-clause-board : goal.returns-in-Parse-clause-board
-returns-in-Parse-clause-board g c = rw c.in-Parse.is (left_still (ending_of c.parse.result) (Parse c.in-Parse.description.now c.in-Parse.output.now) _ _ _ _ (record { places = _; marks = _ }) (parse_runs c.in-Parse.description.now c.in-Parse.output.now) c.parse.ensures)
+pub returns-in-Parse-clause-accounted : goal.returns-in-Parse-clause-accounted
+returns-in-Parse-clause-accounted g c = rw c.in-Parse.is (still_accounted (ending_of c.parse.result) (Parse c.in-Parse.description.now c.in-Parse.output.now) _ _ (record { places = _; marks = _ }) (parse_runs c.in-Parse.description.now c.in-Parse.output.now) c.parse.ensures)
 
-pub returns-in-Upgrade-clause-board : goal.returns-in-Upgrade-clause-board
-returns-in-Upgrade-clause-board g c = rw c.in-Upgrade.is (left_still (ending_of c.upgrade.result) (Upgrade c.in-Upgrade.configuration.now c.in-Upgrade.output.now) _ _ _ _ (record { places = _; marks = _ }) (upgrade_runs c.in-Upgrade.configuration.now c.in-Upgrade.output.now) c.upgrade.ensures)
+pub returns-in-Upgrade-clause-accounted : goal.returns-in-Upgrade-clause-accounted
+returns-in-Upgrade-clause-accounted g c = rw c.in-Upgrade.is (still_accounted (ending_of c.upgrade.result) (Upgrade c.in-Upgrade.configuration.now c.in-Upgrade.output.now) _ _ (record { places = _; marks = _ }) (upgrade_runs c.in-Upgrade.configuration.now c.in-Upgrade.output.now) c.upgrade.ensures)
 
-pub returns-in-BuildImage-clause-board : goal.returns-in-BuildImage-clause-board
-returns-in-BuildImage-clause-board g c = rw c.in-BuildImage.is (left_still (ending_of c.build_image.result) (BuildImage c.in-BuildImage.program.now c.in-BuildImage.output.now) _ _ _ _ (record { places = _; marks = _ }) (build_runs c.in-BuildImage.program.now c.in-BuildImage.output.now) c.build_image.ensures)
+pub returns-in-BuildImage-clause-accounted : goal.returns-in-BuildImage-clause-accounted
+returns-in-BuildImage-clause-accounted g c = rw c.in-BuildImage.is (still_accounted (ending_of c.build_image.result) (BuildImage c.in-BuildImage.program.now c.in-BuildImage.output.now) _ _ (record { places = _; marks = _ }) (build_runs c.in-BuildImage.program.now c.in-BuildImage.output.now) c.build_image.ensures)
 
-pub returns-in-ReadImage-clause-board : goal.returns-in-ReadImage-clause-board
-returns-in-ReadImage-clause-board g c = rw c.in-ReadImage.is (left_still (ending_of c.tell.result) (ReadImage c.in-ReadImage.image.now) _ _ _ _ (record { places = _; marks = _ }) (read_runs c.in-ReadImage.image.now) c.tell.ensures)
+pub returns-in-ReadImage-clause-accounted : goal.returns-in-ReadImage-clause-accounted
+returns-in-ReadImage-clause-accounted g c = rw c.in-ReadImage.is (still_accounted (ending_of c.tell.result) (ReadImage c.in-ReadImage.image.now) _ _ (record { places = _; marks = _ }) (read_runs c.in-ReadImage.image.now) c.tell.ensures)
 
-pub returns-in-Pack-clause-board : goal.returns-in-Pack-clause-board
-returns-in-Pack-clause-board g c = rw c.in-Pack.is (left_still (ending_of c.pack_files.result) (Pack c.in-Pack.configuration.now c.in-Pack.output.now (seen_files c.in-Pack.images)) _ _ _ _ (record { places = _; marks = _ }) (pack_runs c.in-Pack.configuration.now c.in-Pack.output.now (seen_files c.in-Pack.images)) c.pack_files.ensures)
+pub returns-in-Pack-clause-accounted : goal.returns-in-Pack-clause-accounted
+returns-in-Pack-clause-accounted g c = rw c.in-Pack.is (still_accounted (ending_of c.pack_files.result) (Pack c.in-Pack.configuration.now c.in-Pack.output.now (seen_files c.in-Pack.images)) _ _ (record { places = _; marks = _ }) (pack_runs c.in-Pack.configuration.now c.in-Pack.output.now (seen_files c.in-Pack.images)) c.pack_files.ensures)
 
-pub returns-in-ListContainer-clause-board : goal.returns-in-ListContainer-clause-board
-returns-in-ListContainer-clause-board g c = rw c.in-ListContainer.is (left_still (ending_of c.tell-in-ListContainer.result) (ListContainer c.in-ListContainer.container.now) _ _ _ _ (record { places = _; marks = _ }) (list_runs c.in-ListContainer.container.now) c.tell-in-ListContainer.ensures)
+pub returns-in-ListContainer-clause-accounted : goal.returns-in-ListContainer-clause-accounted
+returns-in-ListContainer-clause-accounted g c = rw c.in-ListContainer.is (still_accounted (ending_of c.tell-in-ListContainer.result) (ListContainer c.in-ListContainer.container.now) _ _ (record { places = _; marks = _ }) (list_runs c.in-ListContainer.container.now) c.tell-in-ListContainer.ensures)
 
-pub returns-in-CheckContainer-clause-board : goal.returns-in-CheckContainer-clause-board
-returns-in-CheckContainer-clause-board g c = rw c.in-CheckContainer.is (left_still (ending_of c.tell-in-CheckContainer.result) (CheckContainer c.in-CheckContainer.container.now) _ _ _ _ (record { places = _; marks = _ }) (check_runs c.in-CheckContainer.container.now) c.tell-in-CheckContainer.ensures)
+pub returns-in-CheckContainer-clause-accounted : goal.returns-in-CheckContainer-clause-accounted
+returns-in-CheckContainer-clause-accounted g c = rw c.in-CheckContainer.is (still_accounted (ending_of c.tell-in-CheckContainer.result) (CheckContainer c.in-CheckContainer.container.now) _ _ (record { places = _; marks = _ }) (check_runs c.in-CheckContainer.container.now) c.tell-in-CheckContainer.ensures)
 
-pub returns-in-MakePlan-clause-board : goal.returns-in-MakePlan-clause-board
-returns-in-MakePlan-clause-board g c = rw c.in-MakePlan.is (left_still (ending_of c.tell-in-MakePlan.result) (MakePlan c.in-MakePlan.description.now) _ _ _ _ (record { places = _; marks = _ }) (make_plan_runs c.in-MakePlan.description.now) c.tell-in-MakePlan.ensures)
+pub returns-in-MakePlan-clause-accounted : goal.returns-in-MakePlan-clause-accounted
+returns-in-MakePlan-clause-accounted g c = rw c.in-MakePlan.is (still_accounted (ending_of c.tell-in-MakePlan.result) (MakePlan c.in-MakePlan.description.now) _ _ (record { places = _; marks = _ }) (make_plan_runs c.in-MakePlan.description.now) c.tell-in-MakePlan.ensures)
 
-pub returns-in-CheckPlan-clause-board : goal.returns-in-CheckPlan-clause-board
-returns-in-CheckPlan-clause-board g c = rw c.in-CheckPlan.is (left_still (ending_of c.tell-in-CheckPlan.result) (CheckPlan c.in-CheckPlan.description.now) _ _ _ _ (record { places = _; marks = _ }) (check_plan_runs c.in-CheckPlan.description.now) c.tell-in-CheckPlan.ensures)
+pub returns-in-CheckPlan-clause-accounted : goal.returns-in-CheckPlan-clause-accounted
+returns-in-CheckPlan-clause-accounted g c = rw c.in-CheckPlan.is (still_accounted (ending_of c.tell-in-CheckPlan.result) (CheckPlan c.in-CheckPlan.description.now) _ _ (record { places = _; marks = _ }) (check_plan_runs c.in-CheckPlan.description.now) c.tell-in-CheckPlan.ensures)
 
-pub returns-in-TellGroups-clause-board : goal.returns-in-TellGroups-clause-board
-returns-in-TellGroups-clause-board g c = rw c.in-TellGroups.is (left_still (ending_of c.tell-in-TellGroups.result) (TellGroups c.in-TellGroups.description.now) _ _ _ _ (record { places = _; marks = _ }) (tell_groups_runs c.in-TellGroups.description.now) c.tell-in-TellGroups.ensures)
+pub returns-in-TellGroups-clause-accounted : goal.returns-in-TellGroups-clause-accounted
+returns-in-TellGroups-clause-accounted g c = rw c.in-TellGroups.is (still_accounted (ending_of c.tell-in-TellGroups.result) (TellGroups c.in-TellGroups.description.now) _ _ (record { places = _; marks = _ }) (tell_groups_runs c.in-TellGroups.description.now) c.tell-in-TellGroups.ensures)
 
-pub returns-in-Generate-clause-worked : goal.returns-in-Generate-clause-worked
-returns-in-Generate-clause-worked g c = rw c.in-Generate.is (generate_done (ending_of c.generate.result) c.in-Generate.number _ _ _ _ _ _ _ _ c.generate.ensures)
-
-pub returns-in-Generate-clause-board : goal.returns-in-Generate-clause-board
-returns-in-Generate-clause-board g c =
+pub returns-in-Generate-clause-accounted : goal.returns-in-Generate-clause-accounted
+returns-in-Generate-clause-accounted g c =
     let done =
     generate_done (ending_of c.generate.result) c.in-Generate.number (g.S.Store.files c.args.files.now) (g.S.Store.read_faults c.args.files.now) (g.S.Store.write_faults c.args.files.now) (g.S.Store.calls c.args.files.now) _ _ _ _ c.generate.ensures in
-    rw c.in-Generate.is (left_still (ending_of c.generate.result) (Generate c.in-Generate.number) _ _ _ _ (record { places = _; marks = _ }) (generate_runs c.in-Generate.number) done)
+    rw c.in-Generate.is (still_accounted (ending_of c.generate.result) (Generate c.in-Generate.number) _ _ (record { places = _; marks = _ }) (generate_runs c.in-Generate.number) done)
 
 pub returns-in-Run-clause-numbers : goal.returns-in-Run-clause-numbers
 returns-in-Run-clause-numbers g c = rw c.in-Run.is c.run_container.ensures.numbers

@@ -1,0 +1,462 @@
+-- What a run and the replay after it answer.
+use Rattle.std.proofs.Common.{◌≡◌, ◌≢◌, ℕ, zero, suc, ◌%◌, ◌<◌, ◌≤◌, ◌==◌, ◌⊎◌, ⊎_elim, Bool, true, false, nat_eq, nat_lt, if◌then◌else◌, cond, List, [], ◌∷◌, ◌++◌, length, map, drop, replicate, Option, Some, None, Result, Ok, Err, refl, sym, ap, ◌∙◌, subst, arith}
+use Rattle.std.specs.Prelude.{slice_index_or, slice_set}
+use Rattle.std.specs.FinMap.{get, insert}
+use Rattle.std.proofs.lemmas.Bool.{eqb-true}
+use Rattle.std.proofs.lemmas.Bool.Decides.{nat_tests}
+use Rattle.std.proofs.lemmas.List.{append_assoc, get_or-set_other, get_or-set_same, length-replicate, length-set, map-append}
+use Rattle.xm_base.specs.declared.limits.TheConstants.{FILE_BYTES, TICKS}
+use Rattle.xm_outside.specs.Files.{Files}
+use Rattle.xm_report.specs.Report.{ReportLine, texts}
+use Rattle.alone_replay.specs.OfRun.{IsOfRun, RunIsReplayed}
+use Rattle.file_texts.specs.declared.fault.BoxFault.{BoxFault}
+use Rattle.loaded_system.specs.System.{System as Loaded}
+use Rattle.machine_model.specs.Cue.{script}
+use Rattle.machine_model.specs.Lines.{own, report}
+use Rattle.machine_model.specs.Machine.{Machine, run, start}
+use Rattle.machine_model.specs.View.{System, view_of}
+use Rattle.told_scripts.specs.Replayed.{replay_lines}
+use Rattle.file_maker.specs.Ready.{Replay as Readied}
+use Rattle.whole_system.specs.Inputs.{words_in}
+use Rattle.whole_system.specs.State.{with_inputs}
+use Rattle.xm_container.specs.Reading.{unpacked}
+use Rattle.xm_words.specs.Words.{Command, PartFile, ReplayFiles, RunOption, Run, Replay, command_of, cores_in, inputs_in, replay_core, replay_input, scripts_in, span_in}
+use Rattle.file_commands.specs.CommandLemmas.{outcome-long, outcome-short}
+use Rattle.file_commands.specs.Denial.{Denial}
+use Rattle.file_commands.specs.Ending.{input_text, status_of, ticks_text}
+use Rattle.file_commands.specs.Inputs.{first_beyond, inputs_for, inputs_with, no_inputs, unless_beyond}
+use Rattle.file_commands.specs.LaterLemmas.{output_names}
+use Rattle.file_commands.specs.Outcome.{Output, Outcome, command_refused, content, core_output, core_outputs, first_long, input_bytes, inputs_of, name_if_any, outcome_of, outcome_of_contents, outcome_of_run, played, ran_scripted, replay_output, ran_with, ran_within, refused_by, run_by, run_outcome, script_bytes, script_denial, script_before, script_output, scripts_for, ticks_asked, unless_denied}
+use Rattle.file_commands.specs.Packing.{denial, file_names}
+use Rattle.file_commands.specs.declared.status.Status.{Status}
+use Rattle.file_commands.specs.declared.status.Status.TheVariants.{Done, ReadFault}
+use Rattle.run_commands.specs.Contents.{read_all, read_before}
+use Rattle.run_commands.specs.CoreLemmas.{scripts_inside}
+use Rattle.run_commands.specs.Cores.{AreForPartitions}
+use Rattle.run_commands.specs.InputLemmas.{rest_short}
+use Rattle.xm_commands.specs.Answer.{Answer, answer, answer_to_read, command_answer, ending_answer, ending_by, files_saved, outcome_answer, saved_all}
+use Rattle.xm_commands.specs.RunThenAlone.{AnswersAsRun, BelongsTo, HoldsBytes, IsUntouched, RunsThenAlone, input_of, input_or}
+use Rattle.xm_commands.specs.Top.{IsNoneOf, writes_of}
+use Rattle.xm_commands.proofs.OutsideLemmas.{stored-others, stored-same}
+use Rattle.xm_commands.proofs.ReplayedLemmas.{begun_outcome, own_cores}
+use Rattle.xm_commands.proofs.SeparationLemmas.{scripts_are}
+
+-- Files that were written.
+
+-- one that is none of them is as it was
+saved_keeps : (outputs : List Output) (files : Files) (other : List ℕ) → IsNoneOf (output_names outputs) other → get (saved_all outputs files) other ≡ get files other
+saved_keeps [] files other none = refl
+saved_keeps (output ∷ outputs) files other none = saved_keeps outputs (insert files output.file output.bytes) other none.1 ∙ stored-others files output.file output.bytes other none.0
+
+-- one of them, which none after it is
+saved_has : (earlier : List Output) (output : Output) (later : List Output) (files : Files) → IsNoneOf (output_names later) output.file → get (saved_all (earlier ++ output ∷ later) files) output.file ≡ Some output.bytes
+saved_has [] output later files none = saved_keeps later (insert files output.file output.bytes) output.file none ∙ stored-same files output.file output.bytes
+saved_has (one ∷ earlier) output later files none = saved_has earlier output later (insert files one.file one.bytes) none
+
+-- the names of files that are made for partitions are those that are given
+made_names : (make : PartFile → Output) → ((named : PartFile) → (make named).file ≡ named.file) → (files : List PartFile) (other : List ℕ) → IsNoneOf (file_names files) other → IsNoneOf (output_names (map make files)) other
+made_names make same [] other none = tt
+made_names make same (named ∷ files) other none = (subst (λ (file : List ℕ). other ≢ file) (sym (same named)) none.0, made_names make same files other none.1)
+
+-- what is none of two lists' names is none of either's, and the other way round
+none_both : (names more : List (List ℕ)) (other : List ℕ) → IsNoneOf names other → IsNoneOf more other → IsNoneOf (names ++ more) other
+none_both [] more other none rest = rest
+none_both (name ∷ names) more other none rest = (none.0, none_both names more other none.1 rest)
+
+none_apart : (names more : List (List ℕ)) (other : List ℕ) → IsNoneOf (names ++ more) other → IsNoneOf names other × IsNoneOf more other
+none_apart [] more other none = (tt, none)
+none_apart (name ∷ names) more other none = (let rest = none_apart names more other none.1 in ((none.0, rest.0), rest.1))
+
+-- A run that was not refused.
+
+-- its files are short, its container is unpacked, its inputs are given, its ticks are within the limit, and its scripts are made
+record WasRan (container : List ℕ) (options : List RunOption) (contents : List (List ℕ)) : Type 0 where
+  short : first_long (container ∷ file_names (inputs_in options)) contents ≡ None
+  system : Loaded
+  unpacks : unpacked (content 0 contents) ≡ Ok system
+  inputs : List (List ℕ)
+  given : inputs_for (length system.conf.parts) options (drop 1 contents) ≡ Ok inputs
+  most : ticks_asked (span_in options) system.conf ≤ TICKS
+  outputs : List Output
+  made : scripts_for (with_inputs system inputs) (ticks_asked (span_in options) system.conf) (scripts_in options) ≡ Ok outputs
+  is : outcome_of (Run container options) contents ≡ outcome_of_run (ticks_asked (span_in options) system.conf) (cores_in options) outputs system inputs
+
+module _ (container : List ℕ) (options : List RunOption) (contents : List (List ℕ)) (granted : (outcome_of (Run container options) contents).denial ≡ None) where
+  -- no refusal is what it comes to
+  never : (denial : Denial) → outcome_of (Run container options) contents ≡ refused_by denial → ⊥
+  never denial same = (let wrong : None ≡ Some denial = sym granted ∙ ap (λ (o : Outcome). o.denial) same in cc)
+
+  by_scripts : first_long (container ∷ file_names (inputs_in options)) contents ≡ None → (system : Loaded) → unpacked (content 0 contents) ≡ Ok system
+      → (inputs : List (List ℕ)) → inputs_for (length system.conf.parts) options (drop 1 contents) ≡ Ok inputs → ticks_asked (span_in options) system.conf ≤ TICKS
+      → (made : Result (List Output) Denial) → scripts_for (with_inputs system inputs) (ticks_asked (span_in options) system.conf) (scripts_in options) ≡ made
+      → outcome_of (Run container options) contents ≡ ran_scripted (ticks_asked (span_in options) system.conf) (cores_in options) system inputs made → WasRan container options contents
+  by_scripts short system unpacks inputs given most (Ok outputs) made same = record {
+    short = short;
+    system = system;
+    unpacks = unpacks;
+    inputs = inputs;
+    given = given;
+    most = most;
+    outputs = outputs;
+    made = made;
+    is = same;
+  }
+  by_scripts short system unpacks inputs given most (Err refusal) made same = absurd (never refusal same)
+
+  by_ticks : first_long (container ∷ file_names (inputs_in options)) contents ≡ None → (system : Loaded) → unpacked (content 0 contents) ≡ Ok system
+      → (inputs : List (List ℕ)) → inputs_for (length system.conf.parts) options (drop 1 contents) ≡ Ok inputs
+      → (t : Bool) → nat_lt TICKS (ticks_asked (span_in options) system.conf) ≡ t
+      → outcome_of (Run container options) contents
+      ≡ (if t then command_refused container (ticks_text (ticks_asked (span_in options) system.conf))
+      else ran_scripted (ticks_asked (span_in options) system.conf) (cores_in options) system inputs (scripts_for (with_inputs system inputs) (ticks_asked (span_in options) system.conf) (scripts_in options))) → WasRan container options contents
+  by_ticks short system unpacks inputs given true over same = absurd (never _ same)
+  by_ticks short system unpacks inputs given false within same = by_scripts short system unpacks inputs given (grind (arith, nat_tests)) (scripts_for (with_inputs system inputs) (ticks_asked (span_in options) system.conf) (scripts_in options)) refl same
+
+  by_inputs : first_long (container ∷ file_names (inputs_in options)) contents ≡ None → (system : Loaded) → unpacked (content 0 contents) ≡ Ok system
+      → (read : Result (List (List ℕ)) Denial) → inputs_for (length system.conf.parts) options (drop 1 contents) ≡ read
+      → outcome_of (Run container options) contents ≡ ran_with container options system read → WasRan container options contents
+  unfolding ran_within
+  by_inputs short system unpacks (Ok inputs) given same = by_ticks short system unpacks inputs given (nat_lt TICKS (ticks_asked (span_in options) system.conf)) refl same
+  by_inputs short system unpacks (Err refusal) given same = absurd (never refusal same)
+
+  by_container : first_long (container ∷ file_names (inputs_in options)) contents ≡ None → (read : Result Loaded BoxFault) → unpacked (content 0 contents) ≡ read
+      → outcome_of (Run container options) contents ≡ run_by container options (drop 1 contents) read → WasRan container options contents
+  by_container short (Ok system) unpacks same = by_inputs short system unpacks (inputs_for (length system.conf.parts) options (drop 1 contents)) refl same
+  by_container short (Err fault) unpacks same = absurd (never _ same)
+
+  by_length : (long : Option (List ℕ)) → first_long (container ∷ file_names (inputs_in options)) contents ≡ long → WasRan container options contents
+  unfolding run_outcome
+  by_length None short = by_container short (unpacked (content 0 contents)) refl (outcome-short (Run container options) contents short)
+  by_length (Some file) long = absurd (never _ (outcome-long (Run container options) contents file long))
+
+  was_ran : WasRan container options contents
+  was_ran = by_length (first_long (container ∷ file_names (inputs_in options)) contents) refl
+
+-- a script that was made is short enough for a file
+script_short : (system : System) (ticks : ℕ) (earlier : List PartFile) (named : PartFile) (later : List PartFile) (outputs : List Output) → scripts_for system ticks (earlier ++ named ∷ later) ≡ Ok outputs
+    → length (script_bytes system ticks named.part) ≤ FILE_BYTES
+script_short system ticks [] named later outputs made = at _ (nat_lt FILE_BYTES (length (script_bytes system ticks named.part))) refl made
+  where
+    at : (r : Denial) (t : Bool) → nat_lt FILE_BYTES (length (script_bytes system ticks named.part)) ≡ t
+        → unless_denied (if t then Some r else None) (script_before (script_output system ticks named) (scripts_for system ticks later)) ≡ Ok outputs → length (script_bytes system ticks named.part) ≤ FILE_BYTES
+    at r true over e = absurd (cc)
+    at r false within e = grind (arith, nat_tests)
+script_short system ticks (one ∷ earlier) named later outputs made =
+    at (script_denial system ticks one) (scripts_for system ticks (earlier ++ named ∷ later)) refl (λ others rest. script_short system ticks earlier named later others rest) made
+  where
+    at : (refusal : Option Denial) (others : Result (List Output) Denial) → scripts_for system ticks (earlier ++ named ∷ later) ≡ others
+        → ((outs : List Output) → scripts_for system ticks (earlier ++ named ∷ later) ≡ Ok outs → length (script_bytes system ticks named.part) ≤ FILE_BYTES)
+        → unless_denied refusal (script_before (script_output system ticks one) others) ≡ Ok outputs → length (script_bytes system ticks named.part) ≤ FILE_BYTES
+    at (Some refusal) others is rest e = absurd (cc)
+    at None (Err refusal) is rest e = absurd (cc)
+    at None (Ok outs) is rest e = rest outs is
+
+-- The partition's input words.
+
+-- a file gives these words
+record IsGiven (files : Files) (file words : List ℕ) : Type 0 where
+  bytes : List ℕ
+  there : get files file ≡ Some bytes
+  short : length bytes ≤ FILE_BYTES
+  whole : length bytes % 4 ≡ 0
+  words_are : words ≡ words_in bytes
+
+-- a partition has the words that its file gives it, or those that it had
+abbrev GivenBy : Files → Option (List ℕ) → List ℕ → List ℕ → Type 0
+GivenBy files None had words = words ≡ had
+GivenBy files (Some file) had words = IsGiven files file words
+
+-- one file more, before the others
+given_more : (files : Files) (part : ℕ) (named : PartFile) (bytes : List ℕ) (inputs : List (List ℕ)) (words : List ℕ) (o : Option (List ℕ)) → get files named.file ≡ Some bytes → length bytes ≤ FILE_BYTES → length bytes % 4 ≡ 0
+    → part < length inputs → GivenBy files o (slice_index_or (slice_set inputs named.part (words_in bytes)) part []) words
+    → GivenBy files (input_or o (if named.part == part then Some named.file else None)) (slice_index_or inputs part []) words
+given_more files part named bytes inputs words (Some file) there short whole below given = given
+given_more files part named bytes inputs words None there short whole below given = at (named.part == part) refl
+  where
+    at : (t : Bool) → (named.part == part) ≡ t → GivenBy files (if t then Some named.file else None) (slice_index_or inputs part []) words
+    at true same =
+        let is : named.part ≡ part = eqb-true named.part part same in
+        record {
+          bytes = bytes;
+          there = there;
+          short = short;
+          whole = whole;
+          words_are = given ∙ ap (λ (p : ℕ). slice_index_or (slice_set inputs p (words_in bytes)) part []) is ∙ get_or-set_same inputs part (words_in bytes) [] below;
+        }
+    at false other = (let differs : part ≢ named.part = grind (arith, nat_tests) in given ∙ get_or-set_other inputs named.part part (words_in bytes) [] differs)
+
+-- the words after all files
+given_for : (files : Files) (part : ℕ) (named : List PartFile) (contents inputs result : List (List ℕ)) → read_all files (file_names named) ≡ Ok contents → first_long (file_names named) contents ≡ None
+    → inputs_with inputs named contents ≡ Ok result → part < length inputs → GivenBy files (input_of part named) (slice_index_or inputs part []) (slice_index_or result part [])
+given_for files part [] contents inputs result read short gives below = (let same : inputs ≡ result = cc in ap (λ (i : List (List ℕ)). slice_index_or i part []) (sym same))
+given_for files part (one ∷ others) contents inputs result read short gives below =
+    found (get files one.file) refl (read_all files (file_names others)) refl read
+    (λ rest given reads_rest short_rest gives_rest below_rest. given_for files part others rest given result reads_rest short_rest gives_rest below_rest)
+  where
+    fits : (bytes : List ℕ) (rest : List (List ℕ)) → get files one.file ≡ Some bytes → read_all files (file_names others) ≡ Ok rest
+        → (t : Bool) → nat_lt FILE_BYTES (length bytes) ≡ t → (if t then Some one.file else first_long (file_names others) rest) ≡ None
+        → (u : Bool) → nat_eq (length bytes % 4) 0 ≡ u → (if u then inputs_with (slice_set inputs one.part (words_in bytes)) others rest else Err (denial one.file (input_text (length bytes)))) ≡ Ok result
+        → ((rest given : List (List ℕ)) → read_all files (file_names others) ≡ Ok rest → first_long (file_names others) rest ≡ None → inputs_with given others rest ≡ Ok result → part < length given
+        → GivenBy files (input_of part others) (slice_index_or given part []) (slice_index_or result part []))
+        → GivenBy files (input_of part (one ∷ others)) (slice_index_or inputs part []) (slice_index_or result part [])
+    fits bytes rest there reads true over e u whole g rec = absurd (cc)
+    fits bytes rest there reads false within e false odd g rec = absurd (cc)
+    fits bytes rest there reads false within e true whole g rec =
+        let long : length (slice_set inputs one.part (words_in bytes)) ≡ length inputs = length-set inputs one.part (words_in bytes) in
+        given_more files part one bytes inputs (slice_index_or result part []) (input_of part others) there (grind (arith, nat_tests)) (grind (arith, nat_tests)) below
+        (rec rest (slice_set inputs one.part (words_in bytes)) reads e g (omega (arith, long, below)))
+
+    found : (o : Option (List ℕ)) → get files one.file ≡ o → (r : Result (List (List ℕ)) (List ℕ)) → read_all files (file_names others) ≡ r → read_before one.file o r ≡ Ok contents
+        → ((rest given : List (List ℕ)) → read_all files (file_names others) ≡ Ok rest → first_long (file_names others) rest ≡ None → inputs_with given others rest ≡ Ok result → part < length given
+        → GivenBy files (input_of part others) (slice_index_or given part []) (slice_index_or result part []))
+        → GivenBy files (input_of part (one ∷ others)) (slice_index_or inputs part []) (slice_index_or result part [])
+    found None there r reads e rec = absurd (cc)
+    found (Some bytes) there (Err absent) reads e rec = absurd (cc)
+    found (Some bytes) there (Ok rest) reads e rec =
+        let all : bytes ∷ rest ≡ contents = cc in
+        fits bytes rest there reads (nat_lt FILE_BYTES (length bytes)) refl (subst (λ (c : List (List ℕ)). first_long (file_names (one ∷ others)) c ≡ None) (sym all) short)
+        (nat_eq (length bytes % 4) 0) refl (subst (λ (c : List (List ℕ)). inputs_with inputs (one ∷ others) c ≡ Ok result) (sym all) gives) rec
+
+-- Partitions and inputs of a run.
+
+-- no option is for a partition beyond those that there are, and the inputs are given one after another
+given_parts : (parts : ℕ) (options : List RunOption) (contents inputs : List (List ℕ)) → inputs_for parts options contents ≡ Ok inputs
+    → (first_beyond parts options ≡ None) × (inputs_with (no_inputs parts) (inputs_in options) contents ≡ Ok inputs)
+unfolding inputs_for
+given_parts parts options contents inputs given = at (first_beyond parts options) refl given
+  where
+    at : (o : Option PartFile) → first_beyond parts options ≡ o → unless_beyond o (inputs_with (no_inputs parts) (inputs_in options) contents) ≡ Ok inputs
+        → (first_beyond parts options ≡ None) × (inputs_with (no_inputs parts) (inputs_in options) contents ≡ Ok inputs)
+    at None is e = (is, e)
+    at (Some named) is e = absurd (cc)
+
+-- one of files for partitions
+inside_one : (parts : ℕ) (earlier : List PartFile) (named : PartFile) (later : List PartFile) → AreForPartitions parts (earlier ++ named ∷ later) → named.part < parts
+inside_one parts [] named later inside = inside.0
+inside_one parts (one ∷ earlier) named later inside = inside_one parts earlier named later inside.1
+
+-- a run's first file, and the others
+record IsReadFirst (files : Files) (file : List ℕ) (names contents : List (List ℕ)) : Type 0 where
+  bytes : List ℕ
+  others : List (List ℕ)
+  there : get files file ≡ Some bytes
+  read : read_all files names ≡ Ok others
+  all : contents ≡ bytes ∷ others
+
+read_first : (files : Files) (file : List ℕ) (names contents : List (List ℕ)) → read_all files (file ∷ names) ≡ Ok contents → IsReadFirst files file names contents
+read_first files file names contents read = at (get files file) refl (read_all files names) refl read
+  where
+    at : (o : Option (List ℕ)) → get files file ≡ o → (r : Result (List (List ℕ)) (List ℕ)) → read_all files names ≡ r → read_before file o r ≡ Ok contents → IsReadFirst files file names contents
+    at None there r reads e = absurd (cc)
+    at (Some bytes) there (Err absent) reads e = absurd (cc)
+    at (Some bytes) there (Ok others) reads e = (let all : bytes ∷ others ≡ contents = cc in record { bytes = bytes; others = others; there = there; read = reads; all = sym all })
+
+-- What is answered.
+
+-- the answer to words of a command
+answer_read : (words : List (List ℕ)) (command : Command) (files : Files) → command_of words ≡ Some command → answer words files ≡ answer_to_read command (read_all files (inputs_of command)) files
+unfolding answer
+answer_read words command files is = ap (λ (c : Option Command). command_answer c files) is
+
+-- the answer to a command whose files were read
+answer_by : (words : List (List ℕ)) (command : Command) (files : Files) (contents : List (List ℕ)) → command_of words ≡ Some command → read_all files (inputs_of command) ≡ Ok contents
+    → answer words files ≡ outcome_answer (outcome_of command contents) files
+answer_by words command files contents is read = answer_read words command files is ∙ ap (λ (r : Result (List (List ℕ)) (List ℕ)). answer_to_read command r files) read
+
+-- one that is done is not refused
+done_granted : (denial : Option Denial) → status_of (ending_by denial) ≡ Done → denial ≡ None
+done_granted None done = refl
+done_granted (Some denial) done = absurd (cc)
+
+-- the outcome of a run that was not refused
+ran_report : (ticks : ℕ) (cores : List PartFile) (outputs : List Output) (system : Loaded) (inputs : List (List ℕ)) → (outcome_of_run ticks cores outputs system inputs).report ≡ texts (report (with_inputs system inputs) ticks)
+unfolding outcome_of_run
+ran_report ticks cores outputs system inputs = refl
+
+ran_files : (ticks : ℕ) (cores : List PartFile) (outputs : List Output) (system : Loaded) (inputs : List (List ℕ)) (files : Files)
+    → saved_all (outcome_of_run ticks cores outputs system inputs).later (files_saved (outcome_of_run ticks cores outputs system inputs).output files)
+    ≡ saved_all (core_outputs (run (start (with_inputs system inputs)) ticks) cores ++ outputs) files
+unfolding outcome_of_run
+ran_files ticks cores outputs system inputs files = refl
+
+core_names : (g : Machine) (cores : List PartFile) (other : List ℕ) → IsNoneOf (file_names cores) other → IsNoneOf (output_names (core_outputs g cores)) other
+unfolding core_outputs
+core_names g cores other none = made_names (core_output g) (λ named. refl) cores other none
+
+-- The replay after a run.
+
+-- a first file that is not too long
+first_short : (file : List ℕ) (names : List (List ℕ)) (bytes : List ℕ) (contents : List (List ℕ)) → first_long (file ∷ names) (bytes ∷ contents) ≡ None → nat_lt FILE_BYTES (length bytes) ≡ false
+first_short file names bytes contents none = at (nat_lt FILE_BYTES (length bytes)) none
+  where
+    at : (t : Bool) → (if t then Some file else first_long names contents) ≡ None → t ≡ false
+    at true e = absurd (cc)
+    at false e = refl
+
+-- what a replay that is played answers
+played_done : (core : Option (List ℕ)) (replay : Readied) (files : Files) → (outcome_answer (played core replay) files).status ≡ Done
+unfolding played
+played_done core replay files = refl
+
+played_out : (core : Option (List ℕ)) (replay : Readied) (files : Files) → (outcome_answer (played core replay) files).out ≡ texts (replay_lines (view_of replay.system replay.p) replay.cues)
+unfolding played
+played_out core replay files = refl
+
+played_files : (core : Option (List ℕ)) (replay : Readied) (files : Files) → (outcome_answer (played core replay) files).files ≡ saved_all (map (replay_output replay) (name_if_any core)) files
+unfolding played
+played_files core replay files = refl
+
+-- the bytes of the input words and what the partition has of them
+record HasInput (files : Files) (input : Option (List ℕ)) (words : List ℕ) : Type 0 where
+  contents : List (List ℕ)
+  read : read_all files (name_if_any input) ≡ Ok contents
+  short : first_long (name_if_any input) contents ≡ None
+  whole : length (input_bytes input (content 0 contents)) % 4 ≡ 0
+  given : words ≡ words_in (input_bytes input (content 0 contents))
+
+has_input : (before after : Files) (input : Option (List ℕ)) (words : List ℕ) → ((file : List ℕ) → input ≡ Some file → get after file ≡ get before file) → GivenBy before input [] words → HasInput after input words
+has_input before after None words kept given = record { contents = []; read = refl; short = refl; whole = refl; given = given }
+has_input before after (Some file) words kept given =
+    let there : get after file ≡ Some given.bytes = kept file refl ∙ given.there in
+    let test : nat_lt FILE_BYTES (length given.bytes) ≡ false = (let few = given.short in grind (arith, nat_tests)) in
+    record {
+      contents = given.bytes ∷ [];
+      read = rw there refl;
+      short = rw test refl;
+      whole = given.whole;
+      given = given.words_are;
+    }
+
+-- partitions have no words before any are given
+no_words : (parts part : ℕ) → slice_index_or (no_inputs parts) part [] ≡ []
+no_words zero part = refl
+no_words (suc parts) zero = refl
+no_words (suc parts) (suc part) = no_words parts part
+
+module _ (law : RunIsReplayed) (words others : List (List ℕ)) (files : Files) (container : List ℕ) (options : List RunOption) (part : ℕ) (script_name : List ℕ) (further : ReplayFiles)
+    (is_run : command_of words ≡ Some (Run container options)) (is_replay : command_of others ≡ Some (Replay container part script_name further)) (belongs : BelongsTo container options part script_name further)
+    (holds : HoldsBytes files container) (contents : List (List ℕ)) (read : read_all files (container ∷ file_names (inputs_in options)) ≡ Ok contents) (ran : WasRan container options contents) where
+  abbrev system : System
+  system = with_inputs ran.system ran.inputs
+
+  abbrev ticks : ℕ
+  ticks = ticks_asked (span_in options) ran.system.conf
+
+  abbrev named : PartFile
+  named = record { part = part; file = script_name }
+
+  -- the outputs of the run
+  outputs_are : ran.outputs ≡ map (script_output system ticks) belongs.earlier ++ script_output system ticks named ∷ map (script_output system ticks) belongs.later
+  outputs_are = scripts_are system ticks (scripts_in options) ran.outputs ran.made ∙ ap (map (script_output system ticks)) belongs.named ∙ map-append (script_output system ticks) belongs.earlier (named ∷ belongs.later)
+
+  -- the answer of the run
+  ran_answer : answer words files ≡ outcome_answer (outcome_of_run ticks (cores_in options) ran.outputs ran.system ran.inputs) files
+  ran_answer = answer_by words (Run container options) files contents is_run read ∙ ap (λ (o : Outcome). outcome_answer o files) ran.is
+
+  abbrev after : Files
+  after = (answer words files).files
+
+  after_is : after ≡ saved_all (core_outputs (run (start system) ticks) (cores_in options) ++ ran.outputs) files
+  after_is = ap (λ (a : Answer). a.files) ran_answer ∙ ran_files ticks (cores_in options) ran.outputs ran.system ran.inputs files
+
+  -- a file that the run does not write
+  kept : (other : List ℕ) → IsNoneOf (writes_of (Run container options)) other → get after other ≡ get files other
+  kept other none =
+      let apart = none_apart (file_names (cores_in options)) (file_names (scripts_in options)) other none in
+      let scripts : IsNoneOf (output_names ran.outputs) other =
+      subst (λ (os : List Output). IsNoneOf (output_names os) other) (sym (scripts_are system ticks (scripts_in options) ran.outputs ran.made)) (made_names (script_output system ticks) (λ n. refl) (scripts_in options) other apart.1) in
+      let cores = core_names (run (start system) ticks) (cores_in options) other apart.0 in
+      let all : IsNoneOf (output_names (core_outputs (run (start system) ticks) (cores_in options) ++ ran.outputs)) other =
+      subst (λ (names : List (List ℕ)). IsNoneOf names other) (sym (map-append (λ (o : Output). o.file) (core_outputs (run (start system) ticks) (cores_in options)) ran.outputs))
+      (none_both (output_names (core_outputs (run (start system) ticks) (cores_in options))) (output_names ran.outputs) other cores scripts) in
+      ap (λ (f : Files). get f other) after_is ∙ saved_keeps (core_outputs (run (start system) ticks) (cores_in options) ++ ran.outputs) files other all
+
+  -- the script that the run wrote
+  script_there : get after script_name ≡ Some (script_bytes system ticks part)
+  script_there =
+      ap (λ (f : Files). get f script_name) (after_is ∙ ap (λ (os : List Output). saved_all os files)
+      (ap (λ (os : List Output). core_outputs (run (start system) ticks) (cores_in options) ++ os) outputs_are
+      ∙ sym (append_assoc (core_outputs (run (start system) ticks) (cores_in options)) (map (script_output system ticks) belongs.earlier) (script_output system ticks named ∷ map (script_output system ticks) belongs.later))))
+      ∙ saved_has (core_outputs (run (start system) ticks) (cores_in options) ++ map (script_output system ticks) belongs.earlier) (script_output system ticks named) (map (script_output system ticks) belongs.later) files
+      (made_names (script_output system ticks) (λ n. refl) belongs.later script_name belongs.last)
+
+  -- the container's content, and those of the inputs
+  box : IsReadFirst files container (file_names (inputs_in options)) contents
+  box = read_first files container (file_names (inputs_in options)) contents read
+
+  parts : (first_beyond (length ran.system.conf.parts) options ≡ None) × (inputs_with (no_inputs (length ran.system.conf.parts)) (inputs_in options) (drop 1 contents) ≡ Ok ran.inputs)
+  parts = given_parts (length ran.system.conf.parts) options (drop 1 contents) ran.inputs ran.given
+
+  -- the partition is one
+  below : part < length ran.system.conf.parts
+  below =
+      inside_one (length ran.system.conf.parts) belongs.earlier named belongs.later
+      (subst (AreForPartitions (length ran.system.conf.parts)) belongs.named (scripts_inside (length ran.system.conf.parts) options parts.0))
+
+  -- its input words
+  given_words : GivenBy files (replay_input further) [] (slice_index_or ran.inputs part [])
+  given_words =
+      let read_rest : read_all files (file_names (inputs_in options)) ≡ Ok (drop 1 contents) = box.read ∙ ap Ok (sym (ap (drop 1) box.all)) in
+      let short_rest = rest_short container (file_names (inputs_in options)) contents ran.short in
+      let long : length (no_inputs (length ran.system.conf.parts)) ≡ length ran.system.conf.parts = length-replicate (length ran.system.conf.parts) [] in
+      let room : part < length (no_inputs (length ran.system.conf.parts)) = (let inside = below in omega (arith, inside, long)) in
+      let all = given_for files part (inputs_in options) (drop 1 contents) (no_inputs (length ran.system.conf.parts)) ran.inputs read_rest short_rest parts.1 room in
+      subst (λ (o : Option (List ℕ)). GivenBy files o [] (slice_index_or ran.inputs part [])) (sym belongs.input)
+      (subst (λ (had : List ℕ). GivenBy files (input_of part (inputs_in options)) had (slice_index_or ran.inputs part [])) (no_words (length ran.system.conf.parts) part) all)
+
+  input : HasInput after (replay_input further) (slice_index_or ran.inputs part [])
+  input = has_input files after (replay_input further) (slice_index_or ran.inputs part []) (λ file is. kept file (subst (IsUntouched (writes_of (Run container options))) is belongs.given)) given_words
+
+  -- what the replay reads
+  abbrev after_contents : List (List ℕ)
+  after_contents = box.bytes ∷ script_bytes system ticks part ∷ input.contents
+
+  read_after : read_all after (container ∷ script_name ∷ name_if_any (replay_input further)) ≡ Ok after_contents
+  read_after = (let there = kept container belongs.unwritten ∙ box.there in rw (there, script_there, input.read) refl)
+
+  short_after : first_long (container ∷ script_name ∷ name_if_any (replay_input further)) after_contents ≡ None
+  short_after =
+      let few = script_short system ticks belongs.earlier named belongs.later ran.outputs (ap (scripts_for system ticks) (sym belongs.named) ∙ ran.made) in
+      let script_test : nat_lt FILE_BYTES (length (script_bytes system ticks part)) ≡ false = grind (arith, nat_tests) in
+      let box_test = first_short container (file_names (inputs_in options)) box.bytes box.others (subst (λ (c : List (List ℕ)). first_long (container ∷ file_names (inputs_in options)) c ≡ None) box.all ran.short) in
+      rw (box_test, script_test) input.short
+
+  of_run : IsOfRun box.bytes part (script_bytes system ticks part) (input_bytes (replay_input further) (content 0 input.contents)) ran.system ran.inputs ticks
+  of_run = record {
+    contained = holds box.bytes box.there;
+    unpacks = ap unpacked (sym (ap (content 0) box.all)) ∙ ran.unpacks;
+    there = below;
+    words = input.whole;
+    given = input.given;
+    most = ran.most;
+    told = refl;
+  }
+
+  -- the answer of the replay
+  answers_so : AnswersAsRun (answer words files) (answer others after) part (replay_core further)
+  answers_so =
+      let shows = law box.bytes part (script_bytes system ticks part) (input_bytes (replay_input further) (content 0 input.contents)) ran.system ran.inputs ticks of_run in
+      let comes = begun_outcome container part script_name further after_contents shows.replay short_after shows.begins in
+      let replay_answer : answer others after ≡ outcome_answer (played (replay_core further) shows.replay) after =
+      answer_by others (Replay container part script_name further) after after_contents is_replay read_after ∙ ap (λ (o : Outcome). outcome_answer o after) comes in
+      record {
+        system = system;
+        ticks = ticks;
+        printed = ap (λ (a : Answer). a.out) ran_answer ∙ ran_report ticks (cores_in options) ran.outputs ran.system ran.inputs;
+        done = ap (λ (a : Answer). a.status) replay_answer ∙ played_done (replay_core further) shows.replay after;
+        lines = ap (λ (a : Answer). a.out) replay_answer ∙ played_out (replay_core further) shows.replay after ∙ ap texts shows.lines;
+        core_file = ap (λ (a : Answer). a.files) replay_answer ∙ played_files (replay_core further) shows.replay after
+            ∙ ap (λ (os : List Output). saved_all os after) (own_cores system ticks part shows.replay (replay_core further) shows.core);
+      }
+
+pub run_then_alone : RunIsReplayed → RunsThenAlone
+run_then_alone law words others files container options part script_name further is_run is_replay done belongs holds = at (read_all files (container ∷ file_names (inputs_in options))) refl
+  where
+    at : (r : Result (List (List ℕ)) (List ℕ)) → read_all files (container ∷ file_names (inputs_in options)) ≡ r → AnswersAsRun (answer words files) (answer others (answer words files).files) part (replay_core further)
+    at (Ok contents) read =
+        let granted = done_granted (outcome_of (Run container options) contents).denial (sym (ap (λ (a : Answer). a.status) (answer_by words (Run container options) files contents is_run read)) ∙ done) in
+        answers_so law words others files container options part script_name further is_run is_replay belongs holds contents read (was_ran container options contents granted)
+    at (Err absent) read =
+        let unread = answer_read words (Run container options) files is_run ∙ ap (λ (r : Result (List (List ℕ)) (List ℕ)). answer_to_read (Run container options) r files) read in
+        let wrong : ReadFault ≡ Done = sym (ap (λ (a : Answer). a.status) unread) ∙ done in
+        absurd (cc)
