@@ -1,3 +1,4 @@
+pub mod ActLemmas
 pub mod LogLemmas
 pub mod ProcessorLemmas
 pub mod ShownLemmas

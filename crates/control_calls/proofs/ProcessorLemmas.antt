@@ -93,7 +93,7 @@ return_answered site old new answer result is served =
 pub return_made : (site : CallSite) (old new : SysState) → new ≡ with_machine (with_part site.part (behind_return (returned_in (areas_in site.part old.machine) (part_at site.part old.machine)) (part_at site.part old.machine)) old.machine) old
     → IsServed site.part Unseen (by_return (Ok tt) (returned_in (areas_in site.part old.machine) (part_at site.part old.machine)) (caller_of site old)) (record { note = note.Nothing; act = act.Nothing }) old new
 unfolding caller_of
-return_made site old new is = record { state = is; told = refl; upshot = refl; traffic = refl; seen = refl; readable = tt; one = tt }
+return_made site old new is = record { state = is; told = refl; upshot = refl; traffic = refl; seen = refl; readable = tt; one = tt; asked = tt; entered = tt; event = tt }
 
 -- a flush of the windows, by what it answered
 pub flush_answered : (site : CallSite) (old new : SysState) (answer : code.Served) (result : Result (Unit {0}) StackFault) → result ≡ (flushed_in (areas_in site.part old.machine) (part_at site.part old.machine)).answer
@@ -107,4 +107,4 @@ flush_answered site old new answer result is served =
 pub undone_changed : (site : CallSite) (old mid new : SysState) (ps : PartitionState) (answer : code.Served) → IsCaller site old → mid ≡ with_machine (with_part site.part ps old.machine) old
     → IsServed site.part Unseen (undone (caller_of site mid) (caller_of site mid).state) answer mid new → IsServed site.part Unseen (undone (caller_of site old) ps) answer old new
 unfolding caller_of
-undone_changed site old mid new ps answer caller changed served = served_changed site old mid new ps answer (undone (caller_of site old)) caller changed served
+undone_changed site old mid new ps answer caller changed served = served_changed site old mid new ps answer (undone (caller_of site old)) refl refl caller changed served

@@ -1,6 +1,7 @@
 //! The hypercalls on partitions, the whole system, clocks, plans, logs and the virtual processor.
 #![tactic(auto)]
 
+mod acting;
 mod log_calls;
 mod partition_calls;
 mod processor_calls;

@@ -9,9 +9,9 @@ ghost use Rattle.machine_model.specs.Told.{NotKept, Nothing, Trace, Unseen};
 ghost use Rattle.whole_system.specs.Serving.{IsCaller, IsServed, MayRead, caller_of};
 ghost use Rattle.whole_system.specs.State.{part_at};
 
+use crate::acting::{act, show_named};
 use whole_system::answering::{
-    A, B, C, NO_ACTION, NOT_AVAILABLE, OUT_0, act, answer, argument, read, refused_if, show_named,
-    target, text,
+    A, B, C, NO_ACTION, NOT_AVAILABLE, OUT_0, answer, argument, read, refused_if, target, text,
 };
 use whole_system::structures::{counts_bytes, health_bytes, trace_bytes};
 use whole_system::{Act, CallSite, Note, Served, Sys};
@@ -81,7 +81,7 @@ fn enter(sys: &mut Sys, site: CallSite, entry: TraceEntry) -> Served
 }
 
 /// Call 25, XM_trace_read(a, b, c): entry number b of partition a's traces, at c.
-#[tactic(auto, using(crate::proofs::ShownLemmas::trace_read_sight), unfolding(machine_model::specs::LogCalls::trace_read))]
+#[tactic(auto, using(crate::proofs::ShownLemmas::trace_read_sight, crate::proofs::ActLemmas::trace_read_wants), unfolding(machine_model::specs::LogCalls::trace_read))]
 pub fn trace_read(sys: &mut Sys, site: CallSite) -> Served
     requires caller { IsCaller site sys.old }
     requires number { register_at (caller_of site sys.old).state.core 8 ≡ 25 }
@@ -125,7 +125,7 @@ fn told_not_kept(sys: &mut Sys, site: CallSite) -> Served
 }
 
 /// Call 26, XM_trace_status(a, b): the counts of partition a's traces, at b.
-#[tactic(auto, using(crate::proofs::ShownLemmas::trace_status_sight), unfolding(machine_model::specs::LogCalls::trace_status))]
+#[tactic(auto, using(crate::proofs::ShownLemmas::trace_status_sight, crate::proofs::ActLemmas::trace_status_wants), unfolding(machine_model::specs::LogCalls::trace_status))]
 pub fn trace_status(sys: &mut Sys, site: CallSite) -> Served
     requires caller { IsCaller site sys.old }
     requires number { register_at (caller_of site sys.old).state.core 8 ≡ 26 }
@@ -155,7 +155,7 @@ pub fn raise_event(sys: &mut Sys, site: CallSite) -> Served
 }
 
 /// Call 28, XM_hm_read(a, b, c): entry number b of partition a's health log, at c.
-#[tactic(auto, using(crate::proofs::ShownLemmas::health_read_sight), unfolding(machine_model::specs::LogCalls::hm_read))]
+#[tactic(auto, using(crate::proofs::ShownLemmas::health_read_sight, crate::proofs::ActLemmas::health_read_wants), unfolding(machine_model::specs::LogCalls::hm_read))]
 pub fn hm_read(sys: &mut Sys, site: CallSite) -> Served
     requires caller { IsCaller site sys.old }
     requires number { register_at (caller_of site sys.old).state.core 8 ≡ 28 }
@@ -174,7 +174,7 @@ pub fn hm_read(sys: &mut Sys, site: CallSite) -> Served
 }
 
 /// Call 29, XM_hm_status(a, b): the counts of partition a's health log, at b.
-#[tactic(auto, using(crate::proofs::ShownLemmas::health_status_sight), unfolding(machine_model::specs::LogCalls::hm_status))]
+#[tactic(auto, using(crate::proofs::ShownLemmas::health_status_sight, crate::proofs::ActLemmas::health_status_wants), unfolding(machine_model::specs::LogCalls::hm_status))]
 pub fn hm_status(sys: &mut Sys, site: CallSite) -> Served
     requires caller { IsCaller site sys.old }
     requires number { register_at (caller_of site sys.old).state.core 8 ≡ 29 }

@@ -7,10 +7,10 @@ ghost use Rattle.machine_model.specs.PartitionCalls.{get_partition_status, get_s
 ghost use Rattle.machine_model.specs.Told.{Unseen};
 ghost use Rattle.whole_system.specs.Serving.{IsCaller, IsServed, caller_of};
 
+use crate::acting::{act, show, show_named};
 use health_monitor::Whole;
 use whole_system::answering::{
-    A, B, C, INVALID_MODE, OUT_0, act, answer, argument, refused_if, room, show, show_named,
-    system_only, target,
+    A, B, C, INVALID_MODE, OUT_0, answer, argument, refused_if, room, system_only, target,
 };
 use whole_system::structures::{partition_status, system_status};
 use whole_system::{Act, CallSite, Note, Served, Sys};
@@ -91,7 +91,7 @@ pub fn idle_self(sys: &mut Sys, site: CallSite) -> Served
 }
 
 /// Call 8, XM_get_partition_status(a, b): the status of partition a, at b.
-#[tactic(auto, using(crate::proofs::ShownLemmas::partition_status_sight), unfolding(machine_model::specs::PartitionCalls::get_partition_status))]
+#[tactic(auto, using(crate::proofs::ShownLemmas::partition_status_sight, crate::proofs::ActLemmas::partition_status_wants), unfolding(machine_model::specs::PartitionCalls::get_partition_status))]
 pub fn get_partition_status(sys: &mut Sys, site: CallSite) -> Served
     requires caller { IsCaller site sys.old }
     requires number { register_at (caller_of site sys.old).state.core 8 ≡ 8 }
@@ -135,7 +135,7 @@ pub fn reset_system(sys: &mut Sys, site: CallSite) -> Served
 }
 
 /// Call 11, XM_get_system_status(a): the status of the system, at a.
-#[tactic(auto, using(crate::proofs::ShownLemmas::system_status_sight), unfolding(machine_model::specs::PartitionCalls::get_system_status))]
+#[tactic(auto, using(crate::proofs::ShownLemmas::system_status_sight, crate::proofs::ActLemmas::system_status_wants), unfolding(machine_model::specs::PartitionCalls::get_system_status))]
 pub fn get_system_status(sys: &mut Sys, site: CallSite) -> Served
     requires caller { IsCaller site sys.old }
     requires number { register_at (caller_of site sys.old).state.core 8 ≡ 11 }

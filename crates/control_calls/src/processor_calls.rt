@@ -3,7 +3,7 @@
 ghost use Rattle.std.specs.Prelude.{◌≡◌, ◌%◌, ◌/◌, ◌^◌, ◌==◌, ◌≤◌, ◌<◌, ◌∷◌, true, drop};
 ghost use Rattle.std.specs.Int.{bit_at, to_be_bytes, w32};
 ghost use Rattle.xm_base.specs.declared.limits.TheConstants.{CONSOLE_BYTES};
-ghost use Rattle.machine_model.specs.Caller.{a_of, answering, caller_bytes, is_room, with_written};
+ghost use Rattle.machine_model.specs.Caller.{a_of, answering, b_of, caller_bytes, is_room, with_written};
 ghost use Rattle.machine_model.specs.ProcessorCalls.{clear_irqmask, flush_regwin, input_read, iret, printed, read_input, set_irqmask, set_psr, set_tbr, undone, write_console};
 ghost use Rattle.machine_model.specs.Told.{Unseen};
 ghost use Rattle.sparc_step.specs.Registers.{with_icc};
@@ -75,6 +75,8 @@ pub fn write_console(sys: &mut Sys, site: CallSite) -> Served
 #[tactic(auto, using(crate::proofs::ProcessorLemmas::prints_none, crate::proofs::ProcessorLemmas::prints_some), unfolding(whole_system::specs::Serving::caller_of, machine_model::specs::Caller::with_answer, machine_model::specs::View::view_of, machine_model::specs::Partition::areas_of))]
 fn print(sys: &mut Sys, site: CallSite, at: u32, size: u32) -> Served
     requires caller { IsCaller site sys.old }
+    requires at { at ≡ a_of (caller_of site sys.old) }
+    requires size { size ≡ b_of (caller_of site sys.old) }
     requires few { size ≤ CONSOLE_BYTES }
     requires readable { MayRead (caller_of site sys.old) at size }
     ensures { IsServed site.part Unseen (record (answering size (caller_of site sys.old).state) { told = printed (caller_bytes (caller_of site sys.old) at size) }) result sys.old sys.new }

@@ -9,10 +9,11 @@ ghost use Rattle.machine_model.specs.TimeCalls.{clock_numbered, clock_of, get_pl
 ghost use Rattle.machine_model.specs.Told.{Unseen};
 ghost use Rattle.whole_system.specs.Serving.{IsCaller, IsServed, caller_of};
 
+use crate::acting::show;
 use virt_clocks::Clock;
 use whole_system::answering::{
     A, B, C, D, E, INVALID_PARAMETER, OUT_0, answer, answer_written, argument, refused_if, room,
-    show, system_only,
+    system_only,
 };
 use whole_system::structures::plan_status;
 use whole_system::{Act, CallSite, Note, Served, Sys};
@@ -59,7 +60,7 @@ pub fn set_timer(sys: &mut Sys, site: CallSite) -> Served
 }
 
 /// Call 14, XM_switch_sched_plan(a, b): asks for plan a; the current plan's number, at b.
-#[tactic(auto, using(crate::proofs::ShownLemmas::plan_sight), unfolding(machine_model::specs::TimeCalls::switch_sched_plan))]
+#[tactic(auto, using(crate::proofs::ShownLemmas::plan_sight, crate::proofs::ActLemmas::plan_wants), unfolding(machine_model::specs::TimeCalls::switch_sched_plan))]
 pub fn switch_sched_plan(sys: &mut Sys, site: CallSite) -> Served
     requires caller { IsCaller site sys.old }
     requires number { register_at (caller_of site sys.old).state.core 8 ≡ 14 }
@@ -82,7 +83,7 @@ pub fn switch_sched_plan(sys: &mut Sys, site: CallSite) -> Served
 }
 
 /// Call 15, XM_get_plan_status(a): the status of the plan, at a.
-#[tactic(auto, using(crate::proofs::ShownLemmas::plan_status_sight), unfolding(machine_model::specs::TimeCalls::get_plan_status))]
+#[tactic(auto, using(crate::proofs::ShownLemmas::plan_status_sight, crate::proofs::ActLemmas::plan_status_wants), unfolding(machine_model::specs::TimeCalls::get_plan_status))]
 pub fn get_plan_status(sys: &mut Sys, site: CallSite) -> Served
     requires caller { IsCaller site sys.old }
     requires number { register_at (caller_of site sys.old).state.core 8 ≡ 15 }

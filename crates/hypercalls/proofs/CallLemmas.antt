@@ -3,7 +3,7 @@ use Rattle.std.proofs.Common.{◌≡◌, ℕ, ◌<◌, ◌⊎◌, inl, inr, Bool
 use Rattle.std.proofs.lemmas.List.{append-nil, append_assoc, get_or-set_same, length-set, map-append, set-set}
 use Rattle.std.specs.Prelude.{◌==◌, if◌then◌else◌}
 use Rattle.guest_bus.specs.Memory.{Memory}
-use Rattle.whole_system.specs.Serving.{IsServed, caller_at, own_traffic, sight_by, told_by, traffic_by, untraded, upshot_of, without_traffic}
+use Rattle.whole_system.specs.Serving.{IsEntered, IsServed, caller_at, own_traffic, sight_by, told_by, traffic_by, untraded, upshot_of, without_traffic}
 use Rattle.whole_system.specs.State.{SysState, with_machine}
 use Rattle.whole_system.specs.declared.served.Note.{Note}
 use Rattle.whole_system.specs.declared.served.Note.TheVariants as note
@@ -25,6 +25,8 @@ use Rattle.machine_model.specs.View.{PartitionView, view_of}
 use Rattle.slot_runs.specs.Passes.{part_at, traded, with_part}
 use Rattle.virt_traps.specs.Virtual.{raised}
 use Rattle.xm_report.specs.Report.{ReportLine}
+use Rattle.xm_traces.specs.Ring.{Kept, noted}
+use Rattle.xm_traces.specs.declared.entry.TraceEntry.{TraceEntry}
 use Rattle.tick_pieces.specs.Work.{AsksAtMost, IsPartDone, IsToldBy, ReachIsUponOne, IsTickWorked, TellsAlone, act_beyond, console_told, trace_told}
 use Rattle.tick_pieces.specs.declared.beyond.Beyond.{Beyond}
 use Rattle.tick_pieces.specs.declared.beyond.Beyond.TheVariants as beyond
@@ -391,6 +393,29 @@ call_noted p pc npc answer old one serves =
       traffic = ap (told_as old.machine.system.conf p) (same_traffic (served caller).upshot caller.view caller.time (clocked (served caller).after)) ∙ serves.traffic ∙ same.0;
       seen = serves.seen ∙ same.1;
     }
+
+-- what follows a call that made an entry keeps the traces
+entered_after : (s : Served) (a_note : Note) (before : Kept TraceEntry) (view : PartitionView) (time : ℕ) → s.told ≡ told_by a_note s.after.memory → (s.told ≡ []) ⊎ (s.upshot ≡ Acts told.Nothing)
+    → IsEntered a_note before s.after.traces → IsEntered a_note before (by_upshot s.upshot view time (clocked s.after)).after.traces
+unfolding clocked
+entered_after s note.Nothing before view time told_is acts entered = tt
+entered_after s (note.Console at size) before view time told_is acts entered = tt
+entered_after s (note.Trace entry) before view time told_is (inl none) entered = absurd cc
+entered_after s (note.Trace entry) before view time told_is (inr nothing) entered =
+    subst (λ (u : Upshot). (by_upshot u view time (clocked s.after)).after.traces ≡ noted entry before) (sym nothing) entered
+entered_after s (note.Put chan at size) before view time told_is acts entered = tt
+entered_after s (note.Take chan) before view time told_is acts entered = tt
+entered_after s (note.Saw at size) before view time told_is acts entered = tt
+entered_after s note.NotKept before view time told_is acts entered = tt
+entered_after s (note.Signal number) before view time told_is acts entered = tt
+
+-- the entry that a call's note has is the one that it made
+pub call_entered : (p pc npc : ℕ) (answer : code.Served) (old one : SysState) → IsServed p (caller_at p pc npc old).sight (served (caller_at p pc npc old)) answer old one
+    → IsEntered answer.note (part_at p old.machine).traces (called (caller_at p pc npc old)).after.traces
+unfolding called caller_at
+call_entered p pc npc answer old one serves =
+    let caller = caller_at p pc npc old in
+    entered_after (served caller) answer.note (part_at p old.machine).traces caller.view caller.time serves.told (served_keeps caller).acts serves.entered
 
 -- where what follows a call of this upshot reaches, by its note
 reach_told : (conf : Conf) (p : ℕ) (seen : Sight) (a_note : Note) (s : Served) (u : Upshot) (reach : Beyond) (view : PartitionView) (time : ℕ) (ps : PartitionState) → s.told ≡ told_by a_note s.after.memory → (s.told ≡ []) ⊎ (s.upshot ≡ Acts told.Nothing)

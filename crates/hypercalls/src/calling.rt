@@ -4,7 +4,7 @@ ghost use Rattle.std.specs.Prelude.{◌≡◌, ◌+◌, ◌%◌, ◌^◌, ◌<�
 ghost use Rattle.std.specs.Bool.{OnTrue};
 ghost use Rattle.cyclic_plans.specs.PlanClock.{AsksPlan, IsInFrame};
 ghost use Rattle.whole_system.specs.Serving as serving;
-ghost use Rattle.whole_system.specs.Serving.{IsServed, caller_at, upshot_of};
+ghost use Rattle.whole_system.specs.Serving.{AreAsked, IsEntered, IsServed, caller_at, upshot_of};
 ghost use Rattle.machine_model.specs.Facts.{AreEnds};
 ghost use Rattle.machine_model.specs.Hypercalls.{served};
 ghost use Rattle.machine_model.specs.LocalTick.{by_act, by_upshot, called};
@@ -38,6 +38,8 @@ pub fn call_told(sys: &mut Sys, lines: &mut Lines, p: PartId, pc: u32) -> Option
     ensures worked { IsTickWorked p (called (caller_at p pc (part_at p sys.old.machine).core.pc sys.old)) (note_in result) (reach_in result) sys.old sys.new lines.new }
     ensures alone { TellsAlone (note_in result) (reach_in result) }
     ensures noted { IsToldBy p (caller_at p pc (part_at p sys.old.machine).core.pc sys.old).sight (called (caller_at p pc (part_at p sys.old.machine).core.pc sys.old)) (note_in result) sys.old }
+    ensures asked { AreAsked (note_in result) (view_of sys.old.machine.system p) (part_at p sys.old.machine).core }
+    ensures entered { IsEntered (note_in result) (part_at p sys.old.machine).traces (called (caller_at p pc (part_at p sys.old.machine).core.pc sys.old)).after.traces }
     ensures few { length lines.new ≤ 4 }
 {
     let served = serve_call(sys, p, pc);

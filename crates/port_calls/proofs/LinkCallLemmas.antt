@@ -120,4 +120,7 @@ signals site old set new number dest number_is found goes below set_is new_is =
       seen = refl;
       readable = tt;
       one = tt;
+      asked = tt;
+      entered = tt;
+      event = tt;
     })

@@ -117,6 +117,9 @@ put_served site old mid new port called readable mid_is new_is =
       seen = refl;
       readable = readable;
       one = tt;
+      asked = (refl, refl);
+      entered = tt;
+      event = tt;
     }
 
 -- a fourth test

@@ -57,7 +57,7 @@ sample_done site old mid new port time value at to message bytes result below pa
     let caller = caller_of site old in
     let reads = tested_passed (sample_tests caller (length message)) caller
     (answering (length message) (with_written (d_of caller) (word (flag (is_valid (refresh_of port.kind) (old.machine.time - time)))) (with_written (b_of caller) message caller.state))) passed in
-    let here = served_changed site old mid new (with_written to message caller.state) result (λ (ps : PartitionState). answering value (with_written at bytes ps)) below mid_is served in
+    let here = served_changed site old mid new (with_written to message caller.state) result (λ (ps : PartitionState). answering value (with_written at bytes ps)) refl refl below mid_is served in
     served_as refl
     (reads
     ∙ ap (λ n. answering n (with_written (d_of caller) (word (flag (is_valid (refresh_of port.kind) (old.machine.time - time)))) (with_written (b_of caller) message caller.state))) (sym value_is)
@@ -89,4 +89,7 @@ message_done site old mid set new port value to message below called passed to_i
       seen = refl;
       readable = tt;
       one = tt;
+      asked = tt;
+      entered = tt;
+      event = tt;
     })

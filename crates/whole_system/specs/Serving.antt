@@ -1,7 +1,12 @@
 -- What a hypercall is given, and what serving one leaves and tells.
-use Rattle.std.specs.Prelude.{◌≡◌, ℕ, ◌<◌, ◌≤◌, true, List, [], ◌∷◌, length}
+use Rattle.std.specs.Prelude.{◌≡◌, ℕ, ◌<◌, ◌≤◌, true, IfSome, List, [], ◌∷◌, length}
 use Rattle.guest_bus.specs.Memory.{Area, Memory, all_from, bytes_at, is_readable}
+use Rattle.health_monitor.specs.declared.effects.Whole.{Whole}
+use Rattle.health_monitor.specs.declared.effects.Whole.TheVariants as whole
+use Rattle.sparc_step.specs.Registers.{Registers, register_at}
 use Rattle.xm_base.specs.declared.limits.TheConstants.{CONSOLE_BYTES}
+use Rattle.xm_traces.specs.Ring.{Kept, noted}
+use Rattle.xm_traces.specs.declared.entry.TraceEntry.{TraceEntry}
 use Rattle.machine_model.specs.Caller.{Acts, Caller, Meets, Served, Upshot}
 use Rattle.machine_model.specs.Health.{done_to_all}
 use Rattle.machine_model.specs.Machine.{Machine, copies, sight_for}
@@ -10,7 +15,7 @@ use Rattle.machine_model.specs.Partition.{areas_of}
 use Rattle.machine_model.specs.Told as told
 use Rattle.machine_model.specs.Told.{Act, OwnStill, OwnTraffic, Sight, Told}
 use Rattle.machine_model.specs.Traffic.{Puts, Signals, Still, Takes, Traffic, told_as, traffic_of}
-use Rattle.machine_model.specs.View.{view_of}
+use Rattle.machine_model.specs.View.{PartitionView, view_of}
 use Rattle.slot_runs.specs.Passes.{part_at, traded, with_part}
 use Rattle.whole_system.specs.State.{SysState, areas_in, with_machine}
 use Rattle.whole_system.specs.declared.call_site.CallSite.{CallSite}
@@ -100,6 +105,33 @@ CanBeTold (note.Saw at size) areas = all_from (is_readable areas) at size ≡ tr
 CanBeTold note.NotKept areas = Unit {0}
 CanBeTold (note.Signal number) areas = Unit {0}
 
+-- where a partition with these registers makes an observing call, the answer goes to this address
+abbrev pub WantsAt : PartitionView → Registers → ℕ → Type 0
+WantsAt view core at = IfSome (observed_by view core) (λ call. at ≡ call.address)
+
+-- the bytes that a note names stand where the arguments of the call say: those for the console are b bytes at a, those of a message c bytes at b, and
+-- those that the caller is shown stand where its observing call wants them
+abbrev pub AreAsked : Note → PartitionView → Registers → Type 0
+AreAsked note.Nothing view core = Unit {0}
+AreAsked (note.Console at size) view core = (at ≡ register_at core 9) × (size ≡ register_at core 10)
+AreAsked (note.Trace entry) view core = Unit {0}
+AreAsked (note.Put chan at size) view core = (at ≡ register_at core 10) × (size ≡ register_at core 11)
+AreAsked (note.Take chan) view core = Unit {0}
+AreAsked (note.Saw at size) view core = WantsAt view core at
+AreAsked note.NotKept view core = Unit {0}
+AreAsked (note.Signal number) view core = Unit {0}
+
+-- the entry that a note has is the one that was entered in the traces
+abbrev pub IsEntered : Note → (before after : Kept TraceEntry) → Type 0
+IsEntered note.Nothing before after = Unit {0}
+IsEntered (note.Console at size) before after = Unit {0}
+IsEntered (note.Trace entry) before after = after ≡ noted entry before
+IsEntered (note.Put chan at size) before after = Unit {0}
+IsEntered (note.Take chan) before after = Unit {0}
+IsEntered (note.Saw at size) before after = Unit {0}
+IsEntered note.NotKept before after = Unit {0}
+IsEntered (note.Signal number) before after = Unit {0}
+
 -- the upshot that is told
 abbrev pub upshot_of : code_act.Act → Upshot
 upshot_of act.Nothing = Acts told.Nothing
@@ -115,6 +147,21 @@ IsUponOne (act.Upon id order) sys = id < length sys.machine.parts
 IsUponOne (act.Ask plan) sys = Unit {0}
 IsUponOne (act.Whole event) sys = Unit {0}
 IsUponOne (act.Event event word) sys = Unit {0}
+
+-- an event of the whole system does something
+abbrev pub DoesSomething : Whole → Type 0
+DoesSomething whole.Nothing = ⊥
+DoesSomething (whole.Reset mode) = Unit {0}
+DoesSomething whole.Halt = Unit {0}
+DoesSomething whole.Maintenance = Unit {0}
+
+-- an act with an event of the whole system has one that does something; doing nothing is an act of its own
+abbrev pub HasEvent : code_act.Act → Type 0
+HasEvent act.Nothing = Unit {0}
+HasEvent (act.Upon id order) = Unit {0}
+HasEvent (act.Ask plan) = Unit {0}
+HasEvent (act.Whole event) = DoesSomething event
+HasEvent (act.Event event word) = Unit {0}
 
 -- an upshot but for its traffic, which is done and told by the note
 abbrev pub without_traffic : Act → Act
@@ -133,7 +180,8 @@ abbrev pub own_traffic : Upshot → OwnTraffic
 own_traffic (Acts act) = traffic_of act
 own_traffic (Meets event word) = OwnStill
 
--- a call of partition p that was shown this came to what is stated: what it leaves of the caller and of the channels, what it tells, and how it reaches beyond the caller
+-- a call of partition p that was shown this came to what is stated: what it leaves of the caller and of the channels, what it tells, and how it reaches
+-- beyond the caller; its note has the very entry that it made, and the places that the call names
 pub record IsServed (p : ℕ) (sight : Sight) (s : Served) (answer : code.Served) (old new : SysState) : Type 0 where
   pub state : new ≡ with_machine (traded (traffic_by p answer.note s.after.memory) (with_part p s.after old.machine)) old
   pub told : s.told ≡ told_by answer.note s.after.memory
@@ -142,3 +190,6 @@ pub record IsServed (p : ℕ) (sight : Sight) (s : Served) (answer : code.Served
   pub seen : sight ≡ sight_by answer.note s.after.memory
   pub readable : CanBeTold answer.note (areas_in p old.machine)
   pub one : IsUponOne answer.act old
+  pub asked : AreAsked answer.note (view_of old.machine.system p) (part_at p old.machine).core
+  pub entered : IsEntered answer.note (part_at p old.machine).traces s.after.traces
+  pub event : HasEvent answer.act

@@ -1,11 +1,10 @@
 //! What calls are given, the tests that they make, and how they answer.
 
-ghost use Rattle.std.specs.Prelude.{◌≡◌, ◌+◌, ◌<◌, ◌==◌, if◌then◌else◌, true, [], ◌∷◌, IfNone, length};
+ghost use Rattle.std.specs.Prelude.{◌≡◌, ◌+◌, ◌<◌, true, IfNone, length};
 ghost use Rattle.sparc_step.specs.Registers.{register_at};
-ghost use Rattle.machine_model.specs.Caller.{answering, caller_bytes, is_room, refused_if, room, system_only, target, tested, text, with_answer, with_written};
-ghost use Rattle.machine_model.specs.Told.{Unseen, Words};
-ghost use Rattle.whole_system.specs.Serving.{IsCaller, IsServed, IsUponOne, MayRead, caller_of, upshot_of};
-ghost use Rattle.whole_system.specs.Shown.{seen_when};
+ghost use Rattle.machine_model.specs.Caller.{answering, caller_bytes, is_room, refused_if, room, system_only, target, text, with_written};
+ghost use Rattle.machine_model.specs.Told.{Unseen};
+ghost use Rattle.whole_system.specs.Serving.{IsCaller, IsServed, MayRead, caller_of};
 ghost use Rattle.whole_system.specs.State.{with_machine, with_part};
 ghost use Rattle.xm_conf.specs.Limits.{most_parts};
 
@@ -155,24 +154,15 @@ pub fn write(sys: &mut Sys, site: CallSite, address: u32, bytes: &[u8])
 }
 
 /// A call that answers with a result and does nothing else.
+#[tactic(auto, unfolding(crate::specs::Serving::caller_of, machine_model::specs::Caller::with_answer))]
 pub fn answer(sys: &mut Sys, site: CallSite, value: u32) -> Served
     requires { IsCaller site sys.old }
     ensures { IsServed site.part Unseen (answering value (caller_of site sys.old).state) result sys.old sys.new }
 {
-    act(sys, site, Act::Nothing, value)
-}
-
-/// A call that answers with a result and reaches beyond its caller.
-#[tactic(auto, unfolding(crate::specs::Serving::caller_of, machine_model::specs::Caller::with_answer))]
-pub fn act(sys: &mut Sys, site: CallSite, act: Act, value: u32) -> Served
-    requires caller { IsCaller site sys.old }
-    requires one { IsUponOne act sys.old }
-    ensures { IsServed site.part Unseen (record { after = with_answer value (caller_of site sys.old).state; told = []; upshot = upshot_of act }) result sys.old sys.new }
-{
     sys.set_result(site.part, value);
     Served {
         note: Note::Nothing,
-        act,
+        act: Act::Nothing,
     }
 }
 
@@ -194,48 +184,5 @@ pub fn answer_written(
     Served {
         note: Note::Nothing,
         act: Act::Nothing,
-    }
-}
-
-/// An observing call: it writes bytes that its caller is shown of the rest of the system, and answers with a result.
-#[tactic(auto, unfolding(crate::specs::Serving::caller_of, machine_model::specs::Caller::with_answer))]
-pub fn show(
-    sys: &mut Sys,
-    site: CallSite,
-    address: u32,
-    bytes: &[u8],
-    act: Act,
-    value: u32,
-) -> Served
-    requires caller { IsCaller site sys.old }
-    requires one { IsUponOne act sys.old }
-    requires few { length bytes.now < 65536 }
-    requires room { is_room (caller_of site sys.old) address (length bytes.now) ≡ true }
-    ensures { IsServed site.part (Words bytes.now) (record { after = with_answer value (with_written address bytes.now (caller_of site sys.old).state); told = []; upshot = upshot_of act }) result sys.old sys.new }
-{
-    write(sys, site, address, bytes);
-    sys.set_result(site.part, value);
-    Served {
-        note: Note::Saw {
-            at: address,
-            size: bytes.len() as u32,
-        },
-        act,
-    }
-}
-
-/// Bytes of the state of the partition that a call names are written to an address, where there is room for them.
-pub fn show_named(sys: &mut Sys, site: CallSite, id: u32, at: u32, bytes: &[u8]) -> Served
-    requires caller { IsCaller site sys.old }
-    requires few { length bytes.now < 65536 }
-    ensures { IsServed site.part (seen_when (room (caller_of site sys.old) at (length bytes.now) ∷ []) (if id == site.part then Unseen else Words bytes.now)) (tested (room (caller_of site sys.old) at (length bytes.now) ∷ []) (caller_of site sys.old) (answering 0 (with_written at bytes.now (caller_of site sys.old).state))) result sys.old sys.new }
-{
-    if let Some(code) = room(sys, site, at, bytes.len() as u32) {
-        return answer(sys, site, code);
-    }
-    if id == u32::from(site.part) {
-        answer_written(sys, site, at, bytes, 0)
-    } else {
-        show(sys, site, at, bytes, Act::Nothing, 0)
     }
 }

@@ -1,4 +1,4 @@
-use Rattle.std.proofs.Common.{Ok, Err}
+use Rattle.std.proofs.Common.{Ok, Err, refl}
 use Rattle.machine_model.specs.Caller.{answering}
 use Rattle.control_calls.proofs.ProcessorLemmas.{flush_answered, undone_changed}
 use Rattle.whole_system.specs.ServedLemmas.{served_changed}
@@ -11,7 +11,7 @@ returns-in-Ok c =
     let old = c.args.sys.now in
     let ps = part_at c.args.site.part old.machine in
     flush_answered c.args.site old c.answer.new.sys c.answer.result (Ok tt) c.in-Ok.ensures.answer
-    (served_changed c.args.site old c.flush_in.new.self c.answer.new.sys (behind_flush (flushed_in (areas_in c.args.site.part old.machine) ps) ps) c.answer.result (answering 0) c.requires.caller c.flush_in.ensures.value c.answer.ensures)
+    (served_changed c.args.site old c.flush_in.new.self c.answer.new.sys (behind_flush (flushed_in (areas_in c.args.site.part old.machine) ps) ps) c.answer.result (answering 0) refl refl c.requires.caller c.flush_in.ensures.value c.answer.ensures)
 
 pub returns-in-Err : goal.returns-in-Err
 returns-in-Err c =

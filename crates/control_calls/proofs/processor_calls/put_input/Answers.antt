@@ -1,4 +1,4 @@
-use Rattle.std.proofs.Common.{drop, List, ℕ, subst}
+use Rattle.std.proofs.Common.{drop, List, ℕ, refl, subst}
 use Rattle.std.specs.Int.{to_be_bytes, w32}
 use Rattle.machine_model.specs.Caller.{answering, with_written}
 use Rattle.machine_model.specs.Partition.{PartitionState}
@@ -18,4 +18,4 @@ returns c =
     let written = rw c.to_be_bytes.ensures at c.write.ensures in
     let used = subst (λ (words : List ℕ). IsServed site.part Unseen (answering 0 (record (caller_of site mid).state { inputs = drop c.args.used words })) c.use_inputs.result mid c.use_inputs.new.sys)
     (words_stay site.part old mid ps written) c.use_inputs.ensures in
-    served_changed site old mid c.use_inputs.new.sys ps c.use_inputs.result (λ (state : PartitionState). answering 0 (record state { inputs = drop c.args.used (input_words_of site.part old.machine) })) c.requires.caller written used
+    served_changed site old mid c.use_inputs.new.sys ps c.use_inputs.result (λ (state : PartitionState). answering 0 (record state { inputs = drop c.args.used (input_words_of site.part old.machine) })) refl refl c.requires.caller written used

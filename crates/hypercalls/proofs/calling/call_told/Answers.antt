@@ -4,7 +4,7 @@ use Rattle.whole_system.specs.Serving.{caller_at}
 use Rattle.whole_system.specs.declared.served.Note.{Note}
 use Rattle.machine_model.specs.LocalTick.{called}
 use Rattle.tick_pieces.specs.Work.{IsToldBy}
-use Rattle.hypercalls.proofs.CallLemmas.{call_alone, call_noted, call_quiet, call_worked}
+use Rattle.hypercalls.proofs.CallLemmas.{call_alone, call_entered, call_noted, call_quiet, call_worked}
 use Rattle.hypercalls.proofs.calling.call_told.Goals as goal
 
 pub returns-clause-worked : goal.returns-clause-worked
@@ -20,6 +20,13 @@ returns-clause-alone c =
 pub returns-clause-noted : goal.returns-clause-noted
 returns-clause-noted c =
     call_noted c.args.p c.args.pc (part_at c.args.p c.args.sys.now.machine).core.pc c.serve_call-served.result c.args.sys.now c.serve_call-served.new.sys c.serve_call-served.ensures.served
+
+pub returns-clause-asked : goal.returns-clause-asked
+returns-clause-asked c = c.serve_call-served.ensures.served.asked
+
+pub returns-clause-entered : goal.returns-clause-entered
+returns-clause-entered c =
+    call_entered c.args.p c.args.pc (part_at c.args.p c.args.sys.now.machine).core.pc c.serve_call-served.result c.args.sys.now c.serve_call-served.new.sys c.serve_call-served.ensures.served
 
 pub returns-then-is_quiet-clause-worked : goal.returns-then-is_quiet-clause-worked
 returns-then-is_quiet-clause-worked c =

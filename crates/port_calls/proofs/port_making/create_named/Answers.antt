@@ -1,4 +1,4 @@
-use Rattle.std.proofs.Common.{◌∙◌, subst, ℕ}
+use Rattle.std.proofs.Common.{◌∙◌, refl, subst, ℕ}
 use Rattle.std.specs.Prelude.{Result}
 use Rattle.xm_ports.specs.Ports.{with_port}
 use Rattle.xm_ports.specs.declared.ports.CreateFault.{CreateFault}
@@ -21,7 +21,7 @@ returns-in-Ok c =
     let created = c.in-Ok.ensures.answer ∙ created_seen sys site c.args.name.now w.kind w.way w.length w.most in
     subst (λ (r : Result ℕ CreateFault). IsServed site.part Unseen (by_created r (caller_of site sys)) c.answer.result sys c.answer.new.sys) created
     (subst (λ (value : ℕ). IsServed site.part Unseen (answering value ps) c.answer.result sys c.answer.new.sys) c.from.ensures
-    (served_changed site sys c.create_port.new.self c.answer.new.sys ps c.answer.result (answering c.from.result) c.requires c.in-Ok.ensures.made c.answer.ensures))
+    (served_changed site sys c.create_port.new.self c.answer.new.sys ps c.answer.result (answering c.from.result) refl refl c.requires c.in-Ok.ensures.made c.answer.ensures))
 
 pub returns-in-Err : goal.returns-in-Err
 returns-in-Err c =

@@ -1,5 +1,5 @@
 use Rattle.std.proofs.Common.{refl}
-use Rattle.whole_system.proofs.CallerLemmas.{answered_set}
+use Rattle.whole_system.specs.ServedLemmas.{answered_set}
 use Rattle.whole_system.proofs.answering.answer_written.Goals as goal
 
 pub returns : goal.returns
@@ -11,4 +11,7 @@ returns c = record {
   seen = refl;
   readable = tt;
   one = tt;
+  asked = tt;
+  entered = tt;
+  event = tt;
 }

@@ -1,7 +1,0 @@
-use Rattle.whole_system.proofs.CallerLemmas.{answered_set, served_shown}
-use Rattle.whole_system.proofs.answering.show.Goals as goal
-
-pub returns : goal.returns
-returns c =
-    served_shown c.args.site c.args.sys.now _ c.args.address c.args.value c.args.bytes.now c.args.act c.requires.room c.requires.one
-    (answered_set c.args.sys.now c.write.new.sys _ c.args.site.part c.args.value _ c.requires.caller c.write.ensures c.set_result.ensures.value)
