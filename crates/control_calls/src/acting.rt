@@ -7,7 +7,7 @@ ghost use Rattle.whole_system.specs.Serving.{HasEvent, IsCaller, IsServed, IsUpo
 ghost use Rattle.whole_system.specs.Shown.{seen_when};
 
 use whole_system::answering::{answer, answer_written, room, write};
-use whole_system::{Act, CallSite, Note, Served, Sys};
+use whole_system::{Act, CallSite, Note, Served, Sys, engine};
 use xm_base::PartId;
 
 /// A call that answers with a result and reaches beyond its caller.
@@ -18,7 +18,7 @@ pub(crate) fn act(sys: &mut Sys, site: CallSite, act: Act, value: u32) -> Served
     requires event { HasEvent act }
     ensures { IsServed site.part Unseen (record { after = with_answer value (caller_of site sys.old).state; told = []; upshot = upshot_of act }) result sys.old sys.new }
 {
-    sys.set_result(site.part, value);
+    engine::set_result(sys, site.part, value);
     Served {
         note: Note::Nothing,
         act,
@@ -44,7 +44,7 @@ pub(crate) fn show(
     ensures { IsServed site.part (Words bytes.now) (record { after = with_answer value (with_written address bytes.now (caller_of site sys.old).state); told = []; upshot = upshot_of act }) result sys.old sys.new }
 {
     write(sys, site, address, bytes);
-    sys.set_result(site.part, value);
+    engine::set_result(sys, site.part, value);
     Served {
         note: Note::Saw {
             at: address,

@@ -14,7 +14,7 @@ use whole_system::answering::{
     A, B, C, NO_ACTION, NOT_AVAILABLE, OUT_0, answer, argument, read, refused_if, target, text,
 };
 use whole_system::structures::{counts_bytes, health_bytes, trace_bytes};
-use whole_system::{Act, CallSite, Note, Served, Sys};
+use whole_system::{Act, CallSite, Note, Served, Sys, engine};
 use xm_conf::Event;
 use xm_traces::TraceEntry;
 
@@ -117,7 +117,7 @@ fn told_not_kept(sys: &mut Sys, site: CallSite) -> Served
     requires { IsCaller site sys.old }
     ensures { IsServed site.part NotKept (answering not_available (caller_of site sys.old).state) result sys.old sys.new }
 {
-    sys.set_result(site.part, NOT_AVAILABLE);
+    engine::set_result(sys, site.part, NOT_AVAILABLE);
     Served {
         note: Note::NotKept,
         act: Act::Nothing,

@@ -15,7 +15,7 @@ use virt_traps::IretFault;
 use whole_system::answering::{
     A, B, INVALID_PARAMETER, NOT_AVAILABLE, OUT_0, answer, argument, refused_if, room, text, write,
 };
-use whole_system::{Act, CallSite, Note, Served, Sys};
+use whole_system::{Act, CallSite, Note, Served, Sys, engine};
 use xm_base::CONSOLE_BYTES;
 use xm_conf::Event;
 
@@ -81,7 +81,7 @@ fn print(sys: &mut Sys, site: CallSite, at: u32, size: u32) -> Served
     requires readable { MayRead (caller_of site sys.old) at size }
     ensures { IsServed site.part Unseen (record (answering size (caller_of site sys.old).state) { told = printed (caller_bytes (caller_of site sys.old) at size) }) result sys.old sys.new }
 {
-    sys.set_result(site.part, size);
+    engine::set_result(sys, site.part, size);
     if size == 0 {
         DONE
     } else {

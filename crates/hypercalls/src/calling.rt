@@ -16,7 +16,7 @@ ghost use Rattle.tick_pieces.specs.Work.{IsPartDone, IsToldBy, ReachIsUponOne, I
 
 use crate::serving::serve;
 use tick_pieces::{Beyond, Lines, handle_event, obey, program_counter};
-use whole_system::{Act, Note, Served, Sys};
+use whole_system::{Act, Note, Served, Sys, engine};
 use xm_base::{Order, PartId};
 use xm_report::Line;
 
@@ -43,7 +43,7 @@ pub fn call_told(sys: &mut Sys, lines: &mut Lines, p: PartId, pc: u32) -> Option
     ensures few { length lines.new ≤ 4 }
 {
     let served = serve_call(sys, p, pc);
-    sys.count_tick(p);
+    engine::count_tick(sys, p);
     if is_quiet(served.note, served.act) {
         return None;
     }

@@ -17,10 +17,10 @@ use crate::work::{LoneWork, is_unseen, silent};
 use hypercalls::{Sys, call_told};
 use machine_model::observes_as_tested;
 use tick_pieces::{Beyond, Lines, Sight};
-use whole_system::CallSite;
 use whole_system::answering::{
     A, B, C, INVALID_PARAMETER, NOT_AVAILABLE, answer, answer_written, argument, is_system,
 };
+use whole_system::{CallSite, engine};
 
 /// An observing call: where its answer goes, how many bytes that has, and whether it asks for an entry of a log.
 #[derive(Clone, Copy, Debug, PartialEq, Eq)]
@@ -81,7 +81,7 @@ fn observe(sys: &mut Sys, site: CallSite, asked: Asked, seen: Sight<'_>) -> Opti
     observes_as_tested();
     if shows_this(sys, site, asked, seen) {
         show(sys, site, asked, seen);
-        sys.count_tick(site.part);
+        engine::count_tick(sys, site.part);
         silent(Beyond::Nothing)
     } else {
         None

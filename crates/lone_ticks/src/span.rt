@@ -29,7 +29,7 @@ use sparc_step::Turn;
 use tick_pieces::{
     Cue, Lines, Sight, Traffic, goes_on, interrupt, program_counter, rest_one, takes_turns,
 };
-use whole_system::CallSite;
+use whole_system::{CallSite, engine};
 use xm_base::{PartId, State};
 use xm_conf::Conf;
 
@@ -271,7 +271,7 @@ fn count_on(sys: &mut Sys, p: PartId, ticks: u64)
     requires clock { (part_at p sys.old.machine).clocks.execution + ticks < 2 ^ 63 }
     ensures { sys.new ≡ with_machine (with_part p (counted_on ticks (part_at p sys.old.machine)) sys.old.machine) sys.old }
 {
-    sys.count_on(p, ticks);
+    engine::count_on(sys, p, ticks);
 }
 
 // How many ticks there are, at most so many, before one in which a timer of the partition is due.

@@ -21,7 +21,7 @@ use sparc_step::Turn;
 use tick_pieces::{
     Beyond, Lines, Sight, goes_on, interrupt, meet_trap, program_counter, take_interrupt,
 };
-use whole_system::CallSite;
+use whole_system::{CallSite, engine};
 use xm_base::PartId;
 
 /// The work of one partition in a tick of its slot.
@@ -66,9 +66,9 @@ pub(crate) fn work_alone(
     requires empty { lines.old ≡ [] }
     ensures { IsLoneWork result p (asks (view_of sys.old.machine.system p) (part_at p sys.old.machine) sys.old.machine.time first) (sight_value seen.entry) (worked (view_of sys.old.machine.system p) (copies sys.old.machine p) sys.old.machine.time first (sight_value seen.entry) (part_at p sys.old.machine)) sys.old sys.new lines.new }
 {
-    sys.meet(p, first);
+    engine::meet(sys, p, first);
     if goes_on(sys, p, first) {
-        sys.wake(p);
+        engine::wake(sys, p);
         go_on_alone(sys, lines, p, seen)
     } else {
         stay(seen)
@@ -128,7 +128,7 @@ fn go_alone(sys: &mut Sys, p: PartId, seen: Sight<'_>) -> Option<LoneWork>
     ensures { IsLoneWork result p None (sight_value seen.entry) (quiet (clocked (part_at p sys.old.machine))) sys.old sys.new [] }
 {
     if is_unseen(seen) {
-        sys.count_tick(p);
+        engine::count_tick(sys, p);
         silent(Beyond::Nothing)
     } else {
         None

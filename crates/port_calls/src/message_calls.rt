@@ -24,7 +24,7 @@ use whole_system::answering::{
     argument, read, room, text, write,
 };
 use whole_system::structures::validity;
-use whole_system::{Act, CallSite, Note, Served, Sys};
+use whole_system::{Act, CallSite, Note, Served, Sys, engine};
 use xm_conf::{ChanKind, Kind, Way};
 
 /// Calls 17, XM_write_sampling_message(a, b, c), and 21, XM_send_queuing_message(a, b, c), on a made port: c bytes at b.
@@ -152,7 +152,7 @@ pub(crate) fn set_result(sys: &mut Sys, site: CallSite, value: u32)
     requires { IsCaller site sys.old }
     ensures { sys.new ≡ with_machine (with_part site.part (with_answer value (caller_of site sys.old).state) sys.old.machine) sys.old }
 {
-    sys.set_result(site.part, value);
+    engine::set_result(sys, site.part, value);
 }
 
 /// Calls 18, XM_read_sampling_message(a, b, c, d), and 22, XM_receive_queuing_message(a, b, c), on a made port: into c bytes at b, and

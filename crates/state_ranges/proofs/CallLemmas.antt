@@ -43,7 +43,7 @@ use Rattle.machine_model.specs.ProcessorCalls.{by_flush, by_return, clear_irqmas
 use Rattle.machine_model.specs.Structures.{counts_bytes, double, health_bytes, partition_status, queuing_status, sample_status, sampling_status, state_number, trace_bytes, validity, word}
 use Rattle.machine_model.specs.TimeCalls.{clock_numbered, clock_of, get_plan_status, get_time, is_negative, is_no_plan, set_timer, switch_sched_plan, with_timer_set}
 use Rattle.machine_model.specs.Told as told
-use Rattle.machine_model.specs.Told.{Act, AllHalted, AllReset, NotKept, OwnPuts, OwnSignals, OwnStill, OwnTakes, OwnTraffic, Sight, Unseen, Words}
+use Rattle.machine_model.specs.Told.{Act, AllHalted, AllReset, NotKept, OwnPuts, OwnSignals, OwnTakes, Sight, Unseen, Words}
 use Rattle.machine_model.specs.View.{PartitionView, PortChannel}
 use Rattle.cue_scripts.specs.Script.{IsOrder}
 use Rattle.state_ranges.specs.Cues.{HasMessageBytes, HasShownBytes}

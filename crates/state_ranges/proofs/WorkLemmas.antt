@@ -37,7 +37,7 @@ use Rattle.machine_model.specs.LocalTick.{LocalTick, bounded, by_act, by_turn, b
 use Rattle.machine_model.specs.Partition.{PartitionState, applies, areas_of, booted, carried_out, disarmed, execution_looked_at, hardware_looked_at, loaded_memory, memory_after, ordered, raised_if, reset, slot_start}
 use Rattle.machine_model.specs.Partition as partition
 use Rattle.machine_model.specs.Told as told
-use Rattle.machine_model.specs.Told.{Act, OwnPuts, OwnSignals, OwnStill, OwnTakes, OwnTraffic, Sight}
+use Rattle.machine_model.specs.Told.{Act, Sight}
 use Rattle.machine_model.specs.View.{PartitionView}
 use Rattle.cue_scripts.specs.Script.{IsOrder}
 use Rattle.state_ranges.specs.Cues.{HasShownBytes}

@@ -34,6 +34,7 @@ use tick_pieces::{
     Beyond, Lines, Span, goes_on, interrupt, meet_trap, rest, take_interrupt, takes_turns,
 };
 use virt_clocks::next_deadline_is_least;
+use whole_system::engine;
 use xm_base::PartId;
 
 /// Ticks, at most so many, up to the first of which something is told, or that reaches beyond its partition. Their lines are those of the
@@ -165,9 +166,9 @@ fn take_slot(sys: &mut Sys, lines: &mut Lines, span: &mut Span, p: PartId, first
     ensures done { AreDoneFrom span.new most sys.old.machine sys.old sys.new lines.new }
 {
     next_deadline_is_least();
-    sys.meet(p, first);
+    engine::meet(sys, p, first);
     if goes_on(sys, p, first) {
-        sys.wake(p);
+        engine::wake(sys, p);
         go_on(sys, lines, span, p, most)
     } else {
         stay_idle(sys, lines, span, p, most)
@@ -284,7 +285,7 @@ fn count_on(sys: &mut Sys, p: PartId, ticks: u64)
     requires clock { (part_at p sys.old.machine).clocks.execution + ticks < 2 ^ 63 }
     ensures { sys.new ≡ with_machine (with_part p (counted_on ticks (part_at p sys.old.machine)) sys.old.machine) sys.old }
 {
-    sys.count_on(p, ticks);
+    engine::count_on(sys, p, ticks);
 }
 
 // The tick of an instruction that trapped, after so many in which the partition only went.

@@ -8,8 +8,8 @@ ghost use Rattle.machine_model.specs.Partition.{rested};
 ghost use Rattle.slot_runs.specs.Passes.{part_at, rest_but, with_part};
 
 use virt_clocks::{Clock, Timer};
-use whole_system::Sys;
 use whole_system::interrupts::HARDWARE_TIMER;
+use whole_system::{Sys, engine};
 use xm_base::{PartId, State};
 
 /// All partitions rest at this time, but for one where it is named. Where there is no other, or no hardware timer is armed, that leaves all
@@ -18,13 +18,13 @@ use xm_base::{PartId, State};
 pub fn rest(sys: &mut Sys, working: Option<PartId>, time: u64)
     ensures { sys.new ≡ with_machine (rest_but working time sys.old.machine) sys.old }
 {
-    if sys.is_known_untimed() {
+    if engine::is_known_untimed(sys) {
         return;
     }
     if is_alone(sys, working) {
         return;
     }
-    if sys.is_timed() {
+    if engine::is_timed(sys) {
         rest_each(sys, working, time);
     }
 }

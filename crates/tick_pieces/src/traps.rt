@@ -12,7 +12,7 @@ use crate::beyond::Beyond;
 use crate::health::{deliver_interrupt, handle_event};
 use crate::lines::Lines;
 use health_monitor::event_of;
-use whole_system::{Note, Sys};
+use whole_system::{Note, Sys, engine};
 use xm_base::PartId;
 
 /// A partition takes an interrupt, which is the tick's work.
@@ -25,7 +25,7 @@ pub fn take_interrupt(sys: &mut Sys, lines: &mut Lines, p: PartId, n: u8)
     ensures worked { IsTickWorked p (interrupt_delivered (view_of sys.old.machine.system p) sys.old.machine.time n (clocked (part_at p sys.old.machine))) Note.Nothing Beyond.Nothing sys.old sys.new lines.new }
     ensures few { length lines.new ≤ 3 }
 {
-    sys.count_tick(p);
+    engine::count_tick(sys, p);
     deliver_interrupt(sys, lines, p, n);
 }
 
@@ -38,6 +38,6 @@ pub fn meet_trap(sys: &mut Sys, lines: &mut Lines, p: PartId, tt: u8, pc: u32) -
     ensures worked { IsTickWorked p (event_handled (view_of sys.old.machine.system p) sys.old.machine.time (event_of_type tt) pc (Some tt) (clocked (part_at p sys.old.machine))) Note.Nothing result sys.old sys.new lines.new }
     ensures few { length lines.new ≤ 3 }
 {
-    sys.count_tick(p);
+    engine::count_tick(sys, p);
     Beyond::Whole(handle_event(sys, lines, p, event_of(tt), pc, Some(tt)))
 }

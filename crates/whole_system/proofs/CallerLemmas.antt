@@ -10,7 +10,7 @@ use Rattle.guest_memory.specs.Memories.{Memories, answer_by, areas_at, first_ref
 use Rattle.guest_memory.specs.RefusedLemmas.{none_refused}
 use Rattle.machine_model.specs.Caller.{Caller, invalid_parameter, is_room, refused_if, room, target, text}
 use Rattle.machine_model.specs.View.{no_part, part_of, view_of}
-use Rattle.xm_conf.specs.Configuration.{Conf, Part}
+use Rattle.xm_conf.specs.Configuration.{Part}
 use Rattle.xm_conf.specs.View.{counts_seen, is_system, sees}
 use Rattle.whole_system.specs.Serving.{MayRead, caller_of}
 use Rattle.whole_system.specs.State.{SysState, areas_in}

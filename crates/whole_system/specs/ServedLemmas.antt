@@ -1,7 +1,7 @@
 -- A call that is served: what it is shown, what it comes to, and a change of its caller before it.
 use Rattle.std.proofs.Common.{◌≡◌, ℕ, ◌<◌, List, [], length, refl, sym, ap, ◌∙◌, subst}
 use Rattle.std.proofs.lemmas.List.{length-set, set-set}
-use Rattle.guest_bus.specs.Memory.{Area, Memory}
+use Rattle.guest_bus.specs.Memory.{Memory}
 use Rattle.machine_model.specs.Caller.{Served, with_answer}
 use Rattle.machine_model.specs.Partition as model
 use Rattle.machine_model.specs.Partition.{PartitionState}

@@ -10,7 +10,7 @@ ghost use Rattle.xm_conf.specs.Limits.{most_parts};
 
 use crate::call_site::CallSite;
 use crate::served::{Act, Note, Served};
-use crate::sys::Sys;
+use crate::sys::{Sys, engine};
 
 /// The register that has a hypercall's number, and gets its result.
 pub const OUT_0: u8 = 8;
@@ -159,7 +159,7 @@ pub fn answer(sys: &mut Sys, site: CallSite, value: u32) -> Served
     requires { IsCaller site sys.old }
     ensures { IsServed site.part Unseen (answering value (caller_of site sys.old).state) result sys.old sys.new }
 {
-    sys.set_result(site.part, value);
+    engine::set_result(sys, site.part, value);
     Served {
         note: Note::Nothing,
         act: Act::Nothing,
@@ -180,7 +180,7 @@ pub fn answer_written(
     ensures { IsServed site.part Unseen (answering value (with_written address bytes.now (caller_of site sys.old).state)) result sys.old sys.new }
 {
     write(sys, site, address, bytes);
-    sys.set_result(site.part, value);
+    engine::set_result(sys, site.part, value);
     Served {
         note: Note::Nothing,
         act: Act::Nothing,

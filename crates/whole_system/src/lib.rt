@@ -20,4 +20,4 @@ pub use inputs::{InputFault, Inputs};
 pub use own_state::PartState;
 pub use reading::read_memory;
 pub use served::{Act, Note, Served};
-pub use sys::Sys;
+pub use sys::{Sys, engine};

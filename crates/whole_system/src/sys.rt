@@ -1,7 +1,6 @@
 //! The whole system.
 
 ghost use Rattle.std.specs.Prelude.{◌≡◌, ◌+◌, ◌-◌, ◌%◌, ◌^◌, ◌<◌, ◌≤◌, true, false, IfOk, IfSome, OnErr, OnOk, length, map, slice_get};
-ghost use Rattle.std.specs.Bool.{OnTrue};
 ghost use Rattle.std.specs.Borrow.{sem};
 ghost use Rattle.cyclic_plans.specs.PlanClock.{AsksPlan, IsInFrame, ended, entered_plan};
 ghost use Rattle.guest_bus.specs.Memory.{all_from, is_readable, is_writable};
@@ -12,24 +11,21 @@ ghost use Rattle.virt_traps.specs.Settled.{GoesOn, settled};
 ghost use Rattle.xef_images.specs.Image.{IsImage};
 ghost use Rattle.xm_ports.specs.Channels.{shapes_of};
 ghost use Rattle.xm_ports.specs.Ports.{created, with_port};
-ghost use Rattle.machine_model.specs.Caller.{with_answer, with_written};
+ghost use Rattle.machine_model.specs.Caller.{with_written};
 ghost use Rattle.machine_model.specs.Health.{after_delivery};
-ghost use Rattle.machine_model.specs.LocalTick.{clocked, turned_state, with_interrupts};
+ghost use Rattle.machine_model.specs.LocalTick.{turned_state};
 ghost use Rattle.machine_model.specs.Machine.{start};
 ghost use Rattle.machine_model.specs.Partition.{loaded_memory, resets_after};
 ghost use Rattle.machine_model.specs.View.{view_of};
-ghost use Rattle.slot_runs.specs.Meeting.{awake};
-ghost use Rattle.whole_system.specs.State.{any_timed, areas_in, memory_of, part_at, with_inputs, with_machine, with_memory, with_part, input_words_of};
+ghost use Rattle.whole_system.specs.State.{areas_in, memory_of, part_at, with_inputs, with_machine, with_memory, with_part, input_words_of};
 ghost use Rattle.whole_system.specs.Lending.{LendsChannels, LendsPart, LendsPlanClock};
 ghost use Rattle.virt_traps.specs.Stepping.{stepped};
 ghost use Rattle.whole_system.specs.Stepping.{IsGone, behind_flush, behind_return, delivered_to, flushed_in, returned_in, with_turned};
-ghost use Rattle.whole_system.specs.Turning.{counted_on};
 ghost use Rattle.xm_conf.specs.Limits.{most_parts};
 
-use crate::answering::OUT_0;
 use crate::gone::Gone;
 use crate::inputs::Inputs;
-use crate::own_state::{PartState, any_timed};
+use crate::own_state::PartState;
 use crate::starting::{boot_parts, count, load};
 use crate::stepping::{deliver_part, flush_part, return_part, settle_part, step_part};
 use cyclic_plans::PlanClock;
@@ -41,9 +37,11 @@ use std::alloc::Global;
 use std::marker::Model;
 use virt_traps::{IretFault, StackFault};
 use xef_images::Xef;
-use xm_base::{Memory, Mode, PartId, State};
+use xm_base::{Memory, Mode, PartId};
 use xm_conf::{Conf, Kind, Part};
 use xm_ports::{Channels, CreateFault};
+
+pub mod engine;
 
 /// A system that was booted: its partitions, memories, channels and clocks.
 #[derive(Debug, Drop)]
@@ -225,75 +223,6 @@ impl Sys {
         ensures few { result ≤ most_parts }
     {
         count(&self.system)
-    }
-
-    /// Whether it is known, without a look at the partitions, that no hardware timer is armed.
-    pub fn is_known_untimed(&self) -> bool
-        ensures { OnTrue result (any_timed self.now.machine.parts ≡ false) }
-    {
-        self.untimed
-    }
-
-    /// Whether the hardware timer of a partition is armed. Where none is, that stays known until a partition's state is lent.
-    #[inline(never)]
-    pub fn is_timed(&mut self) -> bool
-        ensures value { result ≡ any_timed self.old.machine.parts }
-        ensures unchanged { self.new ≡ self.old }
-    {
-        if any_timed(&self.parts) {
-            return true;
-        }
-        self.untimed = true;
-        false
-    }
-
-    /// The interrupts of a tick become pending at a partition: the start of a slot, and those of its timers that are due.
-    #[inline(always)]
-    pub fn meet(&mut self, p: PartId, first: bool)
-        requires { p < length self.old.machine.parts }
-        ensures value { self.new ≡ with_machine (with_part p (with_interrupts self.old.machine.time first (part_at p self.old.machine)) self.old.machine) self.old }
-    {
-        self.parts[usize::from(p)].meet(self.time, first);
-    }
-
-    /// A partition becomes ready.
-    #[inline(always)]
-    pub fn wake(&mut self, p: PartId)
-        requires { p < length self.old.machine.parts }
-        ensures value { self.new ≡ with_machine (with_part p (awake (part_at p self.old.machine)) self.old.machine) self.old }
-    {
-        self.parts[usize::from(p)].state = State::Ready;
-    }
-
-    /// A tick more on a partition's execution clock.
-    #[inline(always)]
-    pub fn count_tick(&mut self, p: PartId)
-        requires partition { p < length self.old.machine.parts }
-        requires clock { (part_at p self.old.machine).clocks.execution < 2 ^ 63 }
-        ensures value { self.new ≡ with_machine (with_part p (clocked (part_at p self.old.machine)) self.old.machine) self.old }
-        ensures log { (part_at p self.new.machine).health ≡ (part_at p self.old.machine).health }
-    {
-        self.parts[usize::from(p)].clocks.pass();
-    }
-
-    /// So many ticks more on a partition's execution clock.
-    #[inline(always)]
-    pub fn count_on(&mut self, p: PartId, ticks: u64)
-        requires partition { p < length self.old.machine.parts }
-        requires clock { (part_at p self.old.machine).clocks.execution + ticks < 2 ^ 63 }
-        ensures value { self.new ≡ with_machine (with_part p (counted_on ticks (part_at p self.old.machine)) self.old.machine) self.old }
-    {
-        self.parts[usize::from(p)].clocks.pass_many(ticks);
-    }
-
-    /// A call of a partition has this result.
-    #[inline(always)]
-    #[tactic(auto, unfolding(machine_model::specs::Caller::with_answer))]
-    pub fn set_result(&mut self, p: PartId, value: u32)
-        requires { p < length self.old.machine.parts }
-        ensures value { self.new ≡ with_machine (with_part p (with_answer value (part_at p self.old.machine)) self.old.machine) self.old }
-    {
-        self.parts[usize::from(p)].core.set(OUT_0, value);
     }
 
     /// The hardware clock: the ticks since boot or since the last reset of the hypervisor.

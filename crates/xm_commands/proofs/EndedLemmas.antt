@@ -8,7 +8,7 @@ use Rattle.file_commands.specs.Status.{IsCodeOf}
 use Rattle.file_commands.specs.declared.status.Status.{Status}
 use Rattle.file_commands.specs.declared.status.Status.TheVariants.{Done, NoMemory}
 use Rattle.xm_commands.specs.Arguments.{after_name}
-use Rattle.xm_commands.specs.Ended.{ComesTo, IsEndedBy, IsMisuse, IsOnFiles}
+use Rattle.xm_commands.specs.Ended.{ComesTo, IsEndedBy, IsOnFiles, SaysUsage}
 
 -- the end of a call whose arguments were read, with streams that counted no fault before
 pub read_ended : {A : Type 0} (given : Result (Vec (String A) A) Error) (texts : Vec (String A) A) (handed : List (String A)) (status : Status) (exit before after error_before error_after : ℕ)
@@ -30,7 +30,7 @@ read_ended given texts handed status exit before after error_before error_after 
 -- the end of a call whose arguments could not be read
 pub unread_ended : {A : Type 0} (given : Result (Vec (String A) A) Error) (error : Error) (status : Status) (exit error_before error_after : ℕ)
     → given ≡ Err error → error_before ≡ 0 → IsCodeOf status exit
-    → (error_kind error ≡ OutOfMemory → status ≡ NoMemory) → (error_kind error ≡ OutOfMemory → error_after ≡ error_before) → (error_kind error ≢ OutOfMemory → IsMisuse status None error_before None error_after)
+    → (error_kind error ≡ OutOfMemory → status ≡ NoMemory) → (error_kind error ≡ OutOfMemory → error_after ≡ error_before) → (error_kind error ≢ OutOfMemory → SaysUsage status None error_before None error_after)
     → (status ≡ Done → error_after ≡ error_before) → IsEndedBy given exit
 unread_ended given error status exit error_before error_after is no_error code starved quiet misused silent = record {
   status = status;
@@ -40,7 +40,7 @@ unread_ended given error status exit error_before error_after is no_error code s
   comes = subst (λ g. ComesTo g status 0 error_after) (sym is) record {
     report = refl;
     starved = λ memory. (starved memory, quiet memory ∙ no_error);
-    misused = λ other. subst (λ n. IsMisuse status None n None error_after) no_error (misused other);
+    misused = λ other. subst (λ n. SaysUsage status None n None error_after) no_error (misused other);
   };
   silent = λ done. silent done ∙ no_error;
 }

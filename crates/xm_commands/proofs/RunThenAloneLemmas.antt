@@ -1,5 +1,5 @@
 -- What a run and the replay after it answer.
-use Rattle.std.proofs.Common.{◌≡◌, ◌≢◌, ℕ, zero, suc, ◌%◌, ◌<◌, ◌≤◌, ◌==◌, ◌⊎◌, ⊎_elim, Bool, true, false, nat_eq, nat_lt, if◌then◌else◌, cond, List, [], ◌∷◌, ◌++◌, length, map, drop, replicate, Option, Some, None, Result, Ok, Err, refl, sym, ap, ◌∙◌, subst, arith}
+use Rattle.std.proofs.Common.{◌≡◌, ◌≢◌, ℕ, zero, suc, ◌%◌, ◌<◌, ◌≤◌, ◌==◌, Bool, true, false, nat_eq, nat_lt, if◌then◌else◌, List, [], ◌∷◌, ◌++◌, length, map, drop, Option, Some, None, Result, Ok, Err, refl, sym, ap, ◌∙◌, subst, arith}
 use Rattle.std.specs.Prelude.{slice_index_or, slice_set}
 use Rattle.std.specs.FinMap.{get, insert}
 use Rattle.std.proofs.lemmas.Bool.{eqb-true}
@@ -7,12 +7,12 @@ use Rattle.std.proofs.lemmas.Bool.Decides.{nat_tests}
 use Rattle.std.proofs.lemmas.List.{append_assoc, get_or-set_other, get_or-set_same, length-replicate, length-set, map-append}
 use Rattle.xm_base.specs.declared.limits.TheConstants.{FILE_BYTES, TICKS}
 use Rattle.xm_outside.specs.Files.{Files}
-use Rattle.xm_report.specs.Report.{ReportLine, texts}
+use Rattle.xm_report.specs.Report.{texts}
 use Rattle.alone_replay.specs.OfRun.{IsOfRun, RunIsReplayed}
 use Rattle.file_texts.specs.declared.fault.BoxFault.{BoxFault}
 use Rattle.loaded_system.specs.System.{System as Loaded}
 use Rattle.machine_model.specs.Cue.{script}
-use Rattle.machine_model.specs.Lines.{own, report}
+use Rattle.machine_model.specs.Lines.{report}
 use Rattle.machine_model.specs.Machine.{Machine, run, start}
 use Rattle.machine_model.specs.View.{System, view_of}
 use Rattle.told_scripts.specs.Replayed.{replay_lines}
@@ -26,15 +26,14 @@ use Rattle.file_commands.specs.Denial.{Denial}
 use Rattle.file_commands.specs.Ending.{input_text, status_of, ticks_text}
 use Rattle.file_commands.specs.Inputs.{first_beyond, inputs_for, inputs_with, no_inputs, unless_beyond}
 use Rattle.file_commands.specs.LaterLemmas.{output_names}
-use Rattle.file_commands.specs.Outcome.{Output, Outcome, command_refused, content, core_output, core_outputs, first_long, input_bytes, inputs_of, name_if_any, outcome_of, outcome_of_contents, outcome_of_run, played, ran_scripted, replay_output, ran_with, ran_within, refused_by, run_by, run_outcome, script_bytes, script_denial, script_before, script_output, scripts_for, ticks_asked, unless_denied}
+use Rattle.file_commands.specs.Outcome.{Output, Outcome, command_refused, content, core_output, core_outputs, first_long, input_bytes, inputs_of, name_if_any, outcome_of, outcome_of_run, played, ran_scripted, replay_output, ran_with, ran_within, refused_by, run_by, run_outcome, script_bytes, script_denial, script_before, script_output, scripts_for, ticks_asked, unless_denied}
 use Rattle.file_commands.specs.Packing.{denial, file_names}
-use Rattle.file_commands.specs.declared.status.Status.{Status}
 use Rattle.file_commands.specs.declared.status.Status.TheVariants.{Done, ReadFault}
 use Rattle.run_commands.specs.Contents.{read_all, read_before}
 use Rattle.run_commands.specs.CoreLemmas.{scripts_inside}
 use Rattle.run_commands.specs.Cores.{AreForPartitions}
 use Rattle.run_commands.specs.InputLemmas.{rest_short}
-use Rattle.xm_commands.specs.Answer.{Answer, answer, answer_to_read, command_answer, ending_answer, ending_by, files_saved, outcome_answer, saved_all}
+use Rattle.xm_commands.specs.Answer.{Answer, answer, answer_to_read, command_answer, ending_by, files_saved, outcome_answer, saved_all}
 use Rattle.xm_commands.specs.RunThenAlone.{AnswersAsRun, BelongsTo, HoldsBytes, IsUntouched, RunsThenAlone, input_of, input_or}
 use Rattle.xm_commands.specs.Top.{IsNoneOf, writes_of}
 use Rattle.xm_commands.proofs.OutsideLemmas.{stored-others, stored-same}

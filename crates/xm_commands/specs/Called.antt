@@ -9,7 +9,7 @@ use Rattle.file_commands.specs.Work.{Outside}
 use Rattle.file_commands.specs.declared.status.Status.{Status}
 use Rattle.file_commands.specs.declared.status.Status.TheVariants.{Done, Usage, UartFault, NoMemory}
 
--- out of memory for the words: nothing was done, and no line went out
+-- out of memory for the words or for the UARTs: nothing was done, and no line went out
 pub record HadNoWords (status : Status) (before after : Outside) (had : Option (List ℕ)) (error_faults : ℕ) (got : Option (List ℕ)) (error_faults_after : ℕ) : Type 0 where
   pub starved : status ≡ NoMemory
   pub outside : after ≡ before

@@ -41,21 +41,21 @@ IsOnFiles status words report faults reported faults_after had error_faults got 
     ⊎ IsFileCall status words report faults reported faults_after had error_faults got error_faults_after
 
 -- the answer to misuse, and its line on the error output
-pub record IsMisuse (status : Status) (had : Option (List ℕ)) (error_faults : ℕ) (got : Option (List ℕ)) (error_faults_after : ℕ) : Type 0 where
+pub record SaysUsage (status : Status) (had : Option (List ℕ)) (error_faults : ℕ) (got : Option (List ℕ)) (error_faults_after : ℕ) : Type 0 where
   pub usage : status ≡ Usage
   pub line : IsSaid (complaint Misused) had error_faults got error_faults_after
 
 -- the answer to arguments that could not be read: there was no memory for them, or else they are misused; nothing was written to the report
-pub record IsUnread (status : Status) (error : Error) (faults error_faults : ℕ) : Type 0 where
+pub record HadNoArguments (status : Status) (error : Error) (faults error_faults : ℕ) : Type 0 where
   pub report : faults ≡ 0
   pub starved : error_kind error ≡ OutOfMemory → (status ≡ NoMemory) × (error_faults ≡ 0)
-  pub misused : error_kind error ≢ OutOfMemory → IsMisuse status None 0 None error_faults
+  pub misused : error_kind error ≢ OutOfMemory → SaysUsage status None 0 None error_faults
 
 -- what the arguments come to, of which the first is the program's name, with a report and an error output of which nothing is known but how many
 -- of their writes failed, none of them before
 abbrev pub ComesTo : {A : Type 0} → Result (Vec (String A) A) Error → Status → ℕ → ℕ → Type 0
 ComesTo (Ok texts) status faults error_faults = IsOnFiles status (after_name texts.items) None 0 None faults None 0 None error_faults
-ComesTo (Err error) status faults error_faults = IsUnread status error faults error_faults
+ComesTo (Err error) status faults error_faults = HadNoArguments status error faults error_faults
 
 -- the exit status is the code of a status to which the arguments come
 pub record IsEndedBy {A : Type 0} (given : Result (Vec (String A) A) Error) (exit : ℕ) : Type 0 where

@@ -6,7 +6,7 @@ ghost use Rattle.std.specs.Process.{exit_status};
 ghost use Rattle.file_commands.specs.Status.{IsCodeOf};
 ghost use Rattle.xm_outside.specs.FileUart.{uart_file};
 ghost use Rattle.xm_commands.specs.Arguments.{after_name};
-ghost use Rattle.xm_commands.specs.Ended.{IsEndedBy, IsMisuse, IsOnFiles};
+ghost use Rattle.xm_commands.specs.Ended.{IsEndedBy, IsOnFiles, SaysUsage};
 ghost use Rattle.xm_words.specs.Words.{command_of};
 
 use crate::arguments::carry_out;
@@ -97,7 +97,7 @@ fn file_uart(rt: &HostRuntime, place: u8) -> Result<Box<FileUart<HostRuntime>>, 
 fn unread<E: Sink>(error: &Error, err: &mut E) -> Status
     ensures starved { error_kind error.now ≡ ErrorKind.OutOfMemory → result ≡ Status.NoMemory }
     ensures quiet { error_kind error.now ≡ ErrorKind.OutOfMemory → err.new ≡ err.old }
-    ensures misused { error_kind error.now ≢ ErrorKind.OutOfMemory → IsMisuse result (E.got err.old) (E.faults err.old) (E.got err.new) (E.faults err.new) }
+    ensures misused { error_kind error.now ≢ ErrorKind.OutOfMemory → SaysUsage result (E.got err.old) (E.faults err.old) (E.got err.new) (E.faults err.new) }
     ensures silent { result ≡ Status.Done → err.new ≡ err.old }
 {
     if error.kind() == ErrorKind::OutOfMemory {

@@ -11,9 +11,6 @@ use std::io::Write;
 use std::rt::Files;
 use std::{fs, io};
 
-/// So many writes wait for the disk each. Later ones would take milliseconds a line.
-const SYNCED: u64 = 64;
-
 /// A file as a UART: `uart0.out` to `uart7.out` of the folder where the program runs. The first write makes the
 /// file, or empties one that was there, and later ones append to it. Without a write no file is touched. Between
 /// writes the file is not open: a value that held it could not be boxed as a UART.
@@ -22,7 +19,6 @@ pub struct FileUart<R> {
     rt: R,
     name: &'static str,
     made: bool,
-    writes: u64,
     faults: u64,
 }
 
@@ -38,13 +34,12 @@ impl<R: Files + Drop> FileUart<R> {
             rt,
             name: name_at(place),
             made: false,
-            writes: 0,
             faults: 0,
         }
     }
 
-    /// Writes the bytes to the file, which the first write makes or empties. It waits for the disk at each of the first
-    /// `SYNCED` writes, and then at each whose number is a power of two.
+    /// Writes the bytes to the file, which the first write makes or empties, and waits until the disk has them: a fault that
+    /// only the end of writing shows is this write's.
     fn append(&mut self, bytes: &[u8]) -> io::Result<()>
         ensures name { self.new.name ≡ self.old.name }
         ensures made { OnOk result (self.new.made ≡ true) }
@@ -57,11 +52,7 @@ impl<R: Files + Drop> FileUart<R> {
         };
         self.made = true;
         file.write_all(bytes)?;
-        self.writes = self.writes.saturating_add(1);
-        if self.writes <= SYNCED || self.writes.is_power_of_two() {
-            synced(&file)?;
-        }
-        Ok(())
+        synced(&file)
     }
 }
 

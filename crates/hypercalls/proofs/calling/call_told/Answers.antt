@@ -14,7 +14,7 @@ returns-clause-worked c =
 
 pub returns-clause-alone : goal.returns-clause-alone
 returns-clause-alone c =
-    call_alone c.args.p c.args.pc (part_at c.args.p c.args.sys.now.machine).core.pc c.serve_call-served.result c.follow-reach.result c.args.sys.now c.serve_call-served.new.sys c.count_tick.new.self
+    call_alone c.args.p c.args.pc (part_at c.args.p c.args.sys.now.machine).core.pc c.serve_call-served.result c.follow-reach.result c.args.sys.now c.serve_call-served.new.sys c.count_tick.new.sys
     c.serve_call-served.ensures.served c.follow-reach.ensures.act
 
 pub returns-clause-noted : goal.returns-clause-noted
@@ -32,7 +32,7 @@ pub returns-then-is_quiet-clause-worked : goal.returns-then-is_quiet-clause-work
 returns-then-is_quiet-clause-worked c =
     let note_is = rw c.if-is_quiet.true at c.is_quiet.ensures.note in
     let act_is = rw c.if-is_quiet.true at c.is_quiet.ensures.act in
-    call_quiet c.args.p c.args.pc (part_at c.args.p c.args.sys.now.machine).core.pc c.serve_call-served.result c.args.sys.now c.serve_call-served.new.sys c.count_tick.new.self c.args.lines.now
+    call_quiet c.args.p c.args.pc (part_at c.args.p c.args.sys.now.machine).core.pc c.serve_call-served.result c.args.sys.now c.serve_call-served.new.sys c.count_tick.new.sys c.args.lines.now
     c.requires.partition c.requires.empty c.serve_call-served.ensures.served c.count_tick.ensures.value note_is act_is
 
 pub returns-then-is_quiet-clause-noted : goal.returns-then-is_quiet-clause-noted

@@ -8,7 +8,7 @@ count_tick-requires-clause-clock c = shown_few c.args.site c.args.asked (sight_v
 
 pub returns-then-shows_this : goal.returns-then-shows_this
 returns-then-shows_this c =
-    rw c.silent.ensures (shows_done c.observes_as_tested.ensures.tested c.args.site c.args.asked (sight_value c.args.seen) c.args.sys.now c.show.new.sys c.count_tick.new.self
+    rw c.silent.ensures (shows_done c.observes_as_tested.ensures.tested c.args.site c.args.asked (sight_value c.args.seen) c.args.sys.now c.show.new.sys c.count_tick.new.sys
     c.requires.take.partition c.requires.asked (sym c.shows_this.ensures ∙ c.if-shows_this.true) c.show.ensures c.count_tick.ensures.value)
 
 pub returns-else-shows_this : goal.returns-else-shows_this

@@ -1,4 +1,4 @@
-use Rattle.std.proofs.Common.{◌≡◌, ◌<◌, None, refl, ap, ◌∙◌, arith, inl}
+use Rattle.std.proofs.Common.{◌<◌, None, refl, ap, ◌∙◌, arith, inl}
 use Rattle.uart_board.specs.Views.{UartView}
 use denote.Param.Object.{read_made}
 use Rattle.xm_commands.proofs.edge.on_files.OwnLists.{at-1-1, own-1}
