@@ -145,6 +145,7 @@ def test_report_goes_to_the_file_that_is_named(place: Place) -> None:
     ("xm_run 1.2\ncommit ab12 modified\nkit k\nnot proved\nprogram none\n", ["1.2", "ab12", True, "k", False, None, None]),
     ("xm_run 1.2\ncommit unknown\nkit k\nproved 2026-01-02\nprogram sha256=" + ABC + "\n",
      ["1.2", None, None, "k", True, "2026-01-02", ABC]),
+    ("xm_run unknown\ncommit unknown\nkit none\nnot proved\nprogram none\n", [None, None, None, None, False, None, None]),
     ("something else\n", [None] * 7),
 ])  # fmt: skip
 def test_program_is_what_it_states(place: Place, version: str, wanted: list[object]) -> None:
@@ -433,7 +434,7 @@ def test_other_command_lines_are_refused(place: Place, words: list[str]) -> None
     place.does("printf abc >called")
     done = place.tool(*words)
     assert (done.returncode, done.stdout) == (USAGE, b"")
-    assert re.fullmatch(r"record: .*; tools/record --help prints the command lines\n", done.stderr.decode())
+    assert re.fullmatch(r"record: .*; --help prints the command lines\n", done.stderr.decode())
     assert list(place.folder.iterdir()) == []
 
 
