@@ -350,8 +350,13 @@ def test_checkout_has_the_program_beside_the_tools(place: Place, tmp_path: Path,
 
 @pytest.mark.parametrize("number", [signal.SIGINT, signal.SIGTERM, signal.SIGHUP])
 def test_signal_ends_the_program_and_is_recorded(place: Place, number: signal.Signals) -> None:
+    def obey() -> None:
+        # A caller of pytest may have it ignored.
+        signal.signal(number, signal.SIG_DFL)
+
     place.does("echo begun >&2; exec sleep 600")
-    with subprocess.Popen([TOOL, "--", "gen", "1"], cwd=place.folder, env=place.environment(), stderr=subprocess.PIPE) as tool:
+    with subprocess.Popen([TOOL, "--", "gen", "1"], cwd=place.folder, env=place.environment(), stderr=subprocess.PIPE,
+                          preexec_fn=obey) as tool:  # fmt: skip
         assert tool.stderr is not None
         # The line comes while the program runs.
         assert tool.stderr.readline() == b"begun\n"
@@ -404,6 +409,12 @@ def test_file_without_a_digest_is_not_compared(place: Place) -> None:
     place.tool("--", "flows", "none")
     done = place.tool("--check", "report.txt.json")
     assert (done.returncode, done.stdout) == (0, b"1 of 1 files are as recorded\n")
+
+
+def test_path_that_is_none_is_named(place: Place) -> None:
+    place.put(record=json.dumps({"schema": 1, "files": [{"role": "input", "path": "a%00", "sha256": ABC}]}))
+    done = place.tool("--check", "record")
+    assert (done.returncode, done.stdout) == (1, b"input a%00: not there, or not to be read\n0 of 1 files are as recorded\n")
 
 
 @pytest.mark.parametrize("text, why", [
