@@ -47,7 +47,7 @@ xm_run gen NUM
 xm_run run BOX --frames NUM | --ticks TICKS [--input P=FILE ...] [--core P=FILE ...] [--script P=FILE ...]
     Run the system of the container BOX, and print the report.
 xm_run alone BOX P SCRIPT [--input FILE] [--core FILE]
-    Replay partition P of the container BOX by the script SCRIPT.
+    Replay partition P of the container BOX.
 END
 }
 
