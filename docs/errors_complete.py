@@ -4,7 +4,8 @@ no text of the code has; and for each type of a fault which command prints its t
 which one is named and does not. Ends with 1 where there is one of any, else with 0.
 
 The texts are those of crates/file_commands/src/complaint.rt, those that another file of that crate or of
-run_commands, xm_commands, file_maker or alone_replay makes itself, and those of each `Display` of a type named ..Fault in a crate.
+run_commands, xm_commands, file_maker or alone_replay makes itself, those of each `Display` of a type named ..Fault in a crate,
+and those that the script `xm_run`, `tools/words.sh` and `tools/launcher` say on standard error.
 A row is a line of a table whose first column has the text as code, behind a paragraph that begins with
 `Texts of` and the type; values are one word each. The variant `Memory` is left out: want of memory is told by the program as `no memory`.
 
@@ -19,6 +20,10 @@ from pathlib import Path
 ROOT = Path(__file__).resolve().parent.parent
 COMPLAINTS = "complaint.rt"
 MAKERS = ("file_commands", "run_commands", "xm_commands", "file_maker", "alone_replay")
+SCRIPT = "script"
+SHELL = ("xm_run", "tools/words.sh", "tools/launcher")
+# The words of the document for what a text of the script has as a value.
+VALUES = r"\b(?:FILE|FOLDERS?|CRATE|DATE|TIME|TEXT|WHAT|[NMK])\b"
 WORK = ROOT / "crates/xm_commands/src/work.rt"
 GRAMMAR = ROOT / "crates/xm_words/specs/Grammar.antt"
 
@@ -68,6 +73,21 @@ def made_texts():
                 yield path.name, spelled(text)
 
 
+def script_texts():
+    """The texts that the script and the launcher print on standard error, with `_` for each value. What a variable alone
+    holds is a text elsewhere; one that begins with how it failed is a text for each way to fail."""
+    source = "".join((ROOT / name).read_text(encoding="utf-8") for name in SHELL)
+    failures = set(re.findall(r"^ *failure='(.*)'$", source, re.M))
+    source = re.sub(r"\$\([^()]*\)|\$\{[^{}]*\}|\$\w+|%s", "_", source)
+    said = re.findall(r"\b(?:say|stop|run_program) (?:'([^']+)'|\"([^\"]+)\"|(\w+)$)", source, re.M)
+    said += re.findall(r"^(?:hint|unproved_line)='(.*)()()'$|^ *printf '(?=\w.*>&2$)()()(.*?)\\n'", source, re.M)
+    for parts in said:
+        text = re.sub(r"_(?:/\w+)+", "_", "".join(parts)).removeprefix("xm_run: ")
+        for failure in failures if text.startswith("_: ") else {"_"}:
+            if text != "_":
+                yield SCRIPT, re.sub("^_", failure, text)
+
+
 def rows():
     """Each row's text, with the types that the last paragraph before it names."""
     names = []
@@ -81,7 +101,7 @@ def rows():
             for code in re.findall(r"`([^`]*)`", line.split(" | ")[0]):
                 code = code.removeprefix("xm_run: ").removeprefix("FILE: ")
                 for name in names:
-                    yield name, spelled(code)
+                    yield name, re.sub(VALUES, "_", code) if name == SCRIPT else spelled(code)
 
 
 def command_words():
@@ -143,7 +163,7 @@ def named(types):
 
 
 def main():
-    told = set(fault_texts()) | set(complaint_texts()) | set(made_texts())
+    told = set(fault_texts()) | set(complaint_texts()) | set(made_texts()) | set(script_texts())
     written = set(rows())
     for name, text in sorted(told - written):
         print(f"no row: {name}: {text}")
