@@ -20,14 +20,18 @@ def stop(why):
 
 
 def program():
-    """The program that `./xm_run` builds, or the one that PROGRAM names."""
+    """The program that `./xm_run --prove` proves and builds, or the one that PROGRAM names."""
     given = os.environ.get("PROGRAM")
     if given:
         return given
-    done = subprocess.run([f"{ROOT}/xm_run", "bare", f"{ROOT}/examples/bare/hi.bin", "0"], stdout=subprocess.DEVNULL)
-    if done.returncode:
+    line = ""
+    with subprocess.Popen([f"{ROOT}/xm_run", "--prove"], stderr=subprocess.PIPE, text=True) as proving:
+        for line in proving.stderr:
+            sys.stderr.write(line)
+    if proving.returncode:
         stop("the program is not built")
-    return f"{ROOT}/crates/xm_run/out/xm_run"
+    # The last line is `proved DATE: FILE`.
+    return line.rstrip("\n").split(": ", 1)[1]
 
 
 def output_of(command, **more):

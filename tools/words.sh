@@ -23,7 +23,7 @@ commands() {
 xm_run bare IMAGE TICKS
     Run the raw image IMAGE for TICKS ticks as the only partition of a machine, and print the report.
 xm_run xmcparser XML OUT
-    Read the system description XML, test it by the rules of a configuration, write the binary configuration OUT.
+    Read the system description XML, check it against the rules of a configuration, write the binary configuration OUT.
 xm_run xmcparser upgrade XMC OUT
     Read the binary configuration XMC, of version 1 or 2, write the same configuration in version 2 to OUT.
 xm_run xmeformat build ELF OUT
@@ -37,13 +37,13 @@ xm_run xmpack list BOX
 xm_run xmpack check BOX
     Read a container, and print ok parts=N, N being its number of partitions.
 xm_run plan make XML
-    Read the system description XML, test it as xmcparser does, make a cyclic plan.
+    Read the system description XML, check it as xmcparser does, make a cyclic plan.
 xm_run plan check XML
-    Read and test the system description XML in the same way, and print a line for each partition, by plan 0.
+    Read and check the system description XML in the same way, and print for each partition whether plan 0 meets its requirement.
 xm_run flows XML
-    Read and test the system description XML in the same way, and print a line for each partition.
+    Read and check the system description XML in the same way, and print a line for each partition.
 xm_run gen NUM
-    Generate the system of the number NUM, at most 4294967295, pack it, unpack the container, run the system.
+    Generate a system from the seed NUM, at most 4294967295, pack it, unpack the container, run the system.
 xm_run run BOX --frames NUM | --ticks TICKS [--input P=FILE ...] [--core P=FILE ...] [--script P=FILE ...]
     Run the system of the container BOX, and print the report.
 xm_run alone BOX P SCRIPT [--input FILE] [--core FILE]
