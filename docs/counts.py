@@ -1,0 +1,213 @@
+#!/usr/bin/env python3
+"""Counts what a reader of a clause has to trust: the definitions under it, in how many files of how many crates.
+
+usage: docs/counts.py                      the counts for each clause of `xm_commands::xm_main`, and the sizes of the tree
+       docs/counts.py --lists              the files of specs/ that hold definitions of several kinds, and the names of several files
+       docs/counts.py --write              puts the counts and sizes into docs/ARCHITECTURE.md
+       docs/counts.py [--names] CLAUSE..   the files under these clauses, with --names and the definitions of each file
+
+A CLAUSE is a label of `xm_main`, a public call as `crate::call` or `crate::Type::call`, one clause of a call as
+`crate::call::label`, or a definition as `crate.File.name`.
+
+A definition is under a clause if the clause names it, or names a definition that it is under. A type, a constant or a ghost member
+of a trait is a definition, too; that of a type has what its `impl Model` says of its value. The kit's own definitions are not counted.
+
+The definitions of specs/ are of three kinds. The trusted ones are under a clause of a public call of a library. Rows are only under
+clauses of functions that are said to be worked by hand, have no parameter and have an empty body. The others are for proofs: no
+public clause depends on them.
+"""
+
+from __future__ import annotations
+
+import re
+import signal
+import sys
+from collections import Counter, defaultdict
+from collections.abc import Iterable, Iterator
+from pathlib import Path
+
+from definitions import Key, Tree
+
+ROOT = Path(__file__).resolve().parent.parent
+COMMAND = "docs/counts.py"
+TOP = ("xm_commands", "", "xm_main")
+TRUSTED, ROWS, PROOFS = KINDS = ("trusted", "rows worked by hand", "for proofs")
+SEVERAL, NONE = "of several kinds", "that only hand names on"
+LONG = 120
+OPTIONS = {"--lists", "--write", "--names"}
+
+
+def size(keys: set[Key]) -> tuple[int, int, int]:
+    """How many definitions these are, in how many files, of how many crates."""
+    return len(keys), len({key.file for key in keys}), len({key.crate for key in keys})
+
+
+def table(heads: tuple[str, ...], rows: Iterable[tuple[object, ...]]) -> list[str]:
+    """Lines of columns, the first at the left and the others at the right."""
+    cells = [heads, *(tuple(f"{cell:,}" if isinstance(cell, int) else str(cell) for cell in row) for row in rows)]
+    widths = [max(len(row[place]) for row in cells) for place in range(len(heads))]
+    return ["  ".join([row[0].ljust(widths[0]), *(cell.rjust(width) for cell, width in zip(row[1:], widths[1:]))]) for row in cells]
+
+
+# What is under clauses.
+
+
+def clauses_of(tree: Tree, crate: str, owner: str, name: str) -> Iterator[tuple[str, set[Key]]]:
+    """The label of each clause of a call, and what it names."""
+    for file, call in tree.calls():
+        if (file.partition("/")[0], call.owner, call.name) == (crate, owner, name):
+            yield from ((clause.label, tree.uses_of(file, call, clause)) for clause in call.clauses)
+
+
+def clause_sizes(tree: Tree) -> list[str]:
+    under = [(label, tree.below(uses)) for label, uses in clauses_of(tree, *TOP)]
+    everything = set().union(*(keys for _, keys in under))
+    rows = [(label, *size(keys)) for label, keys in [*under, ("all of them", everything)]]
+    return table(("clause of xm_main", "definitions", "files", "crates"), rows)
+
+
+def starts_of(tree: Tree, word: str) -> set[Key]:
+    """What a word of the command line names."""
+    if "." in word:
+        crate, *path, name = word.split(".")
+        return set(tree.item(".".join(["Rattle", crate, "specs", *path]), name))
+    crate, *path = word.split("::")
+    if not path:
+        return set().union(*(uses for label, uses in clauses_of(tree, *TOP) if label == word))
+    whole = (uses for _, uses in clauses_of(tree, crate, "::".join(path[:-1]), path[-1]))
+    labelled = clauses_of(tree, crate, "::".join(path[:-2]), path[-2]) if len(path) > 1 else ()
+    return set().union(*whole, *(uses for label, uses in labelled if label == path[-1]))
+
+
+def listing(tree: Tree, words: list[str], with_names: bool) -> Iterator[str]:
+    """The files that are under these clauses."""
+    starts = {word: starts_of(tree, word) for word in words}
+    if unknown := [word for word, found in starts.items() if not found]:
+        sys.exit(f"no such clause, call or definition, or it names no definition: {' '.join(unknown)}")
+    keys = tree.below(set().union(*starts.values()))
+    files: dict[str, list[str]] = defaultdict(list)
+    for key in sorted(keys):
+        files[key.file].append(key.name)
+    yield "{:,} definitions in {:,} files of {:,} crates".format(*size(keys))
+    yield from (f"crates/{file}" + (f"  {' '.join(names)}" if with_names else "") for file, names in files.items())
+
+
+# The sizes of the tree.
+
+
+def kinds(tree: Tree) -> dict[Key, str]:
+    """The kind of each definition of `specs/`."""
+    named: dict[bool, set[Key]] = {False: set(), True: set()}
+    for is_row, uses in tree.public_clauses():
+        named[is_row] |= uses
+    trusted, rows = tree.below(named[False]), tree.below(named[True])
+    return {key: TRUSTED if key in trusted else ROWS if key in rows else PROOFS for key in tree.keys if "/specs/" in key.file}
+
+
+def mixtures(found: dict[Key, str]) -> dict[str, Counter[str]]:
+    """How many definitions of each kind a file has."""
+    files: dict[str, Counter[str]] = defaultdict(Counter)
+    for key, kind in found.items():
+        files[key.file][kind] += 1
+    return files
+
+
+def lines_of(path: Path) -> int:
+    return path.read_text(encoding="utf-8").count("\n")
+
+
+def spec_sizes(tree: Tree) -> list[tuple[object, ...]]:
+    """The files of `specs/` by the kinds of their definitions."""
+    found = kinds(tree)
+    held = mixtures(found)
+    files: dict[str, list[Path]] = {kind: [] for kind in (*KINDS, SEVERAL, NONE)}
+    for path in sorted(tree.root.glob("crates/*/specs/**/*.antt")):
+        kinds_of = [*held.get(str(path.relative_to(tree.root / "crates")), Counter()), ""]
+        files[(NONE, kinds_of[0])[len(kinds_of) > 1] if len(kinds_of) < 3 else SEVERAL].append(path)
+    counted = Counter(found.values())
+    return [(f"specs, {kind}", counted[kind] or "", len(paths), sum(map(lines_of, paths))) for kind, paths in files.items()]
+
+
+def line_kinds(path: Path) -> Counter[str]:
+    """How many lines of a source there are of each kind, and how many lines of contracts are long."""
+    counted: Counter[str] = Counter()
+    is_test, depth = path.name == "tests.rt", 0
+    for line in path.read_text(encoding="utf-8").splitlines():
+        bare = line.strip()
+        is_test = is_test or bare.startswith("mod tests {")
+        is_contract = depth > 0 or re.match(r"(requires|ensures)\b|ghost (?!use)", bare) is not None
+        depth = max(0, depth + bare.count("{") - bare.count("}")) if is_contract else 0
+        kind = "tests" if is_test else line_kind(bare, is_contract)
+        counted.update([kind, *(["long"] if kind == "contracts" and len(line) > LONG else [])])
+    return counted
+
+
+def line_kind(line: str, is_contract: bool) -> str:
+    if line == "" or line.startswith("//"):
+        return "comments and blank lines"
+    if is_contract:
+        return "contracts"
+    return "imports and attributes" if re.match(r"(pub |ghost )?use |(pub )?mod |#!?\[", line) else "code"
+
+
+def code_sizes(root: Path) -> tuple[list[tuple[object, ...]], str]:
+    """The lines of the sources and the proofs, and a line on those of contracts that are long."""
+    sources = sorted(root.glob("crates/*/src/**/*.rt"))
+    counted = sum((line_kinds(path) for path in sources), Counter[str]())
+    proofs = sorted(root.glob("crates/*/proofs/**/*.antt"))
+    long = counted.pop("long", 0)
+    rows = [(f"src, {kind}", "", "", counted[kind]) for kind in ("code", "contracts", "tests", "imports and attributes", "comments and blank lines")]
+    whole = [("src, all of it", "", len(sources), counted.total()), ("proofs", "", len(proofs), sum(map(lines_of, proofs)))]
+    return [*rows, *whole], f"{long:,} lines of contracts are longer than {LONG} characters."
+
+
+def names_twice(tree: Tree) -> tuple[int, dict[str, list[str]]]:
+    """How many names `specs/` has, and those of several files."""
+    places: dict[str, set[str]] = defaultdict(set)
+    for key in tree.keys:
+        if "/specs/" in key.file:
+            places[key.name].add(key.file.replace("/specs/", ".").removesuffix(".antt"))
+    return len(places), {name: sorted(files) for name, files in sorted(places.items()) if len(files) > 1}
+
+
+def summary(tree: Tree) -> list[str]:
+    code, long_lines = code_sizes(tree.root)
+    sizes = table(("the files by what they hold", "definitions", "files", "lines"), [*spec_sizes(tree), *code])
+    names, twice = names_twice(tree)
+    return [*clause_sizes(tree), "", *sizes, "", f"{len(twice):,} of the {names:,} names in specs are defined in several files.", long_lines]
+
+
+def lists(tree: Tree) -> Iterator[str]:
+    for file, held in sorted(mixtures(kinds(tree)).items()):
+        if len(held) > 1:
+            yield f"crates/{file}: " + ", ".join(f"{held[kind]} {kind}" for kind in KINDS if held[kind])
+    for name, files in names_twice(tree)[1].items():
+        yield f"{name}: {', '.join(files)}"
+
+
+def write(lines: list[str], page: Path) -> None:
+    """Puts the lines under the command on the page."""
+    text = page.read_text(encoding="utf-8")
+    block = re.compile(rf"(?<=^\$ {re.escape(COMMAND)}\n).*?(?=^```)", re.M | re.S)
+    if not block.search(text):
+        sys.exit(f"{page}: no `$ {COMMAND}`")
+    shown = "".join(f"{line}\n" for line in lines)
+    page.write_text(block.sub(lambda _: shown, text, count=1), encoding="utf-8")
+
+
+def main() -> int:
+    signal.signal(signal.SIGPIPE, signal.SIG_DFL)
+    options = {word for word in sys.argv[1:] if word.startswith("-")}
+    words = [word for word in sys.argv[1:] if word not in options]
+    if options - OPTIONS or len(options) > 1 or (words and options - {"--names"}):
+        sys.exit(__doc__)
+    tree = Tree(ROOT)
+    if "--write" in options:
+        write(summary(tree), ROOT / "docs/ARCHITECTURE.md")
+        return 0
+    print("\n".join(listing(tree, words, "--names" in options) if words else lists(tree) if "--lists" in options else summary(tree)))
+    return 0
+
+
+if __name__ == "__main__":
+    sys.exit(main())
