@@ -33,6 +33,7 @@ COMMAND = "docs/counts.py"
 TOP = ("xm_commands", "", "xm_main")
 TRUSTED, ROWS, PROOFS = KINDS = ("trusted", "rows worked by hand", "for proofs")
 SEVERAL, NONE = "of several kinds", "that only hand names on"
+LINES = ("code", "contracts", "tests", "imports and attributes", "comments and blank lines")
 LONG = 120
 OPTIONS = {"--lists", "--write", "--names"}
 
@@ -97,7 +98,7 @@ def listing(tree: Tree, words: list[str], with_names: bool) -> Iterator[str]:
 
 def kinds(tree: Tree) -> dict[Key, str]:
     """The kind of each definition of `specs/`."""
-    named: dict[bool, set[Key]] = {False: set(), True: set()}
+    named: dict[bool, set[Key]] = {False: tree.public_members(), True: set()}
     for is_row, uses in tree.public_clauses():
         named[is_row] |= uses
     trusted, rows = tree.below(named[False]), tree.below(named[True])
@@ -156,7 +157,7 @@ def code_sizes(root: Path) -> tuple[list[tuple[object, ...]], str]:
     counted = sum((line_kinds(path) for path in sources), Counter[str]())
     proofs = sorted(root.glob("crates/*/proofs/**/*.antt"))
     long = counted.pop("long", 0)
-    rows = [(f"src, {kind}", "", "", counted[kind]) for kind in ("code", "contracts", "tests", "imports and attributes", "comments and blank lines")]
+    rows = [(f"src, {kind}", "", "", counted[kind]) for kind in LINES]
     whole = [("src, all of it", "", len(sources), counted.total()), ("proofs", "", len(proofs), sum(map(lines_of, proofs)))]
     return [*rows, *whole], f"{long:,} lines of contracts are longer than {LONG} characters."
 
@@ -174,7 +175,8 @@ def summary(tree: Tree) -> list[str]:
     code, long_lines = code_sizes(tree.root)
     sizes = table(("the files by what they hold", "definitions", "files", "lines"), [*spec_sizes(tree), *code])
     names, twice = names_twice(tree)
-    return [*clause_sizes(tree), "", *sizes, "", f"{len(twice):,} of the {names:,} names in specs are defined in several files.", long_lines]
+    several = f"{len(twice):,} of the {names:,} names in specs are defined in several files."
+    return [*clause_sizes(tree), "", *sizes, "", several, long_lines]
 
 
 def lists(tree: Tree) -> Iterator[str]:

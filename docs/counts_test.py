@@ -277,14 +277,18 @@ def test_the_lists(root: Path) -> None:
 def test_lines_of_a_source_by_kind(tmp_path: Path) -> None:
     source = tmp_path / "source.rt"
     clause = "    ensures { " + "x" * 120 + " }\n"
-    source.write_text("//! Says.\n\nuse a::b;\nfn f()\n    ensures first {\n        x\n    }\n" + clause + "{\n}\nmod tests {\n    use b;\n}\n", encoding="utf-8")
-    assert counts.line_kinds(source) == {"comments and blank lines": 2, "imports and attributes": 1, "code": 3, "contracts": 4, "long": 1, "tests": 3}
+    text = f"//! Says.\n\nuse a::b;\nfn f()\n    ensures first {{\n        x\n    }}\n{clause}{{\n}}\nmod tests {{\n    use b;\n}}\n"
+    source.write_text(text, encoding="utf-8")
+    wanted = {"comments and blank lines": 2, "imports and attributes": 1, "code": 3, "contracts": 4, "long": 1, "tests": 3}
+    assert counts.line_kinds(source) == wanted
 
 
 def test_the_listing_of_a_clause(root: Path) -> None:
     tree = Tree(root)
-    assert list(counts.listing(tree, ["xm_commands.Words.Word"], False)) == ["1 definitions in 1 files of 1 crates", "crates/xm_commands/specs/Words.antt"]
-    assert list(counts.listing(tree, ["xm_commands.Words.Word", "xm_commands.Words.text"], True))[1:] == ["crates/xm_commands/specs/Words.antt  Word text"]
+    word, text = "xm_commands.Words.Word", "xm_commands.Words.text"
+    file = "crates/xm_commands/specs/Words.antt"
+    assert list(counts.listing(tree, [word], False)) == ["1 definitions in 1 files of 1 crates", file]
+    assert list(counts.listing(tree, [word, text], True)) == ["2 definitions in 1 files of 1 crates", f"{file}  Word text"]
     with pytest.raises(SystemExit):
         list(counts.listing(tree, ["absent"], False))
 

@@ -227,53 +227,71 @@ def doc_before(text: str, place: int) -> str:
     return " ".join(found)
 
 
-def calls_in(source: str, text: str, owners: list[tuple[int, int, str, bool]]) -> Iterator[Call]:
-    """The functions with clauses of a file, with the type or trait in whose block each stands."""
+@dataclass
+class Block:
+    """A trait, or what is implemented for a type: of a trait, or of the type itself where there is no trait."""
+
+    start: int
+    end: int
+    owner: str
+    trait: str
+    is_trait: bool
+
+
+def blocks_of(text: str) -> list[Block]:
+    traits = [Block(found.end(), closing(text, found.end()), found[1], "", True) for found in TRAIT.finditer(text)]
+    impls = [
+        Block(found.end(), closing(text, found.end()), found[3], (found[1] or "").rpartition(":")[2], False) for found in IMPL.finditer(text)
+    ]
+    return traits + impls
+
+
+def calls_in(source: str, text: str, blocks: list[Block]) -> Iterator[Call]:
+    """The functions with clauses of a file."""
     by_hand = re.search(r"^//!.*\bby hand\b", source, re.M) is not None
     for found in FUNCTION.finditer(text):
-        inside = [(owner, is_trait) for start, end, owner, is_trait in owners if start <= found.start() < end]
-        owner, is_trait = inside[0] if inside else ("", False)
         call = call_at(text, found)
-        call.owner, call.is_open = owner, bool(found[2]) or is_trait
-        for clause in call.clauses:
-            clause.rust |= {owner} if owner and any(token.startswith("self") for token in clause.tokens) else set()
+        place_in(call, next((block for block in blocks if block.start <= found.start() < block.end), None), bool(found[2]))
         call.is_row = call.is_row and (by_hand or "by hand" in doc_before(source, found.start()))
         if call.clauses:
             yield call
 
 
-def add_blocks(text: str, file: File) -> list[tuple[int, int, str, bool]]:
-    """Takes the ghost members of traits and of their impls, and answers where each block stands."""
-    owners = []
-    for is_trait, pattern in ((True, TRAIT), (False, IMPL)):
-        for found in pattern.finditer(text):
-            end = closing(text, found.end())
-            owner, trait = (found[1], "") if is_trait else (found[3], (found[1] or "").rpartition(":")[2])
-            owners.append((found.end(), end, owner, is_trait or trait not in ("", "Model")))
-            for name, body in members(text[found.end() : end]):
-                add_member(file, owner, trait, is_trait, name, body)
-    return owners
+def place_in(call: Call, block: Block | None, is_public: bool) -> None:
+    """Gives a call the type or trait of its block; a function of a trait is as open as the trait."""
+    call.is_open = is_public or (block is not None and (block.is_trait or block.trait not in ("", "Model")))
+    call.owner = block.owner if block else ""
+    for clause in call.clauses:
+        clause.rust |= {call.owner} if any(token.startswith("self") for token in clause.tokens) else set()
 
 
-def add_member(file: File, owner: str, trait: str, is_trait: bool, name: str, body: str) -> None:
-    if trait == "Model" and name in ("Value", "view"):
-        file.definitions.setdefault(owner, Definition()).parts.append(words(body))
-    elif is_trait:
-        file.definitions[f"{owner}.{name}"] = Definition([words(body)])
-    elif (trait, name) != ("Model", "coded"):
-        file.definitions[f"{owner}◁{trait}.{name}"] = Definition([words(body)], {trait, owner})
+def ghost_members(text: str, blocks: list[Block]) -> Iterator[tuple[str, Definition]]:
+    """What traits declare as ghost, and what types say of it. What `impl Model` says of a value is the type's own."""
+    for block, name, body in ((block, name, body) for block in blocks for name, body in members(text[block.start : block.end])):
+        if block.is_trait:
+            yield f"{block.owner}.{name}", Definition([words(body)])
+        elif block.trait == "Model" and name in ("Value", "view"):
+            yield block.owner, Definition([words(body)])
+        elif (block.trait, name) != ("Model", "coded"):
+            yield f"{block.owner}◁{block.trait}.{name}", Definition([words(body)], {block.trait, block.owner})
+
+
+def types_and_constants(text: str) -> Iterator[tuple[str, Definition]]:
+    for found in TYPE.finditer(text):
+        body = text[found.end() : closing(text, found.end())] if found[2] != ";" else ""
+        yield found[1], Definition([], rust_words(body))
+    yield from ((found[1], Definition([], rust_words(found[2]))) for found in CONSTANT.finditer(text))
 
 
 def read_rust(source: str) -> File:
     text = NOT_CODE.sub(blank, source)
+    blocks = blocks_of(text)
     file = File(names=dict(imported(USE.findall(text))), rust_names=dict(imported(RUST_USE.findall(text))))
-    for found in TYPE.finditer(text):
-        body = text[found.end() : closing(text, found.end())] if found[2] != ";" else ""
-        file.definitions[found[1]] = Definition([], rust_words(body))
-    for found in CONSTANT.finditer(text):
-        file.definitions[found[1]] = Definition([], rust_words(found[2]))
+    for name, definition in (*types_and_constants(text), *ghost_members(text, blocks)):
+        known = file.definitions.setdefault(name, definition)
+        known.parts += definition.parts if known is not definition else []
     file.modules = re.findall(r"^pub mod (\w+);", text, re.M)
-    file.calls = list(calls_in(source, text, add_blocks(text, file)))
+    file.calls = list(calls_in(source, text, blocks))
     return file
 
 
@@ -319,14 +337,15 @@ class Tree:
         return file in shown or any(name in self.files[each].rust_names for each in shown if each in self.files)
 
     def public_clauses(self) -> Iterator[tuple[bool, set[Key]]]:
-        """Whether it is a row, and what it names: of each clause that users of a library meet, the ghost members of its types among them."""
+        """Of each clause that users of a library meet, whether it is a row, and what it names."""
         for file, call in self.calls():
             if call.is_open and self.is_handed_on(file, call.owner or call.name):
                 yield from ((call.is_row, self.uses_of(file, call, clause)) for clause in call.clauses)
-        for key in self.keys:
-            owner = re.split(r"[◁.]", key.name)[0]
-            if key.file.endswith(".rt") and owner != key.name and self.is_handed_on(key.file, owner):
-                yield False, {key}
+
+    def public_members(self) -> set[Key]:
+        """The ghost members of traits and types that users of a library meet, and the invariants of its types."""
+        owners = {key: re.split(r"[◁.]", key.name)[0] for key in self.keys if key.file.endswith(".rt")}
+        return {key for key, owner in owners.items() if owner != key.name and self.is_handed_on(key.file, owner)}
 
     # Names of definitions.
 
@@ -428,12 +447,14 @@ class Tree:
     def uses_of(self, file: str, call: Call, clause: Clause) -> set[Key]:
         """The definitions that stand in a clause, with the types of what it names."""
         found = {each for name in clause.rust for each in self.rust(file, name)}
-        for token in clause.tokens:
-            first, _, name = token.partition(".")
-            for trait in call.bounds.get(first, set()):
-                found.update(self.member(file, trait, name))
-            found.update(self.member(file, call.owner, first) if call.owner else [])
+        found |= {each for token in clause.tokens for each in self.members_named(file, call, token)}
         return found | Walk(self, file, clause.tokens, call.names).found
+
+    def members_named(self, file: str, call: Call, token: str) -> list[Key]:
+        """The ghost members that a token of a clause names: of the traits that bound its first word, and of the call's own trait."""
+        first, _, name = token.partition(".")
+        own = self.member(file, call.owner, first) if call.owner else []
+        return own + [key for trait in call.bounds.get(first, set()) for key in self.member(file, trait, name)]
 
     def below(self, starts: Iterable[Key]) -> set[Key]:
         """These definitions, and all that they use."""

@@ -4,7 +4,9 @@ usage: /usr/bin/python3 -m pytest tools/try_test.py
 """
 
 import importlib.util
+import subprocess
 import sys
+import time
 from importlib.machinery import SourceFileLoader
 from pathlib import Path
 from typing import Any
@@ -36,7 +38,7 @@ case $1 in
     drop) rm "$2" ;;
     refuse) echo "xm_run: $2: short" >&2; exit 1 ;;
     unread) echo "xm_run: $2: cannot read" >&2; exit 3 ;;
-    wait) exec /bin/sleep 60 ;;
+    lasts) printf done ;;
     *) echo 'xm_run: usage' >&2; exit 2 ;;
 esac
 """
@@ -126,7 +128,11 @@ case = [
 SLOW = """
 [[group]]
 name = "slow"
-case = [{ shows = "a call that takes a minute", call = "wait" }]
+case = [
+  { shows = "it takes longer than there is", call = "lasts 2000", out = "done" },
+  { shows = "it takes longer than at first", call = "lasts 100", out = "done" },
+  { shows = "it takes no time", call = "say hi", out = "hi" },
+]
 """
 WRONG = [
     "wrong answers: another report: report: wanted 'ho', got 'hi'",
@@ -210,9 +216,28 @@ def test_what_cannot_be_tried_is_said(program: Path, monkeypatch: pytest.MonkeyP
     assert run(program, monkeypatch, "kinds", "devices: resets") == 1
 
 
-def test_a_call_that_takes_too_long_is_ended(program: Path, monkeypatch: pytest.MonkeyPatch, capsys: pytest.CaptureFixture[str]) -> None:
-    assert run(program, monkeypatch, "--seconds", "0.5", "slow") == 1
-    assert lines(capsys) == ["slow: a call that takes a minute: not tried: the seconds are over", "slow.toml: 0 of 0 as wanted, 1 not tried"]
+def test_a_call_that_takes_too_long_is_ended_and_no_other_waits_for_it(
+    program: Path, monkeypatch: pytest.MonkeyPatch, capsys: pytest.CaptureFixture[str]
+) -> None:
+    answer = tool.Program.answer
+
+    def lasting(self: Any, words: list[str], folder: Path) -> Any:
+        """A call that names its seconds is ended where it has fewer, and takes no time."""
+        left = self.end - time.monotonic()
+        if words[0] == "lasts" and left < float(words[1]):
+            raise subprocess.TimeoutExpired(words, left)
+        return answer(self, words, folder)
+
+    monkeypatch.setattr(tool.Program, "answer", lasting)
+    assert run(program, monkeypatch, "--seconds", "1000", "slow") == 0
+    over = "slow: it takes longer than there is: not tried: the seconds are over"
+    assert lines(capsys) == [over, "slow.toml: 2 of 2 as wanted, 1 not tried"]
+    assert run(program, monkeypatch, "--seconds", "1000", "slow", "longer than there is") == 1
+
+
+def test_no_call_is_made_after_the_end(program: Path) -> None:
+    with pytest.raises(subprocess.TimeoutExpired):
+        tool.Program(program, end=time.monotonic()).answer(["say", "hi"], program.parent)
 
 
 def test_a_program_that_is_no_script_says_nothing_of_its_own(program: Path) -> None:
@@ -242,4 +267,4 @@ def test_a_program_that_is_not_there_or_another_one(program: Path, monkeypatch: 
 def test_files_of_cases_are_listed(program: Path, monkeypatch: pytest.MonkeyPatch, capsys: pytest.CaptureFixture[str]) -> None:
     monkeypatch.setattr(sys, "argv", ["tools/try"])
     assert tool.main() == 0
-    assert [line.split() for line in lines(capsys)] == [["kinds", "39", "cases"], ["slow", "1", "cases"]]
+    assert [line.split() for line in lines(capsys)] == [["kinds", "39", "cases"], ["slow", "3", "cases"]]
