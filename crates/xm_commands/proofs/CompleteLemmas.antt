@@ -10,6 +10,7 @@ use Rattle.file_commands.specs.Outcome.{Outcome, Running, inputs_of, outcome_of}
 use Rattle.file_commands.specs.Work.{Does, Outside, Works, called_for}
 use Rattle.run_commands.specs.Boards.{HasNoMark, LeavesBoard, Plays}
 use Rattle.xm_commands.specs.Complete.{Completes, IsUnhindered}
+use Rattle.xm_commands.specs.World.{World}
 use Rattle.xm_commands.proofs.OutsideLemmas.{told_outcome}
 use Rattle.xm_commands.proofs.WrittenLemmas.{lost_rose}
 use Rattle.file_commands.specs.declared.status.Status.TheVariants.{Done, NoMemory}
@@ -25,24 +26,24 @@ marked_not place None had got board left leaves none = leaves
 marked_not place (Some run) had got board left leaves none = not_both (mark_at place left.marks) leaves.marked.marked (none place)
 
 -- a command against which nothing stands, by how it ended
-unhindered : (e : Ending) (contents : List (List ℕ)) (command : Command) (before after : Outside) (board left : BoardView) → Does e contents command before after
-    → LeavesBoard e (outcome_of command contents).run before.got after.got board left → IsUnhindered command before after left → (status_of e ≡ Done) ⊎ (status_of e ≡ NoMemory)
-unhindered Finished contents command before after board left w plays none = inl refl
-unhindered Misused contents command before after board left w plays none = absurd w
-unhindered (Unread file) contents command before after board left w plays none =
+unhindered : (e : Ending) (contents : List (List ℕ)) (command : Command) (before after : World) → Does e contents command before.disk after.disk
+    → LeavesBoard e (outcome_of command contents).run before.disk.got after.disk.got before.board after.board → IsUnhindered command before after → (status_of e ≡ Done) ⊎ (status_of e ≡ NoMemory)
+unhindered Finished contents command before after w plays none = inl refl
+unhindered Misused contents command before after w plays none = absurd w
+unhindered (Unread file) contents command before after w plays none =
     absurd (⊎_elim none.faultless.reads (λ absent. none.there (record { file = file; named = record { first = w.first; rest = w.rest; among = w.named }; absent = absent })) w.cause)
-unhindered (Denied file text) contents command before after board left w plays none =
-    let told = told_outcome before.files command contents w.read in
+unhindered (Denied file text) contents command before after w plays none =
+    let told = told_outcome before.disk.files command contents w.read in
     let both = sym (none.granted told.contents told.are) ∙ ap (λ (o : Outcome). o.denial) (sym told.outcome) ∙ w.denied in
     absurd (cc)
-unhindered Unwritten contents command before after board left w plays none = absurd (none.faultless.report w.cause)
-unhindered (Unsaved file) contents command before after board left w plays none =
-    let rose = lost_rose file (outcome_of command contents) (called_for (inputs_of command) before) after w.lost in
-    absurd (none.faultless.writes (subst (λ (n : ℕ). Rose n after.write_faults) (ap (λ (x : Outside). x.write_faults) (called_for-is (inputs_of command) before)) rose))
-unhindered (Unheard place) contents command before after board left w plays none = absurd (marked_not place (outcome_of command contents).run before.got after.got board left plays none.unmarked)
-unhindered Starved contents command before after board left w plays none = inr refl
+unhindered Unwritten contents command before after w plays none = absurd (none.faultless.report w.cause)
+unhindered (Unsaved file) contents command before after w plays none =
+    let rose = lost_rose file (outcome_of command contents) (called_for (inputs_of command) before.disk) after.disk w.lost in
+    absurd (none.faultless.writes (subst (λ (n : ℕ). Rose n after.disk.write_faults) (ap (λ (x : Outside). x.write_faults) (called_for-is (inputs_of command) before.disk)) rose))
+unhindered (Unheard place) contents command before after w plays none = absurd (marked_not place (outcome_of command contents).run before.disk.got after.disk.got before.board after.board plays none.unmarked)
+unhindered Starved contents command before after w plays none = inr refl
 
-pub completes : (e : Ending) (contents : List (List ℕ)) (command : Option Command) (before after : Outside) (board left : BoardView) → Works e contents command before after
-    → Plays e contents command before.got after.got board left → Completes (status_of e) command before after left
-completes e contents None before after board left w plays = tt
-completes e contents (Some command) before after board left w plays = unhindered e contents command before after board left w plays
+pub completes : (e : Ending) (contents : List (List ℕ)) (command : Option Command) (before after : World) → Works e contents command before.disk after.disk
+    → Plays e contents command before.disk.got after.disk.got before.board after.board → Completes (status_of e) command before after
+completes e contents None before after w plays = tt
+completes e contents (Some command) before after w plays = unhindered e contents command before after w plays

@@ -5,6 +5,7 @@ pub mod FileBoardLemmas
 pub mod GeneratingLemmas
 pub mod NumberLemmas
 pub mod OutsideLemmas
+pub mod PageLemmas
 pub mod ReplayLemmas
 pub mod ReplayedLemmas
 pub mod RunThenAloneLemmas

@@ -27,6 +27,7 @@ use Rattle.xm_commands.specs.Separation.{ReplaysAlone, ShowsOwn}
 use Rattle.xm_commands.specs.Top.{AreContents, IsCompleteStatus, IsRefusedIn}
 use Rattle.file_commands.specs.Work.{Outside, IsCarriedOut, Works, called_for, did, told_all, wrote_all}
 use Rattle.file_commands.specs.OutputLemmas.{called_for-is}
+use Rattle.xm_commands.specs.World.{World}
 use Rattle.xm_commands.proofs.OutsideLemmas.{told_outcome}
 use Rattle.xm_commands.proofs.SeparationLemmas.{core_there}
 use Rattle.xm_commands.proofs.TopLemmas.{done_is_finished, has_causes, unheard_finished}
@@ -60,18 +61,18 @@ own_cores system ticks part replay (Some file) is =
     ap (one_output file) (sym (core_there (run (start system) ticks) part _ is))
 
 -- what is carried out of it shows the partition's part of the run
-shows_own : (system : System) (ticks part : ℕ) (replay : Readied) (core : Option (List ℕ)) (before read_from after : Outside) (board left : BoardView)
+shows_own : (system : System) (ticks part : ℕ) (replay : Readied) (core : Option (List ℕ)) (before : World) (read_from : Outside) (after : World)
     → replay_lines (view_of replay.system replay.p) replay.cues ≡ own part (report system ticks)
     → core_file_of (run (start system) ticks) part ≡ Some (core_file (view_of replay.system replay.p) (replayed (view_of replay.system replay.p) replay.cues).state)
-    → read_from.files ≡ before.files → read_from.got ≡ before.got → after ≡ did (played core replay) read_from → IsHeard (own_console system ticks part) (without_marks board) left → ShowsOwn system ticks part core before after board left
+    → read_from.files ≡ before.disk.files → read_from.got ≡ before.disk.got → after.disk ≡ did (played core replay) read_from → IsHeard (own_console system ticks part) (without_marks before.board) after.board → ShowsOwn system ticks part core before after
 unfolding played
-shows_own system ticks part replay core before read_from after board left lines file files got is heard = record {
+shows_own system ticks part replay core before read_from after lines file files got is heard = record {
   printed = ap (λ (x : Outside). x.got) is ∙ did-got (played core replay) read_from
       ∙ ap (λ (g : Option (List ℕ)). grown g (texts (replay_lines (view_of replay.system replay.p) replay.cues))) got
-      ∙ ap (λ (ls : List ReportLine). grown before.got (texts ls)) lines;
+      ∙ ap (λ (ls : List ReportLine). grown before.disk.got (texts ls)) lines;
   written = ap (λ (x : Outside). x.files) is
       ∙ ap (λ (os : List Output). (wrote_all os (told_all (played core replay) read_from)).files) (own_cores system ticks part replay core file)
-      ∙ wrote_all-from (map (λ (f : List ℕ). core_output (run (start system) ticks) (record { part = part; file = f })) (name_if_any core)) (told_all (played core replay) read_from) before files;
+      ∙ wrote_all-from (map (λ (f : List ℕ). core_output (run (start system) ticks) (record { part = part; file = f })) (name_if_any core)) (told_all (played core replay) read_from) before.disk files;
   said = heard;
 }
 
@@ -124,46 +125,46 @@ replay_heard e run system ticks part replay had got board left said complete lea
     by Starved complete leaves = absurd (⊎_elim (λ h. cc) (λ h. cc) complete)
 
 -- one that was carried out shows the partition's part
-carried_own : (command : Command) (read : List (List ℕ)) (before after : Outside) (board left : BoardView) (files : Files) (contents : List (List ℕ)) (system : System) (ticks part : ℕ) (core : Option (List ℕ)) (replay : Readied) → before.files ≡ Some files
+carried_own : (command : Command) (read : List (List ℕ)) (before after : World) (files : Files) (contents : List (List ℕ)) (system : System) (ticks part : ℕ) (core : Option (List ℕ)) (replay : Readied) → before.disk.files ≡ Some files
     → read_all files (inputs_of command) ≡ Ok contents → outcome_of command contents ≡ played core replay
     → replay_lines (view_of replay.system replay.p) replay.cues ≡ own part (report system ticks)
     → core_file_of (run (start system) ticks) part ≡ Some (core_file (view_of replay.system replay.p) (replayed (view_of replay.system replay.p) replay.cues).state)
-    → IsCarriedOut None read command before after → ((outcome_of command read).run ≡ Some (Apart replay.system replay.p replay.cues) → IsHeard (own_console system ticks part) (without_marks board) left)
-    → ShowsOwn system ticks part core before after board left
-carried_own command read before after board left files contents system ticks part core replay known all comes lines file w heard =
-    let told = told_outcome before.files command read w.read in
-    let same : told.contents ≡ contents = same_contents files before.files command contents told.contents known all told.are in
-    shows_own system ticks part replay core before (called_for (inputs_of command) before) after board left lines file
-    (ap (λ (x : Outside). x.files) (called_for-is (inputs_of command) before)) (ap (λ (x : Outside). x.got) (called_for-is (inputs_of command) before))
-    (w.outside ∙ ap (λ (o : Outcome). did o (called_for (inputs_of command) before)) (told.outcome ∙ ap (outcome_of command) same ∙ comes))
+    → IsCarriedOut None read command before.disk after.disk → ((outcome_of command read).run ≡ Some (Apart replay.system replay.p replay.cues) → IsHeard (own_console system ticks part) (without_marks before.board) after.board)
+    → ShowsOwn system ticks part core before after
+carried_own command read before after files contents system ticks part core replay known all comes lines file w heard =
+    let told = told_outcome before.disk.files command read w.read in
+    let same : told.contents ≡ contents = same_contents files before.disk.files command contents told.contents known all told.are in
+    shows_own system ticks part replay core before (called_for (inputs_of command) before.disk) after lines file
+    (ap (λ (x : Outside). x.files) (called_for-is (inputs_of command) before.disk)) (ap (λ (x : Outside). x.got) (called_for-is (inputs_of command) before.disk))
+    (w.outside ∙ ap (λ (o : Outcome). did o (called_for (inputs_of command) before.disk)) (told.outcome ∙ ap (outcome_of command) same ∙ comes))
     (heard (ap (λ (o : Outcome). o.run) (told.outcome ∙ ap (outcome_of command) same ∙ comes) ∙ played_run core replay))
 
 -- a replay by the script of a run
-replayed_so : RunIsReplayed → (e : Ending) (read : List (List ℕ)) (container : List ℕ) (part : ℕ) (script : List ℕ) (further : ReplayFiles) (before after : Outside) (board left : BoardView) → Works e read (Some (Replay container part script further)) before after
-    → Plays e read (Some (Replay container part script further)) before.got after.got board left → ReplaysAlone (status_of e) (Some (Replay container part script further)) before after board left
-replayed_so law e read container part script further before after board left w plays = λ files known contents all short system inputs ticks is.
+replayed_so : RunIsReplayed → (e : Ending) (read : List (List ℕ)) (container : List ℕ) (part : ℕ) (script : List ℕ) (further : ReplayFiles) (before after : World) → Works e read (Some (Replay container part script further)) before.disk after.disk
+    → Plays e read (Some (Replay container part script further)) before.disk.got after.disk.got before.board after.board → ReplaysAlone (status_of e) (Some (Replay container part script further)) before after
+replayed_so law e read container part script further before after w plays = λ files known contents all short system inputs ticks is.
     let command = Replay container part script further in
     let shows = law (content 0 contents) part (content 1 contents) (input_bytes (replay_input further) (content 2 contents)) system inputs ticks is in
     let comes : outcome_of command contents ≡ played (replay_core further) shows.replay = begun_outcome container part script further contents shows.replay short shows.begins in (
-      λ refused. refused_never command before after files contents (replay_core further) shows.replay known all comes ((has_causes e read (Some command) before after w).refused refused),
-      λ complete. carried_own command read before after board left files contents (with_inputs system inputs) ticks part (replay_core further) shows.replay known all comes shows.lines shows.core
-          (⊎_elim (λ done. subst (λ (e : Ending). Works e read (Some command) before after) (done_is_finished e done) w) (λ fault. unheard_finished e read command before after fault w) complete)
-          (replay_heard e (outcome_of command read).run (with_inputs system inputs) ticks part shows.replay before.got after.got board left shows.said complete plays),
+      λ refused. refused_never command before.disk after.disk files contents (replay_core further) shows.replay known all comes ((has_causes e read (Some command) before.disk after.disk w).refused refused),
+      λ complete. carried_own command read before after files contents (with_inputs system inputs) ticks part (replay_core further) shows.replay known all comes shows.lines shows.core
+          (⊎_elim (λ done. subst (λ (e : Ending). Works e read (Some command) before.disk after.disk) (done_is_finished e done) w) (λ fault. unheard_finished e read command before.disk after.disk fault w) complete)
+          (replay_heard e (outcome_of command read).run (with_inputs system inputs) ticks part shows.replay before.disk.got after.disk.got before.board after.board shows.said complete plays),
     )
 
-pub are_replayed : RunIsReplayed → (e : Ending) (read : List (List ℕ)) (command : Option Command) (before after : Outside) (board left : BoardView) → Works e read command before after → Plays e read command before.got after.got board left → ReplaysAlone (status_of e) command before after board left
-are_replayed law e read None before after board left w plays = tt
-are_replayed law e read (Some (Bare image ticks)) before after board left w plays = tt
-are_replayed law e read (Some (Parse description output)) before after board left w plays = tt
-are_replayed law e read (Some (Upgrade configuration output)) before after board left w plays = tt
-are_replayed law e read (Some (BuildImage program output)) before after board left w plays = tt
-are_replayed law e read (Some (ReadImage image)) before after board left w plays = tt
-are_replayed law e read (Some (Pack configuration output images)) before after board left w plays = tt
-are_replayed law e read (Some (ListContainer container)) before after board left w plays = tt
-are_replayed law e read (Some (CheckContainer container)) before after board left w plays = tt
-are_replayed law e read (Some (MakePlan description)) before after board left w plays = tt
-are_replayed law e read (Some (CheckPlan description)) before after board left w plays = tt
-are_replayed law e read (Some (TellGroups description)) before after board left w plays = tt
-are_replayed law e read (Some (Generate number)) before after board left w plays = tt
-are_replayed law e read (Some (Run container options)) before after board left w plays = tt
-are_replayed law e read (Some (Replay container part script further)) before after board left w plays = replayed_so law e read container part script further before after board left w plays
+pub are_replayed : RunIsReplayed → (e : Ending) (read : List (List ℕ)) (command : Option Command) (before after : World) → Works e read command before.disk after.disk → Plays e read command before.disk.got after.disk.got before.board after.board → ReplaysAlone (status_of e) command before after
+are_replayed law e read None before after w plays = tt
+are_replayed law e read (Some (Bare image ticks)) before after w plays = tt
+are_replayed law e read (Some (Parse description output)) before after w plays = tt
+are_replayed law e read (Some (Upgrade configuration output)) before after w plays = tt
+are_replayed law e read (Some (BuildImage program output)) before after w plays = tt
+are_replayed law e read (Some (ReadImage image)) before after w plays = tt
+are_replayed law e read (Some (Pack configuration output images)) before after w plays = tt
+are_replayed law e read (Some (ListContainer container)) before after w plays = tt
+are_replayed law e read (Some (CheckContainer container)) before after w plays = tt
+are_replayed law e read (Some (MakePlan description)) before after w plays = tt
+are_replayed law e read (Some (CheckPlan description)) before after w plays = tt
+are_replayed law e read (Some (TellGroups description)) before after w plays = tt
+are_replayed law e read (Some (Generate number)) before after w plays = tt
+are_replayed law e read (Some (Run container options)) before after w plays = tt
+are_replayed law e read (Some (Replay container part script further)) before after w plays = replayed_so law e read container part script further before after w plays

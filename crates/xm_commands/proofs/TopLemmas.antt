@@ -14,6 +14,7 @@ use Rattle.file_commands.specs.Work.{counted_by, Outside, Does, IsCarriedOut, Is
 use Rattle.file_commands.specs.OutputLemmas.{called_for-is, output-named}
 use Rattle.xm_commands.proofs.OutsideLemmas.{counted-counted_by, outcome-denied, read_all-absent, told_outcome, wrote-got}
 use Rattle.xm_commands.proofs.WrittenLemmas.{did-faults, did-files, did-got, did-read_faults, did-write_faults, did_calls, did_stays, files_same, lost_count, lost_rose, lost_stays, never_lost, told_calls, told_stays, wrote-from, wrote_all-from, wrote_all-got}
+use Rattle.xm_commands.specs.World.{World, sink_view}
 use Rattle.file_commands.specs.declared.status.Status.{Status}
 use Rattle.file_commands.specs.declared.status.Status.TheVariants.{Done, Refused, Usage, ReadFault, WriteFault, UartFault, NoMemory}
 
@@ -338,14 +339,14 @@ quiet (Unheard place) contents (Some command) before after w q = absurd (loud Ua
 quiet Starved contents (Some command) before after w q = ap (λ (x : Outside). x.got) w.outside ∙ ap (λ (x : Outside). x.got) (called_for-is w.first before)
 
 -- a line goes out, or a prefix of it
-pub said : {T F : Type 0} (r : Result T F) (line : List ℕ) (had got : Option (List ℕ)) (before now : ℕ) → Writes r had line got → HasCause r before now → IsSaid line had before got now
+pub said : {T F : Type 0} (r : Result T F) (line : List ℕ) (had got : Option (List ℕ)) (before now : ℕ) → Writes r had line got → HasCause r before now → IsSaid line (sink_view had before) (sink_view got now)
 said (Ok _) line had got before now writes cause = inl (writes, cause)
 said (Err _) line had got before now writes cause = inr (writes, cause)
 
 -- The answer.
 
 -- in a world without faults the definition gives this ending, with what went to the report and the files afterwards
-pub record IsAnswer (e : Ending) (command : Option Command) (before after : Outside) (files : Files) : Type 0 where
+pub record AnswersSo (e : Ending) (command : Option Command) (before after : Outside) (files : Files) : Type 0 where
   pub out : List ℕ
   pub kept : Files
   pub answer : command_answer command files ≡ ending_answer e out kept
@@ -353,7 +354,7 @@ pub record IsAnswer (e : Ending) (command : Option Command) (before after : Outs
   pub files_are : after.files ≡ Some kept
 
 -- a command that was carried out
-carried_answer : (e : Ending) (denial : Option Denial) (contents : List (List ℕ)) (command : Command) (before after : Outside) (files : Files) → IsCarriedOut denial contents command before after → before.files ≡ Some files → ending_by denial ≡ e → IsAnswer e (Some command) before after files
+carried_answer : (e : Ending) (denial : Option Denial) (contents : List (List ℕ)) (command : Command) (before after : Outside) (files : Files) → IsCarriedOut denial contents command before after → before.files ≡ Some files → ending_by denial ≡ e → AnswersSo e (Some command) before after files
 carried_answer e denial contents command before after files w told ends =
     let is = told_outcome before.files command contents w.read in
     let are : AreContents (Some files) command is.contents = subst (λ (t : Option Files). AreContents t command is.contents) told is.are in
@@ -376,7 +377,7 @@ carried_answer e denial contents command before after files w told ends =
     }
 
 -- a file that was not read is the first that is not there
-unread_answer : (file : List ℕ) (command : Command) (before after : Outside) (files : Files) → IsUnread file (inputs_of command) before after → before.files ≡ Some files → HasNoFault before after → IsAnswer (Unread file) (Some command) before after files
+unread_answer : (file : List ℕ) (command : Command) (before after : Outside) (files : Files) → IsUnread file (inputs_of command) before after → before.files ≡ Some files → HasNoFault before after → AnswersSo (Unread file) (Some command) before after files
 unread_answer file command before after files w told none =
     let absent : IsAbsent (Some files) file = ⊎_elim (λ rose. absurd (none.reads rose)) (λ absent. subst (λ (o : Option Files). IsAbsent o file) told absent) w.cause in
     let read : ReadsFiles (Some files) w.first w.contents = subst (λ (o : Option Files). ReadsFiles o w.first w.contents) told w.read in
@@ -412,7 +413,7 @@ heard_same (Unheard place) other = absurd (other refl)
 heard_same Starved other = refl
 
 -- in a world without faults the answer is that of the definition
-answer_is : (e : Ending) (contents : List (List ℕ)) (command : Option Command) (before after : Outside) (files : Files) → Works e contents command before after → before.files ≡ Some files → HasNoFault before after → status_of e ≢ NoMemory → IsAnswer (heard e) command before after files
+answer_is : (e : Ending) (contents : List (List ℕ)) (command : Option Command) (before after : Outside) (files : Files) → Works e contents command before after → before.files ≡ Some files → HasNoFault before after → status_of e ≢ NoMemory → AnswersSo (heard e) command before after files
 answer_is Misused contents None before after files w told none memory = record {
   out = [];
   kept = files;
@@ -444,20 +445,20 @@ unfolding answer
 answer-command words files = refl
 
 -- in a world without faults the answer is that of the definition
-pub answers : (e : Ending) (contents : List (List ℕ)) (words : List (List ℕ)) (before after : Outside) (had : Option (List ℕ)) (faults : ℕ) (got : Option (List ℕ)) (faults_after : ℕ) → Works e contents (command_of words) before after → IsSaid (complaint e) had faults got faults_after → Answers (status_of e) words before after had faults got faults_after
-answers e contents words before after had faults got faults_after w line = record {
+pub answers : (e : Ending) (contents : List (List ℕ)) (words : List (List ℕ)) (before after : World) → Works e contents (command_of words) before.disk after.disk → IsSaid (complaint e) before.errors after.errors → Answers (status_of e) words before after
+answers e contents words before after w line = record {
   answered = λ files told none memory well.
-      let is = answer_is e contents (command_of words) before after files w told none memory in
+      let is = answer_is e contents (command_of words) before.disk after.disk files w told none memory in
       sym (ap (λ (a : Answer). a.status) (answer-command words files ∙ is.answer) ∙ ap status_of (heard_same e well));
   report = λ files told none memory.
-      let is = answer_is e contents (command_of words) before after files w told none memory in
-      is.report ∙ sym (ap (λ (a : Answer). grown before.got a.out) (answer-command words files ∙ is.answer));
+      let is = answer_is e contents (command_of words) before.disk after.disk files w told none memory in
+      is.report ∙ sym (ap (λ (a : Answer). grown before.disk.got a.out) (answer-command words files ∙ is.answer));
   files = λ files told none memory.
-      let is = answer_is e contents (command_of words) before after files w told none memory in
+      let is = answer_is e contents (command_of words) before.disk after.disk files w told none memory in
       is.files_are ∙ sym (ap (λ (a : Answer). Some a.files) (answer-command words files ∙ is.answer));
   error = λ files told none memory well still.
-      let is = answer_is e contents (command_of words) before after files w told none memory in
+      let is = answer_is e contents (command_of words) before.disk after.disk files w told none memory in
       ⊎_elim
-      (λ whole. whole.0 ∙ ap (λ (x : Ending). grown had (complaint x)) (sym (heard_same e well)) ∙ sym (ap (λ (a : Answer). grown had a.err) (answer-command words files ∙ is.answer)))
+      (λ whole. whole.0 ∙ ap (λ (x : Ending). grown before.errors.got (complaint x)) (sym (heard_same e well)) ∙ sym (ap (λ (a : Answer). grown before.errors.got a.err) (answer-command words files ∙ is.answer)))
       (λ cut. absurd (still cut.1)) line;
 }

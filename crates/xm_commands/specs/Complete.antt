@@ -1,23 +1,22 @@
 -- When a command is done: nothing stands against it.
 use Rattle.std.specs.Prelude.{◌≡◌, ◌⊎◌, ℕ, List, Option, Some, None}
-use Rattle.uart_board.specs.Views.{BoardView}
 use Rattle.xm_words.specs.Words.{Command}
 use Rattle.file_commands.specs.Outcome.{inputs_of, outcome_of}
-use Rattle.file_commands.specs.Work.{Outside}
 use Rattle.run_commands.specs.Boards.{HasNoMark}
 use Rattle.xm_commands.specs.Top.{AreContents, HasNoFault, IsOneAbsent}
+use Rattle.xm_commands.specs.World.{World}
 use Rattle.file_commands.specs.declared.status.Status.{Status}
 use Rattle.file_commands.specs.declared.status.Status.TheVariants.{Done, NoMemory}
 
 -- nothing stands against a command: no count of the store or of the report's sink rose; where the store's files are known, each that the command reads is
 -- among them; their contents are not refused; and no place of the board has a mark
-pub record IsUnhindered (command : Command) (before after : Outside) (left : BoardView) : Type 0 where
-  pub faultless : HasNoFault before after
-  pub there : IsOneAbsent before.files (inputs_of command) → ⊥
-  pub granted : (contents : List (List ℕ)) → AreContents before.files command contents → (outcome_of command contents).denial ≡ None
-  pub unmarked : HasNoMark left
+pub record IsUnhindered (command : Command) (before after : World) : Type 0 where
+  pub faultless : HasNoFault before.disk after.disk
+  pub there : IsOneAbsent before.disk.files (inputs_of command) → ⊥
+  pub granted : (contents : List (List ℕ)) → AreContents before.disk.files command contents → (outcome_of command contents).denial ≡ None
+  pub unmarked : HasNoMark after.board
 
 -- such a command is done, or there was no memory
-abbrev pub Completes : Status → Option Command → Outside → Outside → BoardView → Type 0
-Completes status None before after left = Unit {0}
-Completes status (Some command) before after left = IsUnhindered command before after left → (status ≡ Done) ⊎ (status ≡ NoMemory)
+abbrev pub Completes : Status → Option Command → World → World → Type 0
+Completes status None before after = Unit {0}
+Completes status (Some command) before after = IsUnhindered command before after → (status ≡ Done) ⊎ (status ≡ NoMemory)

@@ -1,12 +1,13 @@
-pub mod Accounted
 pub mod Answer
 pub mod Arguments
 pub mod Called
 pub mod Complete
 pub mod Ended
+pub mod Page
 pub mod Played
 pub mod Replaying
 pub mod RunThenAlone
 pub mod Separation
 pub mod Ticks
 pub mod Top
+pub mod World

@@ -8,7 +8,7 @@ use Rattle.loaded_system.specs.System as loaded
 use Rattle.xm_container.specs.Reading.{unpacked}
 use Rattle.alone_replay.specs.OfRun.{IsOfRun, own_console}
 use Rattle.uart_board.specs.Heard.{IsHeard}
-use Rattle.uart_board.specs.Views.{BoardView, without_marks}
+use Rattle.uart_board.specs.Views.{without_marks}
 use Rattle.machine_model.specs.Alone.{Alone, alone_from, alone_lines, alone_start}
 use Rattle.machine_model.specs.CoreFile.{core_file}
 use Rattle.machine_model.specs.Cue.{script}
@@ -23,6 +23,7 @@ use Rattle.run_commands.specs.Contents.{read_all}
 use Rattle.run_commands.specs.Numbers.{HaveTold}
 use Rattle.xm_commands.specs.Top.{AreContents, IsCompleteStatus}
 use Rattle.file_commands.specs.Work.{Outside, wrote_all}
+use Rattle.xm_commands.specs.World.{World}
 use Rattle.file_commands.specs.declared.status.Status.{Status}
 use Rattle.file_commands.specs.declared.status.Status.TheVariants.{Refused}
 
@@ -123,33 +124,33 @@ AreShownAlone Shows contents (Some command) before after = CommandAlone Shows co
 
 -- the partition's own lines of the report of that run and the line of its end went out, its core file is that after the run, and its UART got the console
 -- bytes that the partition wrote to it in that run
-pub record ShowsOwn (system : System) (ticks part : ℕ) (core : Option (List ℕ)) (before after : Outside) (board left : BoardView) : Type 0 where
-  pub printed : after.got ≡ grown before.got (texts (own part (report system ticks)))
-  pub written : after.files ≡ (wrote_all (map (λ file. core_output (run (start system) ticks) (record { part = part; file = file })) (name_if_any core)) before).files
-  pub said : IsHeard (own_console system ticks part) (without_marks board) left
+pub record ShowsOwn (system : System) (ticks part : ℕ) (core : Option (List ℕ)) (before after : World) : Type 0 where
+  pub printed : after.disk.got ≡ grown before.disk.got (texts (own part (report system ticks)))
+  pub written : after.disk.files ≡ (wrote_all (map (λ file. core_output (run (start system) ticks) (record { part = part; file = file })) (name_if_any core)) before.disk).files
+  pub said : IsHeard (own_console system ticks part) (without_marks before.board) after.board
 
 -- a replay by the script of a run is not refused, and shows the partition's part of that run
-abbrev pub ReplaysRun : Status → Command → Outside → Outside → BoardView → BoardView → Type 0
-ReplaysRun status (Bare image ticks) before after board left = Unit {0}
-ReplaysRun status (Parse description output) before after board left = Unit {0}
-ReplaysRun status (Upgrade configuration output) before after board left = Unit {0}
-ReplaysRun status (BuildImage program output) before after board left = Unit {0}
-ReplaysRun status (ReadImage image) before after board left = Unit {0}
-ReplaysRun status (Pack configuration output images) before after board left = Unit {0}
-ReplaysRun status (ListContainer container) before after board left = Unit {0}
-ReplaysRun status (CheckContainer container) before after board left = Unit {0}
-ReplaysRun status (MakePlan description) before after board left = Unit {0}
-ReplaysRun status (CheckPlan description) before after board left = Unit {0}
-ReplaysRun status (TellGroups description) before after board left = Unit {0}
-ReplaysRun status (Generate number) before after board left = Unit {0}
-ReplaysRun status (Run container options) before after board left = Unit {0}
-ReplaysRun status (Replay container part script further) before after board left =
-    (files : Files) → before.files ≡ Some files → (contents : List (List ℕ)) → read_all files (container ∷ script ∷ name_if_any (replay_input further)) ≡ Ok contents
+abbrev pub ReplaysRun : Status → Command → World → World → Type 0
+ReplaysRun status (Bare image ticks) before after = Unit {0}
+ReplaysRun status (Parse description output) before after = Unit {0}
+ReplaysRun status (Upgrade configuration output) before after = Unit {0}
+ReplaysRun status (BuildImage program output) before after = Unit {0}
+ReplaysRun status (ReadImage image) before after = Unit {0}
+ReplaysRun status (Pack configuration output images) before after = Unit {0}
+ReplaysRun status (ListContainer container) before after = Unit {0}
+ReplaysRun status (CheckContainer container) before after = Unit {0}
+ReplaysRun status (MakePlan description) before after = Unit {0}
+ReplaysRun status (CheckPlan description) before after = Unit {0}
+ReplaysRun status (TellGroups description) before after = Unit {0}
+ReplaysRun status (Generate number) before after = Unit {0}
+ReplaysRun status (Run container options) before after = Unit {0}
+ReplaysRun status (Replay container part script further) before after =
+    (files : Files) → before.disk.files ≡ Some files → (contents : List (List ℕ)) → read_all files (container ∷ script ∷ name_if_any (replay_input further)) ≡ Ok contents
     → first_long (container ∷ script ∷ name_if_any (replay_input further)) contents ≡ None
     → (system : loaded.System) (inputs : List (List ℕ)) (ticks : ℕ) → IsOfRun (content 0 contents) part (content 1 contents) (input_bytes (replay_input further) (content 2 contents)) system inputs ticks
-    → (status ≢ Refused) × (IsCompleteStatus status → ShowsOwn (with_inputs system inputs) ticks part (replay_core further) before after board left)
+    → (status ≢ Refused) × (IsCompleteStatus status → ShowsOwn (with_inputs system inputs) ticks part (replay_core further) before after)
 
 -- words that are no command replay nothing
-abbrev pub ReplaysAlone : Status → Option Command → Outside → Outside → BoardView → BoardView → Type 0
-ReplaysAlone status None before after board left = Unit {0}
-ReplaysAlone status (Some command) before after board left = ReplaysRun status command before after board left
+abbrev pub ReplaysAlone : Status → Option Command → World → World → Type 0
+ReplaysAlone status None before after = Unit {0}
+ReplaysAlone status (Some command) before after = ReplaysRun status command before after

@@ -9,13 +9,14 @@ use Rattle.xm_commands.specs.Answer.{answer}
 use Rattle.run_commands.specs.Contents.{read_all}
 use Rattle.file_commands.specs.Outcome.{Output, inputs_of, later_of, name_if_any, outcome_of, output_of}
 use Rattle.file_commands.specs.Work.{Outside, told_all, wrote, wrote_all, counted_by}
+use Rattle.xm_commands.specs.World.{SinkView, World}
 use Rattle.file_commands.specs.declared.status.Status.{Status}
 use Rattle.file_commands.specs.declared.status.Status.TheVariants.{Done, Refused, Usage, ReadFault, WriteFault, UartFault, NoMemory}
 
 -- a line went out: all of it, or a prefix where the sink's own count of faults rose
-abbrev pub IsSaid : List ℕ → Option (List ℕ) → ℕ → Option (List ℕ) → ℕ → Type 0
-IsSaid line had before got now =
-    ((got ≡ grown had line) × (now ≡ before)) ⊎ (GrewByPrefix had line got × Rose before now)
+abbrev pub IsSaid : List ℕ → SinkView → SinkView → Type 0
+IsSaid line before after =
+    ((after.got ≡ grown before.got line) × (after.faults ≡ before.faults)) ⊎ (GrewByPrefix before.got line after.got × Rose before.faults after.faults)
 
 -- no count of the store or of the report's sink rose
 pub record HasNoFault (before after : Outside) : Type 0 where
@@ -25,15 +26,15 @@ pub record HasNoFault (before after : Outside) : Type 0 where
 
 -- in a world without faults the answer is that of the definition: where the store's files are known, no count
 -- rose and memory is there; the status and the line on the error output also need that no UART failed
-pub record Answers (status : Status) (words : List (List ℕ)) (before after : Outside) (had : Option (List ℕ)) (error_faults : ℕ) (got : Option (List ℕ)) (error_faults_after : ℕ) : Type 0 where
+pub record Answers (status : Status) (words : List (List ℕ)) (before after : World) : Type 0 where
   -- the status
-  pub answered : (files : Files) → before.files ≡ Some files → HasNoFault before after → status ≢ NoMemory → status ≢ UartFault → status ≡ (answer words files).status
+  pub answered : (files : Files) → before.disk.files ≡ Some files → HasNoFault before.disk after.disk → status ≢ NoMemory → status ≢ UartFault → status ≡ (answer words files).status
   -- the bytes in the report
-  pub report : (files : Files) → before.files ≡ Some files → HasNoFault before after → status ≢ NoMemory → after.got ≡ grown before.got (answer words files).out
+  pub report : (files : Files) → before.disk.files ≡ Some files → HasNoFault before.disk after.disk → status ≢ NoMemory → after.disk.got ≡ grown before.disk.got (answer words files).out
   -- the files
-  pub files : (files : Files) → before.files ≡ Some files → HasNoFault before after → status ≢ NoMemory → after.files ≡ Some (answer words files).files
+  pub files : (files : Files) → before.disk.files ≡ Some files → HasNoFault before.disk after.disk → status ≢ NoMemory → after.disk.files ≡ Some (answer words files).files
   -- the bytes on the error output, where its own count did not rise
-  pub error : (files : Files) → before.files ≡ Some files → HasNoFault before after → status ≢ NoMemory → status ≢ UartFault → (Rose error_faults error_faults_after → ⊥) → got ≡ grown had (answer words files).err
+  pub error : (files : Files) → before.disk.files ≡ Some files → HasNoFault before.disk after.disk → status ≢ NoMemory → status ≢ UartFault → (Rose before.errors.faults after.errors.faults → ⊥) → after.errors.got ≡ grown before.errors.got (answer words files).err
 
 -- one of the files is this one
 pub record IsAmong (file : List ℕ) (files : List (List ℕ)) : Type 0 where

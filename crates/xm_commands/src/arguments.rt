@@ -1,17 +1,15 @@
 //! The arguments of a process, and the command line that they hold.
 
 ghost use Rattle.std.specs.Prelude.{◌≡◌, IfOk};
-ghost use Rattle.xm_commands.specs.Top.{Answers};
-ghost use Rattle.file_commands.specs.Work.{outside};
 ghost use Rattle.xm_commands.specs.Arguments.{after_name};
 ghost use Rattle.xm_commands.specs.Called.{IsCall};
 ghost use Rattle.xm_words.specs.Texts.{texts_of};
-ghost use Rattle.xm_words.specs.Words.{command_of};
 
 use crate::top::xm_main;
+use crate::world::Surroundings;
 use file_commands::Status;
 use std::alloc::Global;
-use uart_board::{Board, ViewBoard};
+use uart_board::Board;
 use xm_base::Memory;
 use xm_outside::{Sink, Store};
 use xm_words::Words;
@@ -47,15 +45,9 @@ pub fn carry_out<S: Store, O: Sink, E: Sink>(
     err: &mut E,
     board: &mut Board,
 ) -> Status
-    ensures answers { Answers result (after_name given.now)
-        (outside (S.files files.old) (S.read_faults files.old) (S.write_faults files.old) (S.calls files.old) (O.got out.old) (O.faults out.old))
-        (outside (S.files files.new) (S.read_faults files.new) (S.write_faults files.new) (S.calls files.new) (O.got out.new) (O.faults out.new))
-        (E.got err.old) (E.faults err.old) (E.got err.new) (E.faults err.new) }
-    ensures called { IsCall result (command_of (after_name given.now))
-        (outside (S.files files.old) (S.read_faults files.old) (S.write_faults files.old) (S.calls files.old) (O.got out.old) (O.faults out.old))
-        (outside (S.files files.new) (S.read_faults files.new) (S.write_faults files.new) (S.calls files.new) (O.got out.new) (O.faults out.new))
-        (E.got err.old) (E.faults err.old) (E.got err.new) (E.faults err.new)
-        (⟦<Board as ViewBoard>⟧.board_view board.old) (⟦<Board as ViewBoard>⟧.board_view board.new) }
+    ensures call { IsCall result (after_name given.now)
+        (⟦<(S, O, E, Board) as Surroundings>⟧.world (files.old, out.old, err.old, board.old))
+        (⟦<(S, O, E, Board) as Surroundings>⟧.world (files.new, out.new, err.new, board.new)) }
     ensures silent { result ≡ Status.Done → err.new ≡ err.old }
 {
     let Ok(words) = words_after_name(alloc, given) else {
@@ -76,15 +68,9 @@ fn follow<S: Store, O: Sink, E: Sink>(
     board: &mut Board,
 ) -> Status
     requires words { words.now ≡ after_name given.now }
-    ensures answers { Answers result (after_name given.now)
-        (outside (S.files files.old) (S.read_faults files.old) (S.write_faults files.old) (S.calls files.old) (O.got out.old) (O.faults out.old))
-        (outside (S.files files.new) (S.read_faults files.new) (S.write_faults files.new) (S.calls files.new) (O.got out.new) (O.faults out.new))
-        (E.got err.old) (E.faults err.old) (E.got err.new) (E.faults err.new) }
-    ensures called { IsCall result (command_of (after_name given.now))
-        (outside (S.files files.old) (S.read_faults files.old) (S.write_faults files.old) (S.calls files.old) (O.got out.old) (O.faults out.old))
-        (outside (S.files files.new) (S.read_faults files.new) (S.write_faults files.new) (S.calls files.new) (O.got out.new) (O.faults out.new))
-        (E.got err.old) (E.faults err.old) (E.got err.new) (E.faults err.new)
-        (⟦<Board as ViewBoard>⟧.board_view board.old) (⟦<Board as ViewBoard>⟧.board_view board.new) }
+    ensures call { IsCall result (after_name given.now)
+        (⟦<(S, O, E, Board) as Surroundings>⟧.world (files.old, out.old, err.old, board.old))
+        (⟦<(S, O, E, Board) as Surroundings>⟧.world (files.new, out.new, err.new, board.new)) }
     ensures silent { result ≡ Status.Done → err.new ≡ err.old }
 {
     xm_main(alloc, words, files, out, err, board)

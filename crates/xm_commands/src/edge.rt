@@ -7,6 +7,7 @@ ghost use Rattle.file_commands.specs.Status.{IsCodeOf};
 ghost use Rattle.xm_outside.specs.FileUart.{uart_file};
 ghost use Rattle.xm_commands.specs.Arguments.{after_name};
 ghost use Rattle.xm_commands.specs.Ended.{IsEndedBy, IsOnFiles, SaysUsage};
+ghost use Rattle.xm_commands.specs.World.{sink_view};
 ghost use Rattle.xm_words.specs.Words.{command_of};
 
 use crate::arguments::carry_out;
@@ -59,8 +60,9 @@ fn on_files<O: Sink, E: Sink>(
     out: &mut O,
     err: &mut E,
 ) -> Status
-    ensures called { IsOnFiles result (after_name given.now) (O.got out.old) (O.faults out.old) (O.got out.new) (O.faults out.new)
-        (E.got err.old) (E.faults err.old) (E.got err.new) (E.faults err.new) }
+    ensures call { IsOnFiles result (after_name given.now)
+        (sink_view (O.got out.old) (O.faults out.old)) (sink_view (O.got out.new) (O.faults out.new))
+        (sink_view (E.got err.old) (E.faults err.old)) (sink_view (E.got err.new) (E.faults err.new)) }
     ensures silent { result ≡ Status.Done → err.new ≡ err.old }
 {
     let mut board = Board::new();
@@ -97,7 +99,8 @@ fn file_uart(rt: &HostRuntime, place: u8) -> Result<Box<FileUart<HostRuntime>>, 
 fn unread<E: Sink>(error: &Error, err: &mut E) -> Status
     ensures starved { error_kind error.now ≡ ErrorKind.OutOfMemory → result ≡ Status.NoMemory }
     ensures quiet { error_kind error.now ≡ ErrorKind.OutOfMemory → err.new ≡ err.old }
-    ensures misused { error_kind error.now ≢ ErrorKind.OutOfMemory → SaysUsage result (E.got err.old) (E.faults err.old) (E.got err.new) (E.faults err.new) }
+    ensures misused { error_kind error.now ≢ ErrorKind.OutOfMemory → SaysUsage result
+        (sink_view (E.got err.old) (E.faults err.old)) (sink_view (E.got err.new) (E.faults err.new)) }
     ensures silent { result ≡ Status.Done → err.new ≡ err.old }
 {
     if error.kind() == ErrorKind::OutOfMemory {

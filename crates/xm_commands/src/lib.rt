@@ -10,9 +10,11 @@ mod lone_core;
 mod replaying;
 mod top;
 mod work;
+mod world;
 
 pub use arguments::{carry_out, words_after_name};
 pub use edge::{arguments_of, program};
 pub use file_commands::Status;
 pub use law::runs_then_alone;
 pub use top::{misused, xm_main};
+pub use world::Surroundings;

@@ -2,14 +2,15 @@ use Rattle.std.proofs.Common.{◌<◌, None, refl, ap, ◌∙◌, arith, inl}
 use Rattle.uart_board.specs.Views.{UartView}
 use denote.Param.Object.{read_made}
 use Rattle.xm_commands.proofs.edge.on_files.OwnLists.{at-1-1, own-1}
+use Rattle.xm_commands.specs.Ended.{file_board}
 use Rattle.xm_commands.proofs.FileBoardLemmas.{board_more}
 use Rattle.xm_commands.proofs.edge.on_files.Goals as goal
 
 pub loop-place-init : goal.loop-place-init
 loop-place-init g c = rw c.new-board.ensures.value refl
 
-pub returns-in_default-clause-called : goal.returns-in_default-clause-called
-returns-in_default-clause-called g c = inl record { starved = refl; outside = refl; line = refl; faults = refl }
+pub returns-in_default-clause-call : goal.returns-in_default-clause-call
+returns-in_default-clause-call g c = record { read_faults = 0; write_faults = 0; calls = 0; left = file_board; call = inl record { starved = refl; unchanged = refl } }
 
 pub loop-place-preserved : goal.loop-place-preserved
 loop-place-preserved g c =

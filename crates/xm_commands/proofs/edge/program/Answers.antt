@@ -4,7 +4,7 @@ use Rattle.xm_commands.proofs.edge.program.Goals as goal
 
 pub returns-in-Ok-clause-ended : goal.returns-in-Ok-clause-ended
 returns-in-Ok-clause-ended g c =
-    read_ended c.args.given c.in-Ok.texts _ c.on_files.result _ _ _ _ _ c.in-Ok.is c.deref.ensures.value c.new-out.ensures c.new-err.ensures c.exit_code.ensures c.on_files.ensures.called
+    read_ended c.args.given c.in-Ok.texts _ c.on_files.result _ _ _ _ _ c.in-Ok.is c.deref.ensures.value c.new-out.ensures c.new-err.ensures c.exit_code.ensures c.on_files.ensures.call
     (λ done. ap (λ err. err.faults) (c.on_files.ensures.silent done) ∙ c.new-err.ensures)
 
 pub returns-clause-ended : goal.returns-clause-ended
