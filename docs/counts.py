@@ -6,7 +6,7 @@ usage: docs/counts.py                      the counts for each clause of `xm_com
        docs/counts.py --write              puts the counts and sizes into docs/ARCHITECTURE.md
        docs/counts.py [--names] CLAUSE..   the files under these clauses, with --names and the definitions of each file
 
-A CLAUSE is a label of `xm_main`, a public call as `crate::call` or `crate::Type::call`, one clause of a call as
+A CLAUSE is a label of `xm_main`, or a field of the record that such a clause is, a public call as `crate::call` or `crate::Type::call`, one clause of a call as
 `crate::call::label`, or a definition as `crate.File.name`.
 
 A definition is under a clause if the clause names it, or names a definition that it is under. A type, a constant or a ghost member
@@ -60,8 +60,19 @@ def clauses_of(tree: Tree, crate: str, owner: str, name: str) -> Iterator[tuple[
             yield from ((clause.label, tree.uses_of(file, call, clause)) for clause in call.clauses)
 
 
+def top_promises(tree: Tree) -> Iterator[tuple[str, str, set[Key]]]:
+    """Each clause of `xm_main`, and after one that is a record its fields: the label, the field or nothing, and what it names."""
+    for file, call in tree.calls():
+        if (file.partition("/")[0], call.owner, call.name) != TOP:
+            continue
+        for clause in call.clauses:
+            yield clause.label, "", tree.uses_of(file, call, clause)
+            for key in tree.named(file, clause.tokens[0]):
+                yield from ((clause.label, name, uses) for name, uses in tree.fields(key))
+
+
 def clause_sizes(tree: Tree) -> list[str]:
-    under = [(label, tree.below(uses)) for label, uses in clauses_of(tree, *TOP)]
+    under = [(f"  {field}" if field else label, tree.below(uses)) for label, field, uses in top_promises(tree)]
     everything = set().union(*(keys for _, keys in under))
     rows = [(label, *size(keys)) for label, keys in [*under, ("all of them", everything)]]
     return table(("clause of xm_main", "definitions", "files", "crates"), rows)
@@ -74,7 +85,7 @@ def starts_of(tree: Tree, word: str) -> set[Key]:
         return set(tree.item(".".join(["Rattle", crate, "specs", *path]), name))
     crate, *path = word.split("::")
     if not path:
-        return set().union(*(uses for label, uses in clauses_of(tree, *TOP) if label == word))
+        return set().union(*(uses for label, field, uses in top_promises(tree) if word == (field or label)))
     whole = (uses for _, uses in clauses_of(tree, crate, "::".join(path[:-1]), path[-1]))
     labelled = clauses_of(tree, crate, "::".join(path[:-2]), path[-2]) if len(path) > 1 else ()
     return set().union(*whole, *(uses for label, uses in labelled if label == path[-1]))

@@ -190,6 +190,9 @@ def test_a_clause_stands_on_what_it_names_and_on_the_types_of_that(root: Path) -
     assert below(tree, "xm_commands::xm_main") == state | kept
     assert below(tree, "xm_commands.Top.length_of") == {"xm_commands/specs/Top.antt:length_of", "xm_commands/specs/Words.antt:Word"}
     assert below(tree, "absent") == set()
+    # The clause `state` is a record, and its fields count by themselves.
+    assert below(tree, "is") == {"low/src/state.rt:State"}
+    assert below(tree, "spelled") == set()
 
 
 def test_a_crate_hands_on_the_files_of_its_library(root: Path) -> None:

@@ -456,6 +456,18 @@ class Tree:
         own = self.member(file, call.owner, first) if call.owner else []
         return own + [key for trait in call.bounds.get(first, set()) for key in self.member(file, trait, name)]
 
+    def fields(self, key: Key) -> Iterator[tuple[str, set[Key]]]:
+        """The fields of a record, each with the definitions that stand in its type; none for what is no record."""
+        tokens = self.keys[key].parts[0] if self.keys[key].parts else []
+        if "record" not in tokens[:2] or "where" not in tokens:
+            return
+        head = tokens.index("where")
+        bound = set().union(*Walk(self, key.file, tokens[:head], set()).scopes)
+        starts = [place for place in range(head, len(tokens) - 2) if tokens[place] == "pub" and tokens[place + 2] == ":"]
+        for start, end in zip(starts, [*starts[1:], len(tokens)]):
+            bound.add(tokens[start + 1])
+            yield tokens[start + 1], Walk(self, key.file, tokens[start + 3 : end], bound).found
+
     def below(self, starts: Iterable[Key]) -> set[Key]:
         """These definitions, and all that they use."""
         seen: set[Key] = set()
