@@ -334,6 +334,8 @@ class Tree:
         if library not in self.files:
             return False
         shown = {f"{crate}/src/{module}.rt" for module in self.files[library].modules} | {library}
+        # A library may hand on a module of a module, as `pub use sys::engine`.
+        shown |= {f"{crate}/src/{path.replace('::', '/')}/{there}.rt" for path, there in self.files[library].rust_names.values()}
         return file in shown or any(name in self.files[each].rust_names for each in shown if each in self.files)
 
     def public_clauses(self) -> Iterator[tuple[bool, set[Key]]]:
