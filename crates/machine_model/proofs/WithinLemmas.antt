@@ -1,6 +1,6 @@
 -- What a partition's work does beyond the partition is within what it has.
 use Rattle.std.proofs.Common.{◌≡◌, ℕ, zero, suc, ◌+◌, Bool, true, false, List, [], ◌∷◌, length, Option, None, Some, Result, Ok, Err, inl, inr, refl, sym, ap, ◌∙◌, arith, subst}
-use Rattle.std.specs.Prelude.{slice_get, slice_index_or, if◌then◌else◌, ◌==◌, ◌||◌, ◌≤◌, nat_lt, not, IsSome}
+use Rattle.std.specs.Prelude.{◌++◌, slice_get, slice_index_or, if◌then◌else◌, ◌==◌, ◌||◌, ◌≤◌, nat_lt, not, IsSome}
 use Rattle.std.proofs.lemmas.Bool.Decides.{nat_tests}
 use Rattle.guest_bus.specs.MemoryLemmas.{length-bytes_at}
 use Rattle.health_monitor.specs.Monitor.{action_in, effect_of, event_of_type}
@@ -31,23 +31,20 @@ use Rattle.xm_ports.specs.Channels.{Content, HeldSample, IsMessage, Shape, first
 use Rattle.xm_ports.specs.Ports.{created_over, are_same_kind, is_made}
 use Rattle.xm_ports.specs.declared.ports.CreateFault.{CreateFault}
 use Rattle.machine_model.specs.ListLemmas.{table_at}
-use Rattle.machine_model.specs.Caller.{Acts, Caller, Meets, Served, Test, Upshot, a_of, acting, answering, b_of, caller_bytes, c_of, d_of, invalid_mode, invalid_parameter, is_neither, mode_numbered, no_permission, not_allowed, not_available, number_of, refused_if, room, shown, system_only, target, tested, text, with_written}
+use Rattle.machine_model.specs.Caller.{Acts, Caller, Meets, Served, Test, Upshot, a_of, acting, b_of, caller_bytes, c_of, invalid_parameter, no_permission, not_allowed, not_available, refused_if, room, system_only, target, tested, text, with_written}
+use Rattle.machine_model.specs.CallLemmas.{every_effect}
+use Rattle.machine_model.specs.Effects.{ChangesOwn, CreatesPort, DoesToAll, Effect, EntersTrace, GivesAnswer, GivesOrder, GoesBack, MeetsEvent, PrintsBytes, PutsBytes, RequestsPlan, SendsSignal, ShowsPort, ShowsSample, SpillsWindows, TakesMessage, UsesInput, comes_to, is_plan_missing, putting_bytes, queue_room, right_tests}
 use Rattle.machine_model.specs.Health.{answered_by, by_interrupt, done_to_all, event_handled, interrupt_delivered, quiet, self_ordered, undelivered}
 use Rattle.machine_model.specs.Hypercalls.{served}
 use Rattle.machine_model.specs.Laws.{ActsWithinBounds}
 use Rattle.machine_model.specs.OwnActs.{ActsWithinOwn, HasPortOn, HasPortRoom, IsPutting, IsWithinOwn}
-use Rattle.machine_model.specs.LinkCalls.{raise_ipvi}
 use Rattle.machine_model.specs.Lists.{and_then, table}
 use Rattle.machine_model.specs.LocalTick.{bounded, by_act, by_turn, by_upshot, called, clocked, delivered_or_executed, executed_in_tick, goes_on, has_name, local_tick, turned_state, with_interrupts, worked, worked_if}
-use Rattle.machine_model.specs.LogCalls.{hm_read, hm_status, raise_event, trace_event, trace_read, trace_status}
 use Rattle.machine_model.specs.Partition.{PartitionState, areas_of}
-use Rattle.machine_model.specs.PartitionCalls.{get_partition_status, get_self, get_system_status, halt_partition, halt_system, idle_self, ordering, reset_partition, reset_system, resume_partition, shutdown_partition, suspend_partition}
-use Rattle.machine_model.specs.PortCalls.{MadePort, by_created, create_queuing_port, create_sampling_port, creating, destination_only, first_read, get_queuing_port_status, get_sampling_port_status, held_read, is_full, is_source, made_port, name_given, on_port, putting, read_sampling_message, receive_queuing_message, send_queuing_message, shape_at, size_fits, source_only, with_channel, port_with_content, write_sampling_message}
-use Rattle.machine_model.specs.ProcessorCalls.{by_flush, by_return, clear_irqmask, flush_regwin, flushed, input_read, iret, read_input, set_irqmask, set_psr, set_tbr, write_console}
-use Rattle.machine_model.specs.Structures.{queuing_status, sampling_status}
-use Rattle.machine_model.specs.TimeCalls.{get_plan_status, get_time, is_no_plan, set_timer, switch_sched_plan}
+use Rattle.machine_model.specs.PortCalls.{MadePort, by_created, creating, destination_only, first_read, held_read, is_full, is_source, made_port, on_port, shape_at, size_fits, source_only, with_channel, port_with_content}
+use Rattle.machine_model.specs.ProcessorCalls.{by_flush, by_return, flushed, input_read}
 use Rattle.machine_model.specs.Told as told
-use Rattle.machine_model.specs.Told.{Act, AllHalted, AllReset, Asked, OwnPuts, OwnSignals, OwnStill, OwnTakes, Sight}
+use Rattle.machine_model.specs.Told.{Act, OwnPuts, OwnSignals, OwnStill, OwnTakes, Sight}
 use Rattle.machine_model.specs.View.{PartitionView, PortChannel, System, has_number, name_of, part_of, port_channel, view_of, with_its_name, with_name}
 use Rattle.machine_model.specs.NameLemmas.{name_is, of_name_below, same_number}
 
@@ -221,18 +218,18 @@ port_on caller the_kind the_way made is way_is = record {
   name_is = is.name_is;
 }
 
--- a message that fits its source port, and for a queue one that has room, is put so
-putting_within : (the_kind : Kind) (caller : Caller) (made : MadePort) → IsMadePort caller the_kind made → source_only made ≡ None → size_fits made (c_of caller) ≡ None
-    → HasPortRoom the_kind made.shape.kind made.content → IsPutting caller.view caller.contents made.name (caller_bytes caller (b_of caller) (c_of caller))
-putting_within the_kind caller made is passed fits has_room =
-    let size = size_is made (c_of caller) fits in
-    let long : length (caller_bytes caller (b_of caller) (c_of caller)) ≡ c_of caller = length-bytes_at caller.state.memory (b_of caller) (c_of caller) in
+-- a message of so many bytes at an address that fits its source port, and for a queue one that has room, is put so
+putting_within : (the_kind : Kind) (address size : ℕ) (caller : Caller) (made : MadePort) → IsMadePort caller the_kind made → source_only made ≡ None → size_fits made size ≡ None
+    → HasPortRoom the_kind made.shape.kind made.content → IsPutting caller.view caller.contents made.name (caller_bytes caller address size)
+putting_within the_kind address size caller made is passed fits has_room =
+    let within = size_is made size fits in
+    let long : length (caller_bytes caller address size) ≡ size = length-bytes_at caller.state.memory address size in
     record {
       on = port_on caller the_kind way.Source made is (source_is made.way passed);
       content = made.content;
       held = is.held;
-      message = subst (λ (shape : Shape). IsMessage shape.length (caller_bytes caller (b_of caller) (c_of caller))) is.shape_is
-          (record { some = subst (λ (n : ℕ). 1 ≤ n) (sym long) size.0; fit = subst (λ (n : ℕ). n ≤ made.shape.length) (sym long) size.1 });
+      message = subst (λ (shape : Shape). IsMessage shape.length (caller_bytes caller address size)) is.shape_is
+          (record { some = subst (λ (n : ℕ). 1 ≤ n) (sym long) within.0; fit = subst (λ (n : ℕ). n ≤ made.shape.length) (sym long) within.1 });
       room = subst (λ (shape : Shape). HasPortRoom is.port.kind shape.kind made.content) is.shape_is (same_room is.port.kind the_kind made.shape.kind made.content is.kind_is has_room);
     }
 
@@ -259,20 +256,26 @@ system_test tests caller comes within = at caller.view.part.system refl
     at true is = within is
     at false is = tt
 
--- and only a system partition names another one
-target_test : (tests : List Test) (caller : Caller) (order : Order)
-    → ComesWithin caller.view caller.contents (tested (target caller (a_of caller) ∷ tests) caller (ordering order caller)).upshot
-target_test tests caller order = at (a_of caller == caller.view.id) caller.view.part.system (nat_lt (a_of caller) caller.view.sees.parts) refl refl
+-- and only a system partition orders another one
+order_within : (id : ℕ) (order : Order) (tests : List Test) (caller : Caller)
+    → ComesWithin caller.view caller.contents (tested (target caller id ∷ tests) caller (comes_to (GivesOrder id order) caller)).upshot
+order_within id order tests caller = at (id == caller.view.id) caller.view.part.system (nat_lt id caller.view.sees.parts) refl refl
   where
-    passed : ((a_of caller == caller.view.id) ≡ false → caller.view.part.system ≡ true) → ComesWithin caller.view caller.contents (tested tests caller (ordering order caller)).upshot
-    passed may = tested_within caller.view caller.contents tests caller (ordering order caller) may
+    passed : ((id == caller.view.id) ≡ false → caller.view.part.system ≡ true) → ComesWithin caller.view caller.contents (tested tests caller (comes_to (GivesOrder id order) caller)).upshot
+    passed may = tested_within caller.view caller.contents tests caller (comes_to (GivesOrder id order) caller) may
 
-    at : (own system there : Bool) → (a_of caller == caller.view.id) ≡ own → caller.view.part.system ≡ system
-        → ComesWithin caller.view caller.contents (tested ((if own then None else if not system then Some no_permission else refused_if (not there) invalid_parameter) ∷ tests) caller (ordering order caller)).upshot
+    at : (own system there : Bool) → (id == caller.view.id) ≡ own → caller.view.part.system ≡ system
+        → ComesWithin caller.view caller.contents (tested ((if own then None else if not system then Some no_permission else refused_if (not there) invalid_parameter) ∷ tests) caller (comes_to (GivesOrder id order) caller)).upshot
     at true system there its is = passed (λ other. absurd cc)
     at false true true its is = passed (λ other. is)
     at false true false its is = tt
     at false false there its is = tt
+
+-- a signal goes over a link that is there
+signal_within : (has : Bool) (tests : List Test) (number : ℕ) (caller : Caller) → has_number caller.view.links number ≡ has
+    → ComesWithin caller.view caller.contents (tested (refused_if (not has) invalid_parameter ∷ tests) caller (comes_to (SendsSignal number) caller)).upshot
+signal_within true tests number caller is = tested_within caller.view caller.contents tests caller (comes_to (SendsSignal number) caller) is
+signal_within false tests number caller is = tt
 
 -- the test of a call that asks for a plan
 plan_test : (b : Bool) (tests : List Test) (caller : Caller) (comes : Served) → (b ≡ false → ComesWithin caller.view caller.contents comes.upshot)
@@ -289,6 +292,17 @@ full_test : (view : PartitionView) (contents : List (Option Content)) (full : Bo
     → (full ≡ false → ComesWithin view contents comes.upshot) → ComesWithin view contents (tested (refused_if full code ∷ []) caller comes).upshot
 full_test view contents true code caller comes within = tt
 full_test view contents false code caller comes within = within refl
+
+-- a message is put through a source port of its kind, where there is room
+put_within : (the_kind : Kind) (address size : ℕ) (caller : Caller) → ComesWithin caller.view caller.contents (comes_to (PutsBytes the_kind address size) caller).upshot
+put_within the_kind address size caller = on_port_within caller.view caller.contents the_kind (made_port the_kind caller) caller _ (made_port_is the_kind caller) (by the_kind)
+  where
+    by : (k : Kind) (made : MadePort) → IsMadePort caller k made
+        → ComesWithin caller.view caller.contents (tested (source_only made ∷ size_fits made size ∷ text caller address size ∷ queue_room k made) caller (putting_bytes address size caller made)).upshot
+    by kind.Sampling made is = put_tests caller.view caller.contents (source_only made) (size_fits made size) (text caller address size) [] caller _
+        (λ passed fits. putting_within kind.Sampling address size caller made is passed fits tt)
+    by kind.Queuing made is = put_tests caller.view caller.contents (source_only made) (size_fits made size) (text caller address size) _ caller _
+        (λ passed fits. full_test caller.view caller.contents (is_full made) not_available caller _ (λ free. putting_within kind.Queuing address size caller made is passed fits (not_full made free)))
 
 created_within : (view : PartitionView) (contents : List (Option Content)) (r : Result ℕ CreateFault) (caller : Caller) → ComesWithin view contents (by_created r caller).upshot
 created_within view contents (Ok r) caller = tt
@@ -330,223 +344,42 @@ flush_within : (view : PartitionView) (contents : List (Option Content)) (answer
 flush_within view contents (Ok all) ps caller = tt
 flush_within view contents (Err fault) ps caller = tt
 
--- what a call comes to is within what its caller has
+-- whatever an effect comes to is within what its caller has, whatever tests its call has
+asked_within : (effect : Effect) (tests : List Test) (caller : Caller) → ComesWithin caller.view caller.contents (tested (right_tests effect caller ++ tests) caller (comes_to effect caller)).upshot
+asked_within (GivesAnswer value writings) tests caller = tested_within caller.view caller.contents tests caller _ tt
+asked_within (PrintsBytes bytes value) tests caller = tested_within caller.view caller.contents tests caller _ tt
+asked_within (GivesOrder id order) tests caller = order_within id order tests caller
+asked_within (DoesToAll event) tests caller = system_test tests caller _ (λ system. tested_within caller.view caller.contents tests caller _ (inl system))
+asked_within (RequestsPlan plan writings) tests caller =
+    system_test _ caller _ (λ system. plan_test (is_plan_missing plan caller) tests caller _ (λ passed. (is_plan (plan == 0) (nat_lt plan caller.view.sees.plans) passed, system)))
+asked_within (PutsBytes the_kind address size) tests caller = tested_within caller.view caller.contents tests caller _ (put_within the_kind address size caller)
+asked_within TakesMessage tests caller = tested_within caller.view caller.contents tests caller _
+    (on_port_within caller.view caller.contents kind.Queuing (made_port kind.Queuing caller) caller _ (made_port_is kind.Queuing caller) (λ port is.
+    take_test caller.view caller.contents (destination_only port) caller _ (λ passed. first_within (first_message port.content) caller port is passed refl)))
+asked_within (SendsSignal number) tests caller = signal_within (has_number caller.view.links number) tests number caller refl
+asked_within ShowsSample tests caller = tested_within caller.view caller.contents tests caller _
+    (on_port_within caller.view caller.contents kind.Sampling (made_port kind.Sampling caller) caller _ (made_port_is kind.Sampling caller) (λ port is.
+    tested_within caller.view caller.contents (destination_only port ∷ []) caller _ (held_within caller.view caller.contents (sample_of port.content) caller port)))
+asked_within (ShowsPort the_kind size status) tests caller = tested_within caller.view caller.contents tests caller _
+    (on_port_within caller.view caller.contents the_kind (made_port the_kind caller) caller _ (made_port_is the_kind caller) (λ port is. tested_within caller.view caller.contents (room caller (b_of caller) size ∷ []) caller _ tt))
+asked_within (CreatesPort the_kind way size most name) tests caller = tested_within caller.view caller.contents tests caller _ (creating_within caller.view caller.contents the_kind way size most name caller)
+asked_within (ChangesOwn change) tests caller = tested_within caller.view caller.contents tests caller _ tt
+asked_within EntersTrace tests caller = tested_within caller.view caller.contents tests caller _ tt
+asked_within UsesInput tests caller = tested_within caller.view caller.contents tests caller _ (input_within caller.view caller.contents caller.state.inputs caller)
+asked_within (MeetsEvent event word) tests caller = tested_within caller.view caller.contents tests caller _ tt
+asked_within GoesBack tests caller =
+    let r = returned (areas_of caller.view) caller.state.traps caller.state.core caller.state.memory in
+    tested_within caller.view caller.contents tests caller _ (return_within caller.view caller.contents r.answer r caller)
+asked_within SpillsWindows tests caller =
+    let moved = flushed 8 (areas_of caller.view) (move_made caller.state.core caller.state.memory) in
+    tested_within caller.view caller.contents tests caller _ (flush_within caller.view caller.contents moved.answer (record caller.state { core = moved.core; memory = moved.memory }) caller)
+
+-- so what any call comes to is within what its caller has
 record Stays (view : PartitionView) (contents : List (Option Content)) (comes : Served) : Type 0 where
   within : ComesWithin view contents comes.upshot
 
-get_self_stays : (caller : Caller) → Stays caller.view caller.contents (get_self caller)
-unfolding get_self
-get_self_stays caller = record { within = tt }
-
-halt_partition_stays : (caller : Caller) → Stays caller.view caller.contents (halt_partition caller)
-unfolding halt_partition
-halt_partition_stays caller = record { within = target_test [] caller order.Halt }
-
-reset_partition_stays : (caller : Caller) → Stays caller.view caller.contents (reset_partition caller)
-unfolding reset_partition
-reset_partition_stays caller = record { within = target_test (refused_if (is_neither (b_of caller)) invalid_mode ∷ []) caller (order.Reset (mode_numbered (b_of caller)) (c_of caller)) }
-
-suspend_partition_stays : (caller : Caller) → Stays caller.view caller.contents (suspend_partition caller)
-unfolding suspend_partition
-suspend_partition_stays caller = record { within = target_test [] caller order.Suspend }
-
-resume_partition_stays : (caller : Caller) → Stays caller.view caller.contents (resume_partition caller)
-unfolding resume_partition
-resume_partition_stays caller = record { within = target_test [] caller order.Resume }
-
-shutdown_partition_stays : (caller : Caller) → Stays caller.view caller.contents (shutdown_partition caller)
-unfolding shutdown_partition
-shutdown_partition_stays caller = record { within = target_test [] caller order.Shutdown }
-
-idle_self_stays : (caller : Caller) → Stays caller.view caller.contents (idle_self caller)
-unfolding idle_self
-idle_self_stays caller = record { within = tt }
-
-get_partition_status_stays : (caller : Caller) → Stays caller.view caller.contents (get_partition_status caller)
-unfolding get_partition_status
-get_partition_status_stays caller = record { within = grind (arith) }
-
-halt_system_stays : (caller : Caller) → Stays caller.view caller.contents (halt_system caller)
-unfolding halt_system
-halt_system_stays caller = record { within = system_test [] caller (acting (told.UponAll AllHalted) 0 caller.state) (λ is. inl is) }
-
-reset_system_stays : (caller : Caller) → Stays caller.view caller.contents (reset_system caller)
-unfolding reset_system
-reset_system_stays caller = record {
-  within = system_test (refused_if (is_neither (a_of caller)) invalid_mode ∷ []) caller (acting (told.UponAll (AllReset (mode_numbered (a_of caller)))) 0 caller.state) (λ is.
-      tested_within caller.view caller.contents (refused_if (is_neither (a_of caller)) invalid_mode ∷ []) caller (acting (told.UponAll (AllReset (mode_numbered (a_of caller)))) 0 caller.state) (inl is));
-}
-
-get_system_status_stays : (caller : Caller) → Stays caller.view caller.contents (get_system_status caller)
-unfolding get_system_status
-get_system_status_stays caller = record { within = grind (arith) }
-
-get_time_stays : (caller : Caller) → Stays caller.view caller.contents (get_time caller)
-unfolding get_time
-get_time_stays caller = record { within = grind (arith) }
-
-set_timer_stays : (caller : Caller) → Stays caller.view caller.contents (set_timer caller)
-unfolding set_timer
-set_timer_stays caller = record { within = grind (arith) }
-
-switch_sched_plan_stays : (caller : Caller) → Stays caller.view caller.contents (switch_sched_plan caller)
-unfolding switch_sched_plan
-switch_sched_plan_stays caller = record {
-  within =
-      let asks = acting (told.Plans (Asked (a_of caller))) 0 (with_written (b_of caller) (shown caller.sight) caller.state) in
-      system_test (refused_if (is_no_plan caller) invalid_parameter ∷ room caller (b_of caller) 4 ∷ []) caller asks (λ is.
-      plan_test (is_no_plan caller) (room caller (b_of caller) 4 ∷ []) caller asks (λ some. (is_plan (a_of caller == 0) (nat_lt (a_of caller) caller.view.sees.plans) some, is)));
-}
-
-get_plan_status_stays : (caller : Caller) → Stays caller.view caller.contents (get_plan_status caller)
-unfolding get_plan_status
-get_plan_status_stays caller = record { within = grind (arith) }
-
-create_sampling_port_stays : (caller : Caller) → Stays caller.view caller.contents (create_sampling_port caller)
-unfolding create_sampling_port
-create_sampling_port_stays caller = record { within = creating_within caller.view caller.contents kind.Sampling (c_of caller) (b_of caller) 0 (name_given caller) caller }
-
-write_sampling_message_stays : (caller : Caller) → Stays caller.view caller.contents (write_sampling_message caller)
-unfolding write_sampling_message
-write_sampling_message_stays caller = record { within = on_port_within caller.view caller.contents kind.Sampling (made_port kind.Sampling caller) caller _ (made_port_is kind.Sampling caller) (λ port is. put_tests caller.view caller.contents (source_only port) (size_fits port (c_of caller)) (text caller (b_of caller) (c_of caller)) [] caller (putting caller port) (λ source fits. putting_within kind.Sampling caller port is source fits tt)) }
-
-read_sampling_message_stays : (caller : Caller) → Stays caller.view caller.contents (read_sampling_message caller)
-unfolding read_sampling_message
-read_sampling_message_stays caller = record { within = on_port_within caller.view caller.contents kind.Sampling (made_port kind.Sampling caller) caller _ (made_port_is kind.Sampling caller) (λ port is. let held = held_within caller.view caller.contents (sample_of port.content) caller port in grind (arith, held)) }
-
-get_sampling_port_status_stays : (caller : Caller) → Stays caller.view caller.contents (get_sampling_port_status caller)
-unfolding get_sampling_port_status
-get_sampling_port_status_stays caller = record { within = on_port_within caller.view caller.contents kind.Sampling (made_port kind.Sampling caller) caller _ (made_port_is kind.Sampling caller) (λ port is. tested_within caller.view caller.contents (room caller (b_of caller) 16 ∷ []) caller (answering 0 (with_written (b_of caller) (sampling_status port.shape.kind caller.time port.content) caller.state)) tt) }
-
-create_queuing_port_stays : (caller : Caller) → Stays caller.view caller.contents (create_queuing_port caller)
-unfolding create_queuing_port
-create_queuing_port_stays caller = record { within = creating_within caller.view caller.contents kind.Queuing (d_of caller) (c_of caller) (b_of caller) (name_given caller) caller }
-
-send_queuing_message_stays : (caller : Caller) → Stays caller.view caller.contents (send_queuing_message caller)
-unfolding send_queuing_message
-send_queuing_message_stays caller = record { within = on_port_within caller.view caller.contents kind.Queuing (made_port kind.Queuing caller) caller _ (made_port_is kind.Queuing caller) (λ port is. put_tests caller.view caller.contents (source_only port) (size_fits port (c_of caller)) (text caller (b_of caller) (c_of caller)) (refused_if (is_full port) not_available ∷ []) caller (putting caller port) (λ source fits. full_test caller.view caller.contents (is_full port) not_available caller (putting caller port) (λ free. putting_within kind.Queuing caller port is source fits (not_full port free)))) }
-
-receive_queuing_message_stays : (caller : Caller) → Stays caller.view caller.contents (receive_queuing_message caller)
-unfolding receive_queuing_message
-receive_queuing_message_stays caller = record { within = on_port_within caller.view caller.contents kind.Queuing (made_port kind.Queuing caller) caller _ (made_port_is kind.Queuing caller) (λ port is. take_test caller.view caller.contents (destination_only port) caller (first_read (first_message port.content) caller port) (λ passed. first_within (first_message port.content) caller port is passed refl)) }
-
-get_queuing_port_status_stays : (caller : Caller) → Stays caller.view caller.contents (get_queuing_port_status caller)
-unfolding get_queuing_port_status
-get_queuing_port_status_stays caller = record { within = on_port_within caller.view caller.contents kind.Queuing (made_port kind.Queuing caller) caller _ (made_port_is kind.Queuing caller) (λ port is. tested_within caller.view caller.contents (room caller (b_of caller) 8 ∷ []) caller (answering 0 (with_written (b_of caller) (queuing_status port.shape.kind port.content) caller.state)) tt) }
-
-trace_event_stays : (caller : Caller) → Stays caller.view caller.contents (trace_event caller)
-unfolding trace_event
-trace_event_stays caller = record { within = grind (arith) }
-
-trace_read_stays : (caller : Caller) → Stays caller.view caller.contents (trace_read caller)
-unfolding trace_read
-trace_read_stays caller = record { within = grind (arith) }
-
-trace_status_stays : (caller : Caller) → Stays caller.view caller.contents (trace_status caller)
-unfolding trace_status
-trace_status_stays caller = record { within = grind (arith) }
-
-raise_event_stays : (caller : Caller) → Stays caller.view caller.contents (raise_event caller)
-unfolding raise_event
-raise_event_stays caller = record { within = tt }
-
-hm_read_stays : (caller : Caller) → Stays caller.view caller.contents (hm_read caller)
-unfolding hm_read
-hm_read_stays caller = record { within = grind (arith) }
-
-hm_status_stays : (caller : Caller) → Stays caller.view caller.contents (hm_status caller)
-unfolding hm_status
-hm_status_stays caller = record { within = grind (arith) }
-
-set_irqmask_stays : (caller : Caller) → Stays caller.view caller.contents (set_irqmask caller)
-unfolding set_irqmask
-set_irqmask_stays caller = record { within = tt }
-
-clear_irqmask_stays : (caller : Caller) → Stays caller.view caller.contents (clear_irqmask caller)
-unfolding clear_irqmask
-clear_irqmask_stays caller = record { within = tt }
-
-write_console_stays : (caller : Caller) → Stays caller.view caller.contents (write_console caller)
-unfolding write_console
-write_console_stays caller = record { within = grind (arith) }
-
-read_input_stays : (caller : Caller) → Stays caller.view caller.contents (read_input caller)
-unfolding read_input
-read_input_stays caller = record { within = input_within caller.view caller.contents caller.state.inputs caller }
-
-iret_stays : (caller : Caller) → Stays caller.view caller.contents (iret caller)
-unfolding iret
-iret_stays caller = record { within = let r = returned (areas_of caller.view) caller.state.traps caller.state.core caller.state.memory in return_within caller.view caller.contents r.answer r caller }
-
-set_psr_stays : (caller : Caller) → Stays caller.view caller.contents (set_psr caller)
-unfolding set_psr
-set_psr_stays caller = record { within = tt }
-
-set_tbr_stays : (caller : Caller) → Stays caller.view caller.contents (set_tbr caller)
-unfolding set_tbr
-set_tbr_stays caller = record { within = tt }
-
-flush_regwin_stays : (caller : Caller) → Stays caller.view caller.contents (flush_regwin caller)
-unfolding flush_regwin
-flush_regwin_stays caller = record { within = let moved = flushed 8 (areas_of caller.view) (move_made caller.state.core caller.state.memory) in flush_within caller.view caller.contents moved.answer (record caller.state { core = moved.core; memory = moved.memory }) caller }
-
--- a signal over a link that was looked for
-link_test : (view : PartitionView) (contents : List (Option Content)) (has : Bool) (code : ℕ) (caller : Caller) (comes : Served)
-    → (has ≡ true → ComesWithin view contents comes.upshot) → ComesWithin view contents (tested (refused_if (not has) code ∷ []) caller comes).upshot
-link_test view contents true code caller comes within = within refl
-link_test view contents false code caller comes within = tt
-
-raise_ipvi_stays : (caller : Caller) → Stays caller.view caller.contents (raise_ipvi caller)
-unfolding raise_ipvi
-raise_ipvi_stays caller = record { within = link_test caller.view caller.contents (has_number caller.view.links (a_of caller)) invalid_parameter caller (acting (told.Trades (OwnSignals (a_of caller))) 0 caller.state) (λ has. has) }
-
--- the call with a number, or a later one
-choice_stays : (view : PartitionView) (contents : List (Option Content)) (b : Bool) (one other : Served) → Stays view contents one → Stays view contents other → Stays view contents (if b then one else other)
-choice_stays view contents true one other stays further = stays
-choice_stays view contents false one other stays further = further
-
 served_stays : (caller : Caller) → Stays caller.view caller.contents (served caller)
-unfolding served
-served_stays caller =
-    choice_stays caller.view caller.contents (number_of caller == 1) _ _ (get_self_stays caller)
-    (choice_stays caller.view caller.contents (number_of caller == 2) _ _ (halt_partition_stays caller)
-    (choice_stays caller.view caller.contents (number_of caller == 3) _ _ (reset_partition_stays caller)
-    (choice_stays caller.view caller.contents (number_of caller == 4) _ _ (suspend_partition_stays caller)
-    (choice_stays caller.view caller.contents (number_of caller == 5) _ _ (resume_partition_stays caller)
-    (choice_stays caller.view caller.contents (number_of caller == 6) _ _ (shutdown_partition_stays caller)
-    (choice_stays caller.view caller.contents (number_of caller == 7) _ _ (idle_self_stays caller)
-    (choice_stays caller.view caller.contents (number_of caller == 8) _ _ (get_partition_status_stays caller)
-    (choice_stays caller.view caller.contents (number_of caller == 9) _ _ (halt_system_stays caller)
-    (choice_stays caller.view caller.contents (number_of caller == 10) _ _ (reset_system_stays caller)
-    (choice_stays caller.view caller.contents (number_of caller == 11) _ _ (get_system_status_stays caller)
-    (choice_stays caller.view caller.contents (number_of caller == 12) _ _ (get_time_stays caller)
-    (choice_stays caller.view caller.contents (number_of caller == 13) _ _ (set_timer_stays caller)
-    (choice_stays caller.view caller.contents (number_of caller == 14) _ _ (switch_sched_plan_stays caller)
-    (choice_stays caller.view caller.contents (number_of caller == 15) _ _ (get_plan_status_stays caller)
-    (choice_stays caller.view caller.contents (number_of caller == 16) _ _ (create_sampling_port_stays caller)
-    (choice_stays caller.view caller.contents (number_of caller == 17) _ _ (write_sampling_message_stays caller)
-    (choice_stays caller.view caller.contents (number_of caller == 18) _ _ (read_sampling_message_stays caller)
-    (choice_stays caller.view caller.contents (number_of caller == 19) _ _ (get_sampling_port_status_stays caller)
-    (choice_stays caller.view caller.contents (number_of caller == 20) _ _ (create_queuing_port_stays caller)
-    (choice_stays caller.view caller.contents (number_of caller == 21) _ _ (send_queuing_message_stays caller)
-    (choice_stays caller.view caller.contents (number_of caller == 22) _ _ (receive_queuing_message_stays caller)
-    (choice_stays caller.view caller.contents (number_of caller == 23) _ _ (get_queuing_port_status_stays caller)
-    (choice_stays caller.view caller.contents (number_of caller == 24) _ _ (trace_event_stays caller)
-    (choice_stays caller.view caller.contents (number_of caller == 25) _ _ (trace_read_stays caller)
-    (choice_stays caller.view caller.contents (number_of caller == 26) _ _ (trace_status_stays caller)
-    (choice_stays caller.view caller.contents (number_of caller == 27) _ _ (raise_event_stays caller)
-    (choice_stays caller.view caller.contents (number_of caller == 28) _ _ (hm_read_stays caller)
-    (choice_stays caller.view caller.contents (number_of caller == 29) _ _ (hm_status_stays caller)
-    (choice_stays caller.view caller.contents (number_of caller == 30) _ _ (set_irqmask_stays caller)
-    (choice_stays caller.view caller.contents (number_of caller == 31) _ _ (clear_irqmask_stays caller)
-    (choice_stays caller.view caller.contents (number_of caller == 32) _ _ (write_console_stays caller)
-    (choice_stays caller.view caller.contents (number_of caller == 33) _ _ (read_input_stays caller)
-    (choice_stays caller.view caller.contents (number_of caller == 34) _ _ (iret_stays caller)
-    (choice_stays caller.view caller.contents (number_of caller == 35) _ _ (set_psr_stays caller)
-    (choice_stays caller.view caller.contents (number_of caller == 36) _ _ (set_tbr_stays caller)
-    (choice_stays caller.view caller.contents (number_of caller == 37) _ _ (flush_regwin_stays caller)
-    (choice_stays caller.view caller.contents (number_of caller == 38) _ _ (raise_ipvi_stays caller)
-    (record { within = tt }))))))))))))))))))))))))))))))))))))))
+served_stays caller = every_effect caller (Stays caller.view caller.contents) (λ asked. record { within = asked_within asked.effect asked.tests caller }) (record { within = tt })
 
 -- what a call does beyond its partition is within what the partition has
 act_within : (view : PartitionView) (contents : List (Option Content)) (act : Act) (ps : PartitionState) → AsksWithin view contents act → IsWithinOwn view contents (by_act act view ps).act

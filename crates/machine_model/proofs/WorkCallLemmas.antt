@@ -1,10 +1,10 @@
 -- What each call leaves of the facts.
 use Rattle.std.proofs.Common.{length, ◌++◌, ◌≡◌, ◌⊎◌, inl, inr, ℕ, zero, suc, ◌≤◌, ◌+◌, Bool, true, false, List, [], ◌∷◌, Option, None, Some, Result, Ok, Err, refl, sym, ap, arith, subst}
-use Rattle.std.specs.Prelude.{◌-◌, drop, slice_get, slice_index_or, if◌then◌else◌, ◌==◌, ◌&&◌, ◌||◌, IsSome, bit_and}
+use Rattle.std.specs.Prelude.{◌-◌, drop, slice_get, slice_index_or, if◌then◌else◌, ◌==◌, ◌&&◌, ◌||◌, IsSome}
 use Rattle.std.proofs.lemmas.List.Elements.{All-append, All-cons, All-drop, All-nil}
 use Rattle.guest_bus.specs.MemoryLemmas.{length-bytes_at}
 use Rattle.health_monitor.specs.declared.entry.HealthEntry.{HealthEntry}
-use Rattle.virt_clocks.specs.Clocks.{armed, with_timer}
+use Rattle.virt_clocks.specs.Clocks.{with_timer}
 use Rattle.virt_clocks.specs.declared.timer.Clock.{Clock}
 use Rattle.virt_clocks.specs.declared.timer.Clock.TheVariants.{Exec, Hw}
 use Rattle.virt_clocks.specs.declared.timer.Timer.{Timer}
@@ -22,17 +22,15 @@ use Rattle.xm_ports.specs.Ports.{agrees_end, created_over, granted, is_made, is_
 use Rattle.xm_ports.specs.declared.ports.CreateFault.{CreateFault}
 use Rattle.xm_traces.specs.Ring.{Kept, RING_ENTRIES, noted}
 use Rattle.xm_traces.specs.declared.entry.TraceEntry.{TraceEntry}
-use Rattle.machine_model.specs.Caller.{Acts, Caller, Served, Test, a_of, answering, b_of, c_of, d_of, e_of, invalid_parameter, is_neither, no_action, not_available, number_of, refused_if, room, tested, text, with_answer, with_written}
+use Rattle.machine_model.specs.Caller.{Acts, Caller, Served, Test, a_of, answering, b_of, invalid_parameter, room, tested, text, unknown_call, with_answer, with_written}
+use Rattle.machine_model.specs.CallLemmas.{every_effect}
+use Rattle.machine_model.specs.Effects.{ArmsTimer, ChangesOwn, CreatesPort, DoesToAll, Effect, EntersTrace, GivesAnswer, GivesOrder, GoesBack, MeetsEvent, OwnChange, PrintsBytes, PutsBytes, RequestsPlan, SendsSignal, SetsBase, SetsCodes, SetsMask, ShowsPort, ShowsSample, SpillsWindows, TakesMessage, UsesInput, Waits, Writing, comes_to, putting_bytes, queue_room, right_tests, with_change, with_writings}
 use Rattle.machine_model.specs.Facts.{AreEnds, AreLast, HaveEight, IsChannelEnd}
 use Rattle.machine_model.specs.Hypercalls.{served}
-use Rattle.machine_model.specs.LinkCalls.{raise_ipvi}
-use Rattle.machine_model.specs.LogCalls.{hm_read, hm_status, raise_event, trace_entry, trace_event, trace_read, trace_status, tracing}
+use Rattle.machine_model.specs.LogCalls.{trace_entry, tracing}
 use Rattle.machine_model.specs.Partition.{PartitionState, areas_of}
-use Rattle.machine_model.specs.PartitionCalls.{get_partition_status, get_self, get_system_status, halt_partition, halt_system, idle_self, reset_partition, reset_system, resume_partition, shutdown_partition, suspend_partition}
-use Rattle.machine_model.specs.PortCalls.{MadePort, by_created, create_queuing_port, create_sampling_port, creating, first_read, get_queuing_port_status, get_sampling_port_status, held_read, is_full, made_port, name_given, on_port, putting, read_sampling_message, receive_queuing_message, send_queuing_message, shape_at, size_fits, source_only, write_sampling_message}
-use Rattle.machine_model.specs.ProcessorCalls.{by_flush, by_return, clear_irqmask, flush_regwin, flushed, input_read, iret, read_input, set_irqmask, set_psr, set_tbr, write_console}
-use Rattle.machine_model.specs.Structures.{queuing_status, sampling_status}
-use Rattle.machine_model.specs.TimeCalls.{clock_numbered, get_plan_status, get_time, is_negative, joined, set_timer, switch_sched_plan, with_timer_set}
+use Rattle.machine_model.specs.PortCalls.{MadePort, by_created, creating, destination_only, first_read, held_read, made_port, on_port, shape_at, size_fits, source_only}
+use Rattle.machine_model.specs.ProcessorCalls.{by_flush, by_return, flushed, input_read}
 use Rattle.machine_model.specs.Told as told
 use Rattle.machine_model.specs.View.{PartitionView, PortChannel}
 
@@ -219,213 +217,59 @@ creating_leaves the_kind way size most (Some name) caller =
       made = λ ends. made_or (IsChannelEnd caller.view) caller.state.made r (is_created caller.view name the_kind way size most caller.state.made r is) ends;
     })
 
-get_self_leaves : (caller : Caller) → Leaves caller (get_self caller)
-unfolding get_self with_answer with_written
-get_self_leaves caller = keeps caller (get_self caller) (refl)
-
-halt_partition_leaves : (caller : Caller) → Leaves caller (halt_partition caller)
-unfolding halt_partition with_answer with_written
-halt_partition_leaves caller = keeps caller (halt_partition caller) (grind (arith))
-
-reset_partition_leaves : (caller : Caller) → Leaves caller (reset_partition caller)
-unfolding reset_partition with_answer with_written
-reset_partition_leaves caller = keeps caller (reset_partition caller) (grind (arith))
-
-suspend_partition_leaves : (caller : Caller) → Leaves caller (suspend_partition caller)
-unfolding suspend_partition with_answer with_written
-suspend_partition_leaves caller = keeps caller (suspend_partition caller) (grind (arith))
-
-resume_partition_leaves : (caller : Caller) → Leaves caller (resume_partition caller)
-unfolding resume_partition with_answer with_written
-resume_partition_leaves caller = keeps caller (resume_partition caller) (grind (arith))
-
-shutdown_partition_leaves : (caller : Caller) → Leaves caller (shutdown_partition caller)
-unfolding shutdown_partition with_answer with_written
-shutdown_partition_leaves caller = keeps caller (shutdown_partition caller) (grind (arith))
-
-idle_self_leaves : (caller : Caller) → Leaves caller (idle_self caller)
-unfolding idle_self with_answer with_written
-idle_self_leaves caller = keeps caller (idle_self caller) (refl)
-
-get_partition_status_leaves : (caller : Caller) → Leaves caller (get_partition_status caller)
-unfolding get_partition_status with_answer with_written
-get_partition_status_leaves caller = keeps caller (get_partition_status caller) (grind (arith))
-
-halt_system_leaves : (caller : Caller) → Leaves caller (halt_system caller)
-unfolding halt_system with_answer with_written
-halt_system_leaves caller = keeps caller (halt_system caller) (grind (arith))
-
-reset_system_leaves : (caller : Caller) → Leaves caller (reset_system caller)
-unfolding reset_system with_answer with_written
-reset_system_leaves caller = keeps caller (reset_system caller) (grind (arith))
-
-get_system_status_leaves : (caller : Caller) → Leaves caller (get_system_status caller)
-unfolding get_system_status with_answer with_written
-get_system_status_leaves caller = keeps caller (get_system_status caller) (grind (arith))
-
-get_time_leaves : (caller : Caller) → Leaves caller (get_time caller)
-unfolding get_time with_answer with_written
-get_time_leaves caller = keeps caller (get_time caller) (grind (arith))
-
 -- a timer that is set leaves the execution clock
 timer_keeps : (clock : Clock) (timer : Option Timer) (ps : PartitionState) → fact_parts (record ps { clocks = with_timer clock timer ps.clocks }) ≡ fact_parts ps
 timer_keeps Hw timer ps = refl
 timer_keeps Exec timer ps = refl
 
-set_timer_leaves : (caller : Caller) → Leaves caller (set_timer caller)
-unfolding set_timer with_answer with_written
-set_timer_leaves caller = keeps caller (set_timer caller)
-    (tested_keeps (refused_if (is_neither (a_of caller)) invalid_parameter ∷ refused_if (is_negative (b_of caller) || is_negative (d_of caller)) invalid_parameter ∷ []) caller
-    (answering 0 (with_timer_set caller))
-    (timer_keeps (clock_numbered (a_of caller)) (armed (joined (b_of caller) (c_of caller)) (joined (d_of caller) (e_of caller))) caller.state))
+-- and so does every other change of the partition's own
+change_keeps : (change : OwnChange) (ps : PartitionState) → fact_parts (with_change change ps) ≡ fact_parts ps
+change_keeps Waits ps = refl
+change_keeps (ArmsTimer clock timer) ps = timer_keeps clock timer ps
+change_keeps (SetsMask mask) ps = refl
+change_keeps (SetsCodes icc enabled) ps = refl
+change_keeps (SetsBase base) ps = refl
 
-switch_sched_plan_leaves : (caller : Caller) → Leaves caller (switch_sched_plan caller)
-unfolding switch_sched_plan with_answer with_written
-switch_sched_plan_leaves caller = keeps caller (switch_sched_plan caller) (grind (arith))
+-- bytes that are written leave it, too
+writings_keep : (writings : List Writing) (ps : PartitionState) → fact_parts (with_writings writings ps) ≡ fact_parts ps
+unfolding with_written
+writings_keep [] ps = refl
+writings_keep (writing ∷ writings) ps = writings_keep writings (with_written writing.address writing.bytes ps)
 
-get_plan_status_leaves : (caller : Caller) → Leaves caller (get_plan_status caller)
-unfolding get_plan_status with_answer with_written
-get_plan_status_leaves caller = keeps caller (get_plan_status caller) (grind (arith))
-
-create_sampling_port_leaves : (caller : Caller) → Leaves caller (create_sampling_port caller)
-unfolding create_sampling_port with_answer with_written
-create_sampling_port_leaves caller = creating_leaves kind.Sampling (c_of caller) (b_of caller) 0 (name_given caller) caller
-
-write_sampling_message_leaves : (caller : Caller) → Leaves caller (write_sampling_message caller)
-unfolding write_sampling_message with_answer with_written
-write_sampling_message_leaves caller = keeps caller (write_sampling_message caller) (on_port_keeps (made_port kind.Sampling caller) caller _ (λ port. tested_keeps (source_only port ∷ size_fits port (c_of caller) ∷ text caller (b_of caller) (c_of caller) ∷ []) caller (putting caller port) refl))
-
-read_sampling_message_leaves : (caller : Caller) → Leaves caller (read_sampling_message caller)
-unfolding read_sampling_message with_answer with_written
-read_sampling_message_leaves caller = keeps caller (read_sampling_message caller) (on_port_keeps (made_port kind.Sampling caller) caller _ (λ port. let held = held_keeps (sample_of port.content) caller port in grind (arith, held)))
-
-get_sampling_port_status_leaves : (caller : Caller) → Leaves caller (get_sampling_port_status caller)
-unfolding get_sampling_port_status with_answer with_written
-get_sampling_port_status_leaves caller = keeps caller (get_sampling_port_status caller) (on_port_keeps (made_port kind.Sampling caller) caller _ (λ port. tested_keeps (room caller (b_of caller) 16 ∷ []) caller (answering 0 (with_written (b_of caller) (sampling_status port.shape.kind caller.time port.content) caller.state)) refl))
-
-create_queuing_port_leaves : (caller : Caller) → Leaves caller (create_queuing_port caller)
-unfolding create_queuing_port with_answer with_written
-create_queuing_port_leaves caller = creating_leaves kind.Queuing (d_of caller) (c_of caller) (b_of caller) (name_given caller) caller
-
-send_queuing_message_leaves : (caller : Caller) → Leaves caller (send_queuing_message caller)
-unfolding send_queuing_message with_answer with_written
-send_queuing_message_leaves caller = keeps caller (send_queuing_message caller) (on_port_keeps (made_port kind.Queuing caller) caller _ (λ port. tested_keeps (source_only port ∷ size_fits port (c_of caller) ∷ text caller (b_of caller) (c_of caller) ∷ refused_if (is_full port) not_available ∷ []) caller (putting caller port) refl))
-
-receive_queuing_message_leaves : (caller : Caller) → Leaves caller (receive_queuing_message caller)
-unfolding receive_queuing_message with_answer with_written
-receive_queuing_message_leaves caller = keeps caller (receive_queuing_message caller) (on_port_keeps (made_port kind.Queuing caller) caller _ (λ port. let first = first_keeps (first_message port.content) caller port in grind (arith, first)))
-
-get_queuing_port_status_leaves : (caller : Caller) → Leaves caller (get_queuing_port_status caller)
-unfolding get_queuing_port_status with_answer with_written
-get_queuing_port_status_leaves caller = keeps caller (get_queuing_port_status caller) (on_port_keeps (made_port kind.Queuing caller) caller _ (λ port. tested_keeps (room caller (b_of caller) 8 ∷ []) caller (answering 0 (with_written (b_of caller) (queuing_status port.shape.kind port.content) caller.state)) refl))
-
-trace_event_leaves : (caller : Caller) → Leaves caller (trace_event caller)
-unfolding trace_event with_answer with_written
-trace_event_leaves caller = tested_leaves (text caller (b_of caller) 8 ∷ refused_if (bit_and (a_of caller) caller.view.part.trace_mask == 0) no_action ∷ []) caller (tracing caller) (trace_leaves caller)
-
-trace_read_leaves : (caller : Caller) → Leaves caller (trace_read caller)
-unfolding trace_read with_answer with_written
-trace_read_leaves caller = keeps caller (trace_read caller) (grind (arith))
-
-trace_status_leaves : (caller : Caller) → Leaves caller (trace_status caller)
-unfolding trace_status with_answer with_written
-trace_status_leaves caller = keeps caller (trace_status caller) (grind (arith))
-
-raise_event_leaves : (caller : Caller) → Leaves caller (raise_event caller)
-unfolding raise_event with_answer with_written
-raise_event_leaves caller = keeps caller (raise_event caller) (refl)
-
-hm_read_leaves : (caller : Caller) → Leaves caller (hm_read caller)
-unfolding hm_read with_answer with_written
-hm_read_leaves caller = keeps caller (hm_read caller) (grind (arith))
-
-hm_status_leaves : (caller : Caller) → Leaves caller (hm_status caller)
-unfolding hm_status with_answer with_written
-hm_status_leaves caller = keeps caller (hm_status caller) (grind (arith))
-
-set_irqmask_leaves : (caller : Caller) → Leaves caller (set_irqmask caller)
-unfolding set_irqmask with_answer with_written
-set_irqmask_leaves caller = keeps caller (set_irqmask caller) (refl)
-
-clear_irqmask_leaves : (caller : Caller) → Leaves caller (clear_irqmask caller)
-unfolding clear_irqmask with_answer with_written
-clear_irqmask_leaves caller = keeps caller (clear_irqmask caller) (refl)
-
-write_console_leaves : (caller : Caller) → Leaves caller (write_console caller)
-unfolding write_console with_answer with_written
-write_console_leaves caller = keeps caller (write_console caller) (grind (arith))
-
-read_input_leaves : (caller : Caller) → Leaves caller (read_input caller)
-unfolding read_input with_answer with_written
-read_input_leaves caller = input_leaves caller.state.inputs caller refl
-
-iret_leaves : (caller : Caller) → Leaves caller (iret caller)
-unfolding iret with_answer with_written
-iret_leaves caller = let r = returned (areas_of caller.view) caller.state.traps caller.state.core caller.state.memory in keeps caller (by_return r.answer r caller) (return_keeps r.answer r caller)
-
-set_psr_leaves : (caller : Caller) → Leaves caller (set_psr caller)
-unfolding set_psr with_answer with_written
-set_psr_leaves caller = keeps caller (set_psr caller) (refl)
-
-set_tbr_leaves : (caller : Caller) → Leaves caller (set_tbr caller)
-unfolding set_tbr with_answer with_written
-set_tbr_leaves caller = keeps caller (set_tbr caller) (refl)
-
-flush_regwin_leaves : (caller : Caller) → Leaves caller (flush_regwin caller)
-unfolding flush_regwin with_answer with_written
-flush_regwin_leaves caller = let moved = flushed 8 (areas_of caller.view) (move_made caller.state.core caller.state.memory) in let ps : PartitionState = record caller.state { core = moved.core; memory = moved.memory } in keeps caller (by_flush moved.answer ps caller) (flush_keeps moved.answer ps caller refl)
-
-raise_ipvi_leaves : (caller : Caller) → Leaves caller (raise_ipvi caller)
-unfolding raise_ipvi with_answer with_written
-raise_ipvi_leaves caller = keeps caller (raise_ipvi caller) (grind (arith))
-
--- the call with a number, or a later one
-choice_leaves : (caller : Caller) (b : Bool) (one other : Served) → Leaves caller one → Leaves caller other → Leaves caller (if b then one else other)
-choice_leaves caller true one other leaves further = leaves
-choice_leaves caller false one other leaves further = further
+-- what each effect leaves
+effect_leaves : (effect : Effect) (caller : Caller) → Leaves caller (comes_to effect caller)
+unfolding with_answer with_written
+effect_leaves (GivesAnswer value writings) caller = keeps caller (comes_to (GivesAnswer value writings) caller) (writings_keep writings caller.state)
+effect_leaves (PrintsBytes bytes value) caller = keeps caller (comes_to (PrintsBytes bytes value) caller) refl
+effect_leaves (GivesOrder id order) caller = keeps caller (comes_to (GivesOrder id order) caller) refl
+effect_leaves (DoesToAll event) caller = keeps caller (comes_to (DoesToAll event) caller) refl
+effect_leaves (RequestsPlan plan writings) caller = keeps caller (comes_to (RequestsPlan plan writings) caller) (writings_keep writings caller.state)
+effect_leaves (PutsBytes the_kind address size) caller = keeps caller (comes_to (PutsBytes the_kind address size) caller) (on_port_keeps (made_port the_kind caller) caller _ (λ port.
+    tested_keeps (source_only port ∷ size_fits port size ∷ text caller address size ∷ queue_room the_kind port) caller (putting_bytes address size caller port) refl))
+effect_leaves TakesMessage caller = keeps caller (comes_to TakesMessage caller) (on_port_keeps (made_port kind.Queuing caller) caller _ (λ port.
+    tested_keeps (destination_only port ∷ []) caller _ (first_keeps (first_message port.content) caller port)))
+effect_leaves (SendsSignal number) caller = keeps caller (comes_to (SendsSignal number) caller) refl
+effect_leaves ShowsSample caller = keeps caller (comes_to ShowsSample caller) (on_port_keeps (made_port kind.Sampling caller) caller _ (λ port.
+    tested_keeps (destination_only port ∷ []) caller _ (held_keeps (sample_of port.content) caller port)))
+effect_leaves (ShowsPort the_kind size status) caller = keeps caller (comes_to (ShowsPort the_kind size status) caller) (on_port_keeps (made_port the_kind caller) caller _ (λ port.
+    tested_keeps (room caller (b_of caller) size ∷ []) caller (answering 0 (with_written (b_of caller) (status port) caller.state)) refl))
+effect_leaves (CreatesPort the_kind way size most name) caller = creating_leaves the_kind way size most name caller
+effect_leaves (ChangesOwn change) caller = keeps caller (comes_to (ChangesOwn change) caller) (change_keeps change caller.state)
+effect_leaves EntersTrace caller = trace_leaves caller
+effect_leaves UsesInput caller = input_leaves caller.state.inputs caller refl
+effect_leaves (MeetsEvent event word) caller = keeps caller (comes_to (MeetsEvent event word) caller) refl
+effect_leaves GoesBack caller =
+    let r = returned (areas_of caller.view) caller.state.traps caller.state.core caller.state.memory in
+    keeps caller (comes_to GoesBack caller) (return_keeps r.answer r caller)
+effect_leaves SpillsWindows caller =
+    let moved = flushed 8 (areas_of caller.view) (move_made caller.state.core caller.state.memory) in
+    keeps caller (comes_to SpillsWindows caller) (flush_keeps moved.answer (record caller.state { core = moved.core; memory = moved.memory }) caller refl)
 
 served_leaves : (caller : Caller) → Leaves caller (served caller)
-unfolding served with_answer
+unfolding with_answer
 served_leaves caller =
-    choice_leaves caller (number_of caller == 1) _ _ (get_self_leaves caller)
-    (choice_leaves caller (number_of caller == 2) _ _ (halt_partition_leaves caller)
-    (choice_leaves caller (number_of caller == 3) _ _ (reset_partition_leaves caller)
-    (choice_leaves caller (number_of caller == 4) _ _ (suspend_partition_leaves caller)
-    (choice_leaves caller (number_of caller == 5) _ _ (resume_partition_leaves caller)
-    (choice_leaves caller (number_of caller == 6) _ _ (shutdown_partition_leaves caller)
-    (choice_leaves caller (number_of caller == 7) _ _ (idle_self_leaves caller)
-    (choice_leaves caller (number_of caller == 8) _ _ (get_partition_status_leaves caller)
-    (choice_leaves caller (number_of caller == 9) _ _ (halt_system_leaves caller)
-    (choice_leaves caller (number_of caller == 10) _ _ (reset_system_leaves caller)
-    (choice_leaves caller (number_of caller == 11) _ _ (get_system_status_leaves caller)
-    (choice_leaves caller (number_of caller == 12) _ _ (get_time_leaves caller)
-    (choice_leaves caller (number_of caller == 13) _ _ (set_timer_leaves caller)
-    (choice_leaves caller (number_of caller == 14) _ _ (switch_sched_plan_leaves caller)
-    (choice_leaves caller (number_of caller == 15) _ _ (get_plan_status_leaves caller)
-    (choice_leaves caller (number_of caller == 16) _ _ (create_sampling_port_leaves caller)
-    (choice_leaves caller (number_of caller == 17) _ _ (write_sampling_message_leaves caller)
-    (choice_leaves caller (number_of caller == 18) _ _ (read_sampling_message_leaves caller)
-    (choice_leaves caller (number_of caller == 19) _ _ (get_sampling_port_status_leaves caller)
-    (choice_leaves caller (number_of caller == 20) _ _ (create_queuing_port_leaves caller)
-    (choice_leaves caller (number_of caller == 21) _ _ (send_queuing_message_leaves caller)
-    (choice_leaves caller (number_of caller == 22) _ _ (receive_queuing_message_leaves caller)
-    (choice_leaves caller (number_of caller == 23) _ _ (get_queuing_port_status_leaves caller)
-    (choice_leaves caller (number_of caller == 24) _ _ (trace_event_leaves caller)
-    (choice_leaves caller (number_of caller == 25) _ _ (trace_read_leaves caller)
-    (choice_leaves caller (number_of caller == 26) _ _ (trace_status_leaves caller)
-    (choice_leaves caller (number_of caller == 27) _ _ (raise_event_leaves caller)
-    (choice_leaves caller (number_of caller == 28) _ _ (hm_read_leaves caller)
-    (choice_leaves caller (number_of caller == 29) _ _ (hm_status_leaves caller)
-    (choice_leaves caller (number_of caller == 30) _ _ (set_irqmask_leaves caller)
-    (choice_leaves caller (number_of caller == 31) _ _ (clear_irqmask_leaves caller)
-    (choice_leaves caller (number_of caller == 32) _ _ (write_console_leaves caller)
-    (choice_leaves caller (number_of caller == 33) _ _ (read_input_leaves caller)
-    (choice_leaves caller (number_of caller == 34) _ _ (iret_leaves caller)
-    (choice_leaves caller (number_of caller == 35) _ _ (set_psr_leaves caller)
-    (choice_leaves caller (number_of caller == 36) _ _ (set_tbr_leaves caller)
-    (choice_leaves caller (number_of caller == 37) _ _ (flush_regwin_leaves caller)
-    (choice_leaves caller (number_of caller == 38) _ _ (raise_ipvi_leaves caller)
-    (keeps caller _ refl))))))))))))))))))))))))))))))))))))))
+    every_effect caller (Leaves caller) (λ asked. tested_leaves (right_tests asked.effect caller ++ asked.tests) caller (comes_to asked.effect caller) (effect_leaves asked.effect caller))
+    (keeps caller (answering unknown_call caller.state) refl)
 
 -- a call goes on so
 pub served_goes : (caller : Caller) → Goes caller.view 1 0 0 caller.state (served caller).after

@@ -12,6 +12,9 @@ pub mod LinkCalls
 pub mod LogCalls
 pub mod ProcessorCalls
 pub mod Hypercalls
+pub mod Effects
+pub mod Calls
+pub mod CallLemmas
 pub mod LocalTick
 pub mod Traffic
 pub mod LinkLemmas
