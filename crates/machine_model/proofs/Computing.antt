@@ -34,7 +34,8 @@ use Rattle.machine_model.specs.Machine.{after, after_tick, channel_after, copies
 use Rattle.machine_model.specs.Observed.{asked_by, asks}
 use Rattle.machine_model.specs.Partition.{areas_of, disarmed, execution_looked_at, hardware_looked_at, loaded_memory, ordered, ordered_told, reset, rested}
 use Rattle.machine_model.specs.PartitionCalls.{get_partition_status, get_self, get_system_status, halt_partition, halt_system, idle_self, reset_partition, reset_system, resume_partition, shutdown_partition, suspend_partition}
-use Rattle.machine_model.specs.PortCalls.{create_queuing_port, create_sampling_port, get_queuing_port_status, get_sampling_port_status, made_port, read_sampling_message, receive_queuing_message, send_queuing_message, write_sampling_message}
+use Rattle.machine_model.specs.PortCalls.{create_queuing_port, create_sampling_port, get_queuing_port_status, get_sampling_port_status, read_sampling_message, receive_queuing_message, send_queuing_message, write_sampling_message}
+use Rattle.machine_model.specs.PortEffects.{made_port}
 use Rattle.machine_model.specs.ProcessorCalls.{clear_irqmask, flush_regwin, iret, read_input, set_irqmask, set_psr, set_tbr, write_console}
 use Rattle.machine_model.specs.Structures.{counts_bytes, health_bytes, partition_status, plan_status, queuing_status, sampling_status, system_status, trace_bytes}
 use Rattle.machine_model.specs.TimeCalls.{get_plan_status, get_time, set_timer, switch_sched_plan}

@@ -10,7 +10,7 @@ use Rattle.machine_model.specs.Caller.{Caller, Served, a_of}
 use Rattle.machine_model.specs.Hypercalls.{served}
 use Rattle.machine_model.specs.Partition.{areas_of}
 use Rattle.machine_model.specs.PortCallRows.{NamedComesTo, PortCallRows}
-use Rattle.machine_model.specs.PortCalls.{creating, name_at}
+use Rattle.machine_model.specs.PortEffects.{creating, name_at}
 use Rattle.machine_model.proofs.Computing.{computing}
 
 -- a name by the bytes that are known from an address on

@@ -14,7 +14,6 @@ use Rattle.virt_traps.specs.declared.delivery.IretFault.{IretFault}
 use Rattle.virt_traps.specs.declared.delivery.IretFault.TheVariants.{Stack, Unaligned}
 use Rattle.virt_traps.specs.declared.windows.StackFault.{StackFault}
 use Rattle.xm_base.specs.declared.partition.Order.{Order}
-use Rattle.xm_base.specs.declared.partition.Order.TheVariants as order
 use Rattle.xm_base.specs.declared.partition.State.TheVariants.{Ready}
 use Rattle.xm_conf.specs.Configuration.{Chan, Conf}
 use Rattle.xm_conf.specs.View.{channel_of}
@@ -37,12 +36,12 @@ use Rattle.machine_model.specs.Effects.{ChangesOwn, CreatesPort, DoesToAll, Effe
 use Rattle.machine_model.specs.Health.{answered_by, by_interrupt, done_to_all, event_handled, interrupt_delivered, quiet, self_ordered, undelivered}
 use Rattle.machine_model.specs.Hypercalls.{served}
 use Rattle.machine_model.specs.Laws.{ActsWithinBounds}
-use Rattle.machine_model.specs.OwnActs.{ActsWithinOwn, HasPortOn, HasPortRoom, IsPutting, IsWithinOwn}
+use Rattle.machine_model.specs.OwnActs.{ActsWithinOwn, AsksWithin, ComesWithin, EffectsActWithinOwn, HasPortOn, HasPortRoom, IsPutting, IsWithinOwn}
 use Rattle.machine_model.specs.Lists.{and_then, table}
 use Rattle.machine_model.specs.LocalTick.{bounded, by_act, by_turn, by_upshot, called, clocked, delivered_or_executed, executed_in_tick, goes_on, has_name, local_tick, turned_state, with_interrupts, worked, worked_if}
 use Rattle.machine_model.specs.Partition.{PartitionState, areas_of}
-use Rattle.machine_model.specs.PortCalls.{MadePort, by_created, creating, destination_only, first_read, held_read, is_full, is_source, made_port, on_port, shape_at, size_fits, source_only, with_channel, port_with_content}
-use Rattle.machine_model.specs.ProcessorCalls.{by_flush, by_return, flushed, input_read}
+use Rattle.machine_model.specs.PortEffects.{MadePort, by_created, creating, destination_only, first_read, held_read, is_full, is_source, made_port, on_port, shape_at, size_fits, source_only, with_channel, port_with_content}
+use Rattle.machine_model.specs.OwnEffects.{by_flush, by_return, flushed, input_read}
 use Rattle.machine_model.specs.Told as told
 use Rattle.machine_model.specs.Told.{Act, OwnPuts, OwnSignals, OwnStill, OwnTakes, Sight}
 use Rattle.machine_model.specs.View.{PartitionView, PortChannel, System, has_number, name_of, part_of, port_channel, view_of, with_its_name, with_name}
@@ -107,18 +106,6 @@ same_room kind.Queuing kind.Queuing of content is has_room = has_room
 -- a queue that is not full has room
 not_full : (port : MadePort) → is_full port ≡ false → HasPortRoom kind.Queuing port.shape.kind port.content
 not_full port free = grind (arith, nat_tests)
-
--- what a call asks for is within what its partition has; an order may be one on the partition itself
-abbrev AsksWithin : PartitionView → List (Option Content) → Act → Type 0
-AsksWithin view contents told.Nothing = Unit {0}
-AsksWithin view contents (told.Trades traffic) = IsWithinOwn view contents (told.Trades traffic)
-AsksWithin view contents (told.Upon id order) = (id == view.id) ≡ false → view.part.system ≡ true
-AsksWithin view contents (told.Plans change) = IsWithinOwn view contents (told.Plans change)
-AsksWithin view contents (told.UponAll event) = IsWithinOwn view contents (told.UponAll event)
-
-abbrev ComesWithin : PartitionView → List (Option Content) → Upshot → Type 0
-ComesWithin view contents (Acts act) = AsksWithin view contents act
-ComesWithin view contents (Meets event word) = Unit {0}
 
 -- a call that is refused acts on nothing
 tested_within : (view : PartitionView) (contents : List (Option Content)) (tests : List Test) (caller : Caller) (comes : Served) → ComesWithin view contents comes.upshot → ComesWithin view contents (tested tests caller comes).upshot
@@ -374,12 +361,15 @@ asked_within SpillsWindows tests caller =
     let moved = flushed 8 (areas_of caller.view) (move_made caller.state.core caller.state.memory) in
     tested_within caller.view caller.contents tests caller _ (flush_within caller.view caller.contents moved.answer (record caller.state { core = moved.core; memory = moved.memory }) caller)
 
+pub effects_act_within_own : EffectsActWithinOwn
+effects_act_within_own asked caller = asked_within asked.effect asked.tests caller
+
 -- so what any call comes to is within what its caller has
 record Stays (view : PartitionView) (contents : List (Option Content)) (comes : Served) : Type 0 where
   within : ComesWithin view contents comes.upshot
 
 served_stays : (caller : Caller) → Stays caller.view caller.contents (served caller)
-served_stays caller = every_effect caller (Stays caller.view caller.contents) (λ asked. record { within = asked_within asked.effect asked.tests caller }) (record { within = tt })
+served_stays caller = every_effect caller (Stays caller.view caller.contents) (λ asked. record { within = effects_act_within_own asked caller }) (record { within = tt })
 
 -- what a call does beyond its partition is within what the partition has
 act_within : (view : PartitionView) (contents : List (Option Content)) (act : Act) (ps : PartitionState) → AsksWithin view contents act → IsWithinOwn view contents (by_act act view ps).act

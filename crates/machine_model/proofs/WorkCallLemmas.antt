@@ -1,6 +1,6 @@
 -- What each call leaves of the facts.
 use Rattle.std.proofs.Common.{length, ◌++◌, ◌≡◌, ◌⊎◌, inl, inr, ℕ, zero, suc, ◌≤◌, ◌+◌, Bool, true, false, List, [], ◌∷◌, Option, None, Some, Result, Ok, Err, refl, sym, ap, arith, subst}
-use Rattle.std.specs.Prelude.{◌-◌, drop, slice_get, slice_index_or, if◌then◌else◌, ◌==◌, ◌&&◌, ◌||◌, IsSome}
+use Rattle.std.specs.Prelude.{◌-◌, drop, slice_get, slice_index_or, ◌&&◌, IsSome}
 use Rattle.std.proofs.lemmas.List.Elements.{All-append, All-cons, All-drop, All-nil}
 use Rattle.guest_bus.specs.MemoryLemmas.{length-bytes_at}
 use Rattle.health_monitor.specs.declared.entry.HealthEntry.{HealthEntry}
@@ -27,10 +27,10 @@ use Rattle.machine_model.specs.CallLemmas.{every_effect}
 use Rattle.machine_model.specs.Effects.{ArmsTimer, ChangesOwn, CreatesPort, DoesToAll, Effect, EntersTrace, GivesAnswer, GivesOrder, GoesBack, MeetsEvent, OwnChange, PrintsBytes, PutsBytes, RequestsPlan, SendsSignal, SetsBase, SetsCodes, SetsMask, ShowsPort, ShowsSample, SpillsWindows, TakesMessage, UsesInput, Waits, Writing, comes_to, putting_bytes, queue_room, right_tests, with_change, with_writings}
 use Rattle.machine_model.specs.Facts.{AreEnds, AreLast, HaveEight, IsChannelEnd}
 use Rattle.machine_model.specs.Hypercalls.{served}
-use Rattle.machine_model.specs.LogCalls.{trace_entry, tracing}
+use Rattle.machine_model.specs.OwnEffects.{trace_entry, tracing}
 use Rattle.machine_model.specs.Partition.{PartitionState, areas_of}
-use Rattle.machine_model.specs.PortCalls.{MadePort, by_created, creating, destination_only, first_read, held_read, made_port, on_port, shape_at, size_fits, source_only}
-use Rattle.machine_model.specs.ProcessorCalls.{by_flush, by_return, flushed, input_read}
+use Rattle.machine_model.specs.PortEffects.{MadePort, by_created, creating, destination_only, first_read, held_read, made_port, on_port, shape_at, size_fits, source_only}
+use Rattle.machine_model.specs.OwnEffects.{by_flush, by_return, flushed, input_read}
 use Rattle.machine_model.specs.Told as told
 use Rattle.machine_model.specs.View.{PartitionView, PortChannel}
 

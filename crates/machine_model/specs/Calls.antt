@@ -1,6 +1,6 @@
 -- The hypercalls: their numbers, and what each tests and does.
-use Rattle.std.specs.Prelude.{ℕ, ◌-◌, ◌/◌, ◌%◌, ◌^◌, ◌==◌, ◌||◌, nat_lt, bit_and, bit_or, if◌then◌else◌, List, [], ◌∷◌, Option, Some, None}
 use Rattle.std.specs.Int.{bit_at, bit_not, w32}
+use Rattle.std.specs.Prelude.{ℕ, if◌then◌else◌, ◌%◌, ◌-◌, ◌/◌, ◌==◌, ◌^◌, ◌||◌, ◌∷◌, List, None, Option, Some, [], bit_and, bit_or, nat_lt}
 use Rattle.virt_clocks.specs.Clocks.{armed}
 use Rattle.xm_base.specs.declared.limits.TheConstants.{CONSOLE_BYTES}
 use Rattle.xm_base.specs.declared.partition.Order.TheVariants as order
@@ -8,12 +8,10 @@ use Rattle.xm_conf.specs.declared.health.Event.TheVariants.{PartitionError}
 use Rattle.xm_conf.specs.declared.port.Kind.TheVariants as kind
 use Rattle.xm_traces.specs.Ring.{Kept}
 use Rattle.machine_model.specs.Caller.{Caller, Served, Test, a_of, answering, b_of, c_of, caller_bytes, d_of, e_of, invalid_mode, invalid_parameter, is_neither, mode_numbered, no_action, not_available, refused_if, room, shown, system_only, target, text, unknown_call}
-use Rattle.machine_model.specs.Effects.{ArmsTimer, ChangesOwn, CreatesPort, DoesToAll, Effect, EntersTrace, GivesAnswer, GivesOrder, GoesBack, MeetsEvent, PrintsBytes, PutsBytes, RequestsPlan, SendsSignal, SetsBase, SetsCodes, SetsMask, ShowsPort, ShowsSample, SpillsWindows, TakesMessage, TestedEffect, UsesInput, Waits, Writing, performed}
-use Rattle.machine_model.specs.LogCalls.{entry_seen, is_missing, log_counts}
-use Rattle.machine_model.specs.PartitionCalls.{status_seen}
-use Rattle.machine_model.specs.PortCalls.{name_given}
+use Rattle.machine_model.specs.Effects.{ArmsTimer, ChangesOwn, CreatesPort, DoesToAll, Effect, EntersTrace, GivesAnswer, GivesOrder, GoesBack, MeetsEvent, OwnChange, PrintsBytes, PutsBytes, RequestsPlan, SendsSignal, SetsBase, SetsCodes, SetsMask, ShowsPort, ShowsSample, SpillsWindows, TakesMessage, TestedEffect, UsesInput, Waits, Writing, performed}
+use Rattle.machine_model.specs.PortEffects.{name_given}
+use Rattle.machine_model.specs.Readings.{clock_numbered, clock_of, entry_seen, is_missing, is_negative, joined, log_counts, status_seen}
 use Rattle.machine_model.specs.Structures.{double, health_bytes, queuing_status, sampling_status, trace_bytes}
-use Rattle.machine_model.specs.TimeCalls.{clock_numbered, clock_of, is_negative, joined}
 use Rattle.machine_model.specs.Told.{AllHalted, AllReset}
 
 -- the hypercalls, in the order of their numbers
@@ -69,6 +67,10 @@ always effect = where_passed [] effect
 abbrev pub written_at : ℕ → List ℕ → List Writing
 written_at address bytes = record { address = address; bytes = bytes } ∷ []
 
+-- the timer of clock a is set, with the deadline b:c and the interval d:e
+abbrev pub timer_set : Caller → OwnChange
+timer_set caller = ArmsTimer (clock_numbered (a_of caller)) (armed (joined (b_of caller) (c_of caller)) (joined (d_of caller) (e_of caller)))
+
 -- an entry of so many bytes of a log, the caller's own or another's, is read to c
 abbrev pub entry_read : {T : Type 0} → ℕ → (T → List ℕ) → Kept T → Caller → TestedEffect
 entry_read size bytes kept caller =
@@ -106,7 +108,7 @@ effect_of_call GetTime caller =
     (GivesAnswer 0 (written_at (b_of caller) (double (clock_of (clock_numbered (a_of caller)) caller))))
 effect_of_call SetTimer caller =
     where_passed (refused_if (is_neither (a_of caller)) invalid_parameter ∷ refused_if (is_negative (b_of caller) || is_negative (d_of caller)) invalid_parameter ∷ [])
-    (ChangesOwn (ArmsTimer (clock_numbered (a_of caller)) (armed (joined (b_of caller) (c_of caller)) (joined (d_of caller) (e_of caller)))))
+    (ChangesOwn (timer_set caller))
 effect_of_call SwitchSchedPlan caller =
     where_passed (room caller (b_of caller) 4 ∷ [])
     (RequestsPlan (a_of caller) (written_at (b_of caller) (shown caller.sight)))

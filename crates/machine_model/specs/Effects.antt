@@ -1,5 +1,5 @@
 -- What hypercalls do, as values: seventeen effects, the tests that each makes by itself, and what each comes to.
-use Rattle.std.specs.Prelude.{ℕ, ◌==◌, Bool, ◌||◌, not, nat_lt, List, [], ◌∷◌, ◌++◌, Option}
+use Rattle.std.specs.Prelude.{ℕ, ◌++◌, ◌==◌, ◌||◌, ◌∷◌, Bool, not, List, Option, [], nat_lt}
 use Rattle.sparc_step.specs.Registers.{with_icc}
 use Rattle.virt_clocks.specs.Clocks.{with_timer}
 use Rattle.virt_clocks.specs.declared.timer.Clock.{Clock}
@@ -9,14 +9,13 @@ use Rattle.virt_traps.specs.Moves.{move_made}
 use Rattle.xm_base.specs.declared.partition.Order.{Order}
 use Rattle.xm_base.specs.declared.partition.State.TheVariants.{Idle}
 use Rattle.xm_conf.specs.declared.health.Event.{Event}
-use Rattle.xm_conf.specs.declared.port.Kind.{Kind}
 use Rattle.xm_conf.specs.declared.port.Kind.TheVariants as kind
+use Rattle.xm_conf.specs.declared.port.Kind.{Kind}
 use Rattle.xm_ports.specs.Channels.{first_message, sample_of}
 use Rattle.machine_model.specs.Caller.{Caller, Meets, Served, Test, acting, answering, caller_bytes, invalid_parameter, not_available, refused_if, system_only, target, tested, text, with_answer, with_written}
-use Rattle.machine_model.specs.LogCalls.{tracing}
+use Rattle.machine_model.specs.OwnEffects.{by_flush, by_return, flushed, input_read, printed, tracing, with_mask}
 use Rattle.machine_model.specs.Partition.{PartitionState, areas_of}
-use Rattle.machine_model.specs.PortCalls.{MadePort, creating, first_read, held_read, is_full, made_port, on_port, reading_from, size_fits, source_only, telling_of}
-use Rattle.machine_model.specs.ProcessorCalls.{by_flush, by_return, flushed, input_read, printed, with_mask}
+use Rattle.machine_model.specs.PortEffects.{MadePort, creating, first_read, held_read, is_full, made_port, on_port, reading_from, size_fits, source_only, telling_of}
 use Rattle.machine_model.specs.Told.{Asked, OwnPuts, OwnSignals, Plans, Trades, Upon, UponAll, WholeEvent}
 use Rattle.machine_model.specs.View.{has_number}
 

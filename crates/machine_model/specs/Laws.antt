@@ -6,7 +6,8 @@ use Rattle.sparc_step.specs.Registers.{Registers}
 use Rattle.xm_ports.specs.Channels.{Content}
 use Rattle.xm_traces.specs.Ring.{entry_at}
 use Rattle.machine_model.specs.Alone.{Alone, alone_from, alone_lines, alone_said, alone_start, alone_step, alone_step_lines, alone_step_said}
-use Rattle.machine_model.specs.Caller.{Caller, answering, invalid_parameter, is_not_kept, is_room, shown, with_answer, with_written}
+use Rattle.machine_model.specs.Caller.{Caller, answering, invalid_parameter, is_not_kept, is_room, number_of, shown, with_answer, with_written}
+use Rattle.machine_model.specs.Calls.{Call, by_call, call_of, number_of_call}
 use Rattle.machine_model.specs.CoreFile.{core_file}
 use Rattle.machine_model.specs.Cue.{cue, script}
 use Rattle.machine_model.specs.Hypercalls.{served}
@@ -140,3 +141,11 @@ EarlierScripts = (one other : Machine) (p q count fewer : ℕ) → fewer ≤ cou
 -- so a partition that is told the same in two runs is the same after each tick of them
 abbrev pub TwoRunsEarlier : Type 0
 TwoRunsEarlier = (one other : System) (p count fewer : ℕ) → fewer ≤ count → AreAlike one other p count → AreEqual one other p fewer
+
+-- each call has its own number, of which it is the call
+abbrev pub HasOwnNumber : Type 0
+HasOwnNumber = (call : Call) → call_of (number_of_call call) ≡ Some call
+
+-- what a partition's call comes to is what the call of its number tests and does
+abbrev pub ServesByNumber : Type 0
+ServesByNumber = (caller : Caller) → served caller ≡ by_call (call_of (number_of caller)) caller

@@ -5,6 +5,11 @@ pub mod Partition
 pub mod Health
 pub mod Caller
 pub mod Structures
+pub mod PortEffects
+pub mod OwnEffects
+pub mod Effects
+pub mod Readings
+pub mod Calls
 pub mod PartitionCalls
 pub mod TimeCalls
 pub mod PortCalls
@@ -12,8 +17,6 @@ pub mod LinkCalls
 pub mod LogCalls
 pub mod ProcessorCalls
 pub mod Hypercalls
-pub mod Effects
-pub mod Calls
 pub mod CallLemmas
 pub mod LocalTick
 pub mod Traffic

@@ -10,6 +10,8 @@ use Rattle.xm_conf.specs.declared.port.Port.{Port}
 use Rattle.xm_conf.specs.declared.port.Way.{Way}
 use Rattle.xm_conf.specs.declared.port.Way.TheVariants as way
 use Rattle.xm_ports.specs.Channels.{Content, IsMessage, first_message, messages_of, most_of}
+use Rattle.machine_model.specs.Caller.{Acts, Caller, Meets, Upshot}
+use Rattle.machine_model.specs.Effects.{TestedEffect, performed}
 use Rattle.machine_model.specs.Health.{done_to_all}
 use Rattle.machine_model.specs.LocalTick.{worked}
 use Rattle.machine_model.specs.Partition.{PartitionState}
@@ -71,6 +73,23 @@ IsWithinOwn view contents (told.Upon id order) = ((id == view.id) ≡ false) × 
 IsWithinOwn view contents (told.Plans (Asked plan)) = (nat_lt plan view.sees.plans ≡ true) × (view.part.system ≡ true)
 IsWithinOwn view contents (told.Plans Maintenance) = HasMaintenance view
 IsWithinOwn view contents (told.UponAll event) = (view.part.system ≡ true) ⊎ HasActionUpon view event
+
+-- what a call asks for is within what its partition has; an order may be one on the partition itself
+abbrev pub AsksWithin : PartitionView → List (Option Content) → Act → Type 0
+AsksWithin view contents told.Nothing = Unit {0}
+AsksWithin view contents (told.Trades traffic) = IsWithinOwn view contents (told.Trades traffic)
+AsksWithin view contents (told.Upon id order) = (id == view.id) ≡ false → view.part.system ≡ true
+AsksWithin view contents (told.Plans change) = IsWithinOwn view contents (told.Plans change)
+AsksWithin view contents (told.UponAll event) = IsWithinOwn view contents (told.UponAll event)
+
+-- and so is what it comes to; a health event that it meets is answered by the partition's own table
+abbrev pub ComesWithin : PartitionView → List (Option Content) → Upshot → Type 0
+ComesWithin view contents (Acts act) = AsksWithin view contents act
+ComesWithin view contents (Meets event word) = Unit {0}
+
+-- whatever tests a call makes before, each effect comes to what is within what the caller has: of these 38 calls, and of any further one
+abbrev pub EffectsActWithinOwn : Type 0
+EffectsActWithinOwn = (asked : TestedEffect) (caller : Caller) → ComesWithin caller.view caller.contents (performed asked caller).upshot
 
 -- whatever a partition executes, its act is within what it has
 abbrev pub ActsWithinOwn : Type 0

@@ -8,6 +8,7 @@ ghost use Rattle.machine_model.specs.Laws.{
   AllTicks,
   BootsAlone,
   EarlierScripts,
+  HasOwnNumber,
   HasOwnTag,
   LastCue,
   NeverUponItself,
@@ -17,11 +18,12 @@ ghost use Rattle.machine_model.specs.Laws.{
   OwnLines,
   SameCoreFile,
   SeesNothing,
+  ServesByNumber,
   ShowsItsSize,
   TwoRuns,
   TwoRunsEarlier,
 };
-ghost use Rattle.machine_model.specs.OwnActs.{ActsWithinOwn};
+ghost use Rattle.machine_model.specs.OwnActs.{ActsWithinOwn, EffectsActWithinOwn};
 
 /// One tick of a machine that has not halted is, for each partition, one tick of that partition
 /// alone under its cue: its state, its lines and its console bytes.
@@ -85,6 +87,18 @@ pub fn observes_as_tested()
 pub fn acts_within_bounds()
     ensures law { ActsWithinBounds }
     ensures own { ActsWithinOwn }
+{}
+
+/// Each call has its own number, and what a partition's call comes to is what the call of its number
+/// tests and does.
+pub fn serves_by_number()
+    ensures numbers { HasOwnNumber }
+    ensures serves { ServesByNumber }
+{}
+
+/// Each effect comes to what is within what its partition has, whatever tests its call makes before.
+pub fn effects_act_within_own()
+    ensures law { EffectsActWithinOwn }
 {}
 
 /// The core file of a partition after a run is that of the partition alone under its script.

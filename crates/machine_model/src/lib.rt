@@ -10,10 +10,10 @@ pub use calls::{
     processor_calls, reaching_others, time_calls,
 };
 pub use law::{
-    acts_within_bounds, all_ticks, boots_alone, earlier_ticks, has_own_tag, keeps_facts,
-    keeps_facts_alone, keeps_hardware_clock, keeps_numbers, keeps_plans, keeps_shapes,
+    acts_within_bounds, all_ticks, boots_alone, earlier_ticks, effects_act_within_own, has_own_tag,
+    keeps_facts, keeps_facts_alone, keeps_hardware_clock, keeps_numbers, keeps_plans, keeps_shapes,
     never_upon_itself, observes_as_tested, one_tick, own_lines, same_core_file, scripts_end,
-    sees_nothing, tells_few_bytes, told_as_allowed, two_runs,
+    sees_nothing, serves_by_number, tells_few_bytes, told_as_allowed, two_runs,
 };
 pub use rows::{
     asks_for_plans, halts_at_faults, holds_words, keeps_time, meets_illegal, observes_another,
