@@ -54,136 +54,54 @@ number_is_call SetTbr = refl
 number_is_call FlushRegwin = refl
 number_is_call RaiseIpvi = refl
 
--- the call as it is defined is its effect, performed
-abbrev pub call_served : Call → Caller → Served
-call_served GetSelf caller = get_self caller
-call_served HaltPartition caller = halt_partition caller
-call_served ResetPartition caller = reset_partition caller
-call_served SuspendPartition caller = suspend_partition caller
-call_served ResumePartition caller = resume_partition caller
-call_served ShutdownPartition caller = shutdown_partition caller
-call_served IdleSelf caller = idle_self caller
-call_served GetPartitionStatus caller = get_partition_status caller
-call_served HaltSystem caller = halt_system caller
-call_served ResetSystem caller = reset_system caller
-call_served GetSystemStatus caller = get_system_status caller
-call_served GetTime caller = get_time caller
-call_served SetTimer caller = set_timer caller
-call_served SwitchSchedPlan caller = switch_sched_plan caller
-call_served GetPlanStatus caller = get_plan_status caller
-call_served CreateSamplingPort caller = create_sampling_port caller
-call_served WriteSamplingMessage caller = write_sampling_message caller
-call_served ReadSamplingMessage caller = read_sampling_message caller
-call_served GetSamplingPortStatus caller = get_sampling_port_status caller
-call_served CreateQueuingPort caller = create_queuing_port caller
-call_served SendQueuingMessage caller = send_queuing_message caller
-call_served ReceiveQueuingMessage caller = receive_queuing_message caller
-call_served GetQueuingPortStatus caller = get_queuing_port_status caller
-call_served TraceEvent caller = trace_event caller
-call_served TraceRead caller = trace_read caller
-call_served TraceStatus caller = trace_status caller
-call_served RaiseEvent caller = raise_event caller
-call_served HmRead caller = hm_read caller
-call_served HmStatus caller = hm_status caller
-call_served SetIrqmask caller = set_irqmask caller
-call_served ClearIrqmask caller = clear_irqmask caller
-call_served WriteConsole caller = write_console caller
-call_served ReadInput caller = read_input caller
-call_served Iret caller = iret caller
-call_served SetPsr caller = set_psr caller
-call_served SetTbr caller = set_tbr caller
-call_served FlushRegwin caller = flush_regwin caller
-call_served RaiseIpvi caller = raise_ipvi caller
-
-pub call_is_effect : (call : Call) (caller : Caller) → performed (effect_of_call call caller) caller ≡ call_served call caller
-unfolding get_self halt_partition reset_partition suspend_partition resume_partition shutdown_partition idle_self get_partition_status halt_system reset_system get_system_status get_time set_timer switch_sched_plan get_plan_status create_sampling_port write_sampling_message read_sampling_message get_sampling_port_status create_queuing_port send_queuing_message receive_queuing_message get_queuing_port_status trace_event trace_read trace_status raise_event hm_read hm_status set_irqmask clear_irqmask write_console read_input iret set_psr set_tbr flush_regwin raise_ipvi
-call_is_effect GetSelf caller = refl
-call_is_effect HaltPartition caller = refl
-call_is_effect ResetPartition caller = refl
-call_is_effect SuspendPartition caller = refl
-call_is_effect ResumePartition caller = refl
-call_is_effect ShutdownPartition caller = refl
-call_is_effect IdleSelf caller = refl
-call_is_effect GetPartitionStatus caller = refl
-call_is_effect HaltSystem caller = refl
-call_is_effect ResetSystem caller = refl
-call_is_effect GetSystemStatus caller = refl
-call_is_effect GetTime caller = refl
-call_is_effect SetTimer caller = refl
-call_is_effect SwitchSchedPlan caller = refl
-call_is_effect GetPlanStatus caller = refl
-call_is_effect CreateSamplingPort caller = refl
-call_is_effect WriteSamplingMessage caller = refl
-call_is_effect ReadSamplingMessage caller = refl
-call_is_effect GetSamplingPortStatus caller = refl
-call_is_effect CreateQueuingPort caller = refl
-call_is_effect SendQueuingMessage caller = refl
-call_is_effect ReceiveQueuingMessage caller = refl
-call_is_effect GetQueuingPortStatus caller = refl
-call_is_effect TraceEvent caller = refl
-call_is_effect TraceRead caller = refl
-call_is_effect TraceStatus caller = refl
-call_is_effect RaiseEvent caller = refl
-call_is_effect HmRead caller = refl
-call_is_effect HmStatus caller = refl
-call_is_effect SetIrqmask caller = refl
-call_is_effect ClearIrqmask caller = refl
-call_is_effect WriteConsole caller = refl
-call_is_effect ReadInput caller = refl
-call_is_effect Iret caller = refl
-call_is_effect SetPsr caller = refl
-call_is_effect SetTbr caller = refl
-call_is_effect FlushRegwin caller = refl
-call_is_effect RaiseIpvi caller = refl
-
 -- the call with a number, or a later one
-choice : (caller : Caller) (b : Bool) (call : Call) (more : Option Call) (other : Served) → by_call more caller ≡ other
-    → by_call (if b then Some call else more) caller ≡ (if b then call_served call caller else other)
-choice caller true call more other further = call_is_effect call caller
-choice caller false call more other further = further
+choice : (caller : Caller) (b : Bool) (call : Call) (more : Option Call) (one other : Served) → performed (effect_of_call call caller) caller ≡ one → by_call more caller ≡ other
+    → by_call (if b then Some call else more) caller ≡ (if b then one else other)
+choice caller true call more one other same further = same
+choice caller false call more one other same further = further
 
 -- what a partition's call comes to is what the call of its number does
 pub served_is_effect : (caller : Caller) → by_call (call_of (number_of caller)) caller ≡ served caller
-unfolding call_of served
+unfolding call_of served get_self halt_partition reset_partition suspend_partition resume_partition shutdown_partition idle_self get_partition_status halt_system reset_system get_system_status get_time set_timer switch_sched_plan get_plan_status create_sampling_port write_sampling_message read_sampling_message get_sampling_port_status create_queuing_port send_queuing_message receive_queuing_message get_queuing_port_status trace_event trace_read trace_status raise_event hm_read hm_status set_irqmask clear_irqmask write_console read_input iret set_psr set_tbr flush_regwin raise_ipvi
 served_is_effect caller =
-    choice caller (number_of caller == 1) GetSelf _ _
-    (choice caller (number_of caller == 2) HaltPartition _ _
-    (choice caller (number_of caller == 3) ResetPartition _ _
-    (choice caller (number_of caller == 4) SuspendPartition _ _
-    (choice caller (number_of caller == 5) ResumePartition _ _
-    (choice caller (number_of caller == 6) ShutdownPartition _ _
-    (choice caller (number_of caller == 7) IdleSelf _ _
-    (choice caller (number_of caller == 8) GetPartitionStatus _ _
-    (choice caller (number_of caller == 9) HaltSystem _ _
-    (choice caller (number_of caller == 10) ResetSystem _ _
-    (choice caller (number_of caller == 11) GetSystemStatus _ _
-    (choice caller (number_of caller == 12) GetTime _ _
-    (choice caller (number_of caller == 13) SetTimer _ _
-    (choice caller (number_of caller == 14) SwitchSchedPlan _ _
-    (choice caller (number_of caller == 15) GetPlanStatus _ _
-    (choice caller (number_of caller == 16) CreateSamplingPort _ _
-    (choice caller (number_of caller == 17) WriteSamplingMessage _ _
-    (choice caller (number_of caller == 18) ReadSamplingMessage _ _
-    (choice caller (number_of caller == 19) GetSamplingPortStatus _ _
-    (choice caller (number_of caller == 20) CreateQueuingPort _ _
-    (choice caller (number_of caller == 21) SendQueuingMessage _ _
-    (choice caller (number_of caller == 22) ReceiveQueuingMessage _ _
-    (choice caller (number_of caller == 23) GetQueuingPortStatus _ _
-    (choice caller (number_of caller == 24) TraceEvent _ _
-    (choice caller (number_of caller == 25) TraceRead _ _
-    (choice caller (number_of caller == 26) TraceStatus _ _
-    (choice caller (number_of caller == 27) RaiseEvent _ _
-    (choice caller (number_of caller == 28) HmRead _ _
-    (choice caller (number_of caller == 29) HmStatus _ _
-    (choice caller (number_of caller == 30) SetIrqmask _ _
-    (choice caller (number_of caller == 31) ClearIrqmask _ _
-    (choice caller (number_of caller == 32) WriteConsole _ _
-    (choice caller (number_of caller == 33) ReadInput _ _
-    (choice caller (number_of caller == 34) Iret _ _
-    (choice caller (number_of caller == 35) SetPsr _ _
-    (choice caller (number_of caller == 36) SetTbr _ _
-    (choice caller (number_of caller == 37) FlushRegwin _ _
-    (choice caller (number_of caller == 38) RaiseIpvi _ _
+    choice caller (number_of caller == 1) GetSelf _ _ _ refl
+    (choice caller (number_of caller == 2) HaltPartition _ _ _ refl
+    (choice caller (number_of caller == 3) ResetPartition _ _ _ refl
+    (choice caller (number_of caller == 4) SuspendPartition _ _ _ refl
+    (choice caller (number_of caller == 5) ResumePartition _ _ _ refl
+    (choice caller (number_of caller == 6) ShutdownPartition _ _ _ refl
+    (choice caller (number_of caller == 7) IdleSelf _ _ _ refl
+    (choice caller (number_of caller == 8) GetPartitionStatus _ _ _ refl
+    (choice caller (number_of caller == 9) HaltSystem _ _ _ refl
+    (choice caller (number_of caller == 10) ResetSystem _ _ _ refl
+    (choice caller (number_of caller == 11) GetSystemStatus _ _ _ refl
+    (choice caller (number_of caller == 12) GetTime _ _ _ refl
+    (choice caller (number_of caller == 13) SetTimer _ _ _ refl
+    (choice caller (number_of caller == 14) SwitchSchedPlan _ _ _ refl
+    (choice caller (number_of caller == 15) GetPlanStatus _ _ _ refl
+    (choice caller (number_of caller == 16) CreateSamplingPort _ _ _ refl
+    (choice caller (number_of caller == 17) WriteSamplingMessage _ _ _ refl
+    (choice caller (number_of caller == 18) ReadSamplingMessage _ _ _ refl
+    (choice caller (number_of caller == 19) GetSamplingPortStatus _ _ _ refl
+    (choice caller (number_of caller == 20) CreateQueuingPort _ _ _ refl
+    (choice caller (number_of caller == 21) SendQueuingMessage _ _ _ refl
+    (choice caller (number_of caller == 22) ReceiveQueuingMessage _ _ _ refl
+    (choice caller (number_of caller == 23) GetQueuingPortStatus _ _ _ refl
+    (choice caller (number_of caller == 24) TraceEvent _ _ _ refl
+    (choice caller (number_of caller == 25) TraceRead _ _ _ refl
+    (choice caller (number_of caller == 26) TraceStatus _ _ _ refl
+    (choice caller (number_of caller == 27) RaiseEvent _ _ _ refl
+    (choice caller (number_of caller == 28) HmRead _ _ _ refl
+    (choice caller (number_of caller == 29) HmStatus _ _ _ refl
+    (choice caller (number_of caller == 30) SetIrqmask _ _ _ refl
+    (choice caller (number_of caller == 31) ClearIrqmask _ _ _ refl
+    (choice caller (number_of caller == 32) WriteConsole _ _ _ refl
+    (choice caller (number_of caller == 33) ReadInput _ _ _ refl
+    (choice caller (number_of caller == 34) Iret _ _ _ refl
+    (choice caller (number_of caller == 35) SetPsr _ _ _ refl
+    (choice caller (number_of caller == 36) SetTbr _ _ _ refl
+    (choice caller (number_of caller == 37) FlushRegwin _ _ _ refl
+    (choice caller (number_of caller == 38) RaiseIpvi _ _ _ refl
     refl)))))))))))))))))))))))))))))))))))))
 
 -- what holds of what each call does, and of the answer to a number that is no call's, holds of what a partition's call comes to

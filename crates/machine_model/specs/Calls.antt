@@ -13,47 +13,8 @@ use Rattle.machine_model.specs.PortEffects.{name_given}
 use Rattle.machine_model.specs.Readings.{clock_numbered, clock_of, entry_seen, is_missing, is_negative, joined, log_counts, status_seen}
 use Rattle.machine_model.specs.Structures.{double, health_bytes, queuing_status, sampling_status, trace_bytes}
 use Rattle.machine_model.specs.Told.{AllHalted, AllReset}
-
--- the hypercalls, in the order of their numbers
-pub data Call : Type 0 where
-  GetSelf : Call
-  HaltPartition : Call
-  ResetPartition : Call
-  SuspendPartition : Call
-  ResumePartition : Call
-  ShutdownPartition : Call
-  IdleSelf : Call
-  GetPartitionStatus : Call
-  HaltSystem : Call
-  ResetSystem : Call
-  GetSystemStatus : Call
-  GetTime : Call
-  SetTimer : Call
-  SwitchSchedPlan : Call
-  GetPlanStatus : Call
-  CreateSamplingPort : Call
-  WriteSamplingMessage : Call
-  ReadSamplingMessage : Call
-  GetSamplingPortStatus : Call
-  CreateQueuingPort : Call
-  SendQueuingMessage : Call
-  ReceiveQueuingMessage : Call
-  GetQueuingPortStatus : Call
-  TraceEvent : Call
-  TraceRead : Call
-  TraceStatus : Call
-  RaiseEvent : Call
-  HmRead : Call
-  HmStatus : Call
-  SetIrqmask : Call
-  ClearIrqmask : Call
-  WriteConsole : Call
-  ReadInput : Call
-  Iret : Call
-  SetPsr : Call
-  SetTbr : Call
-  FlushRegwin : Call
-  RaiseIpvi : Call
+pub use Rattle.machine_model.specs.declared.numbers.Call.{Call}
+pub use Rattle.machine_model.specs.declared.numbers.Call.TheVariants.{GetSelf, HaltPartition, ResetPartition, SuspendPartition, ResumePartition, ShutdownPartition, IdleSelf, GetPartitionStatus, HaltSystem, ResetSystem, GetSystemStatus, GetTime, SetTimer, SwitchSchedPlan, GetPlanStatus, CreateSamplingPort, WriteSamplingMessage, ReadSamplingMessage, GetSamplingPortStatus, CreateQueuingPort, SendQueuingMessage, ReceiveQueuingMessage, GetQueuingPortStatus, TraceEvent, TraceRead, TraceStatus, RaiseEvent, HmRead, HmStatus, SetIrqmask, ClearIrqmask, WriteConsole, ReadInput, Iret, SetPsr, SetTbr, FlushRegwin, RaiseIpvi}
 
 -- an effect after these tests
 abbrev pub where_passed : List Test → Effect → TestedEffect

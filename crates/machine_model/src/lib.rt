@@ -3,6 +3,7 @@
 
 mod calls;
 mod law;
+mod numbers;
 mod rows;
 
 pub use calls::{
@@ -15,6 +16,7 @@ pub use law::{
     never_upon_itself, observes_as_tested, one_tick, own_lines, same_core_file, scripts_end,
     sees_nothing, serves_by_number, tells_few_bytes, told_as_allowed, two_runs,
 };
+pub use numbers::{Call, call_of, number_of_call};
 pub use rows::{
     asks_for_plans, halts_at_faults, holds_words, keeps_time, meets_illegal, observes_another,
     orders_another, reaches_all, receives_messages, resets_itself, rules_system, runs_in_slots,
