@@ -32,7 +32,7 @@ use Rattle.xm_ports.specs.declared.ports.CreateFault.{CreateFault}
 use Rattle.machine_model.specs.ListLemmas.{table_at}
 use Rattle.machine_model.specs.Caller.{Acts, Caller, Meets, Served, Test, Upshot, a_of, acting, b_of, caller_bytes, c_of, invalid_parameter, no_permission, not_allowed, not_available, refused_if, room, system_only, target, tested, text, with_written}
 use Rattle.machine_model.specs.CallLemmas.{every_effect}
-use Rattle.machine_model.specs.Effects.{ChangesOwn, CreatesPort, DoesToAll, Effect, EntersTrace, GivesAnswer, GivesOrder, GoesBack, MeetsEvent, PrintsBytes, PutsBytes, RequestsPlan, SendsSignal, ShowsPort, ShowsSample, SpillsWindows, TakesMessage, UsesInput, comes_to, is_plan_missing, putting_bytes, queue_room, right_tests}
+use Rattle.machine_model.specs.Effects.{CallEffect, ChangesOwn, CreatesPort, DoesToAll, EntersTrace, GivesAnswer, GivesOrder, GoesBack, MeetsEvent, PrintsBytes, PutsBytes, RequestsPlan, SendsSignal, ShowsPort, ShowsSample, SpillsWindows, TakesMessage, UsesInput, comes_to, is_plan_missing, putting_bytes, queue_room, right_tests}
 use Rattle.machine_model.specs.Health.{answered_by, by_interrupt, done_to_all, event_handled, interrupt_delivered, quiet, self_ordered, undelivered}
 use Rattle.machine_model.specs.Hypercalls.{served}
 use Rattle.machine_model.specs.Laws.{ActsWithinBounds}
@@ -332,7 +332,7 @@ flush_within view contents (Ok all) ps caller = tt
 flush_within view contents (Err fault) ps caller = tt
 
 -- whatever an effect comes to is within what its caller has, whatever tests its call has
-asked_within : (effect : Effect) (tests : List Test) (caller : Caller) → ComesWithin caller.view caller.contents (tested (right_tests effect caller ++ tests) caller (comes_to effect caller)).upshot
+asked_within : (effect : CallEffect) (tests : List Test) (caller : Caller) → ComesWithin caller.view caller.contents (tested (right_tests effect caller ++ tests) caller (comes_to effect caller)).upshot
 asked_within (GivesAnswer value writings) tests caller = tested_within caller.view caller.contents tests caller _ tt
 asked_within (PrintsBytes bytes value) tests caller = tested_within caller.view caller.contents tests caller _ tt
 asked_within (GivesOrder id order) tests caller = order_within id order tests caller

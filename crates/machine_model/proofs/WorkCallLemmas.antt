@@ -24,7 +24,7 @@ use Rattle.xm_traces.specs.Ring.{Kept, RING_ENTRIES, noted}
 use Rattle.xm_traces.specs.declared.entry.TraceEntry.{TraceEntry}
 use Rattle.machine_model.specs.Caller.{Acts, Caller, Served, Test, a_of, answering, b_of, invalid_parameter, room, tested, text, unknown_call, with_answer, with_written}
 use Rattle.machine_model.specs.CallLemmas.{every_effect}
-use Rattle.machine_model.specs.Effects.{ArmsTimer, ChangesOwn, CreatesPort, DoesToAll, Effect, EntersTrace, GivesAnswer, GivesOrder, GoesBack, MeetsEvent, OwnChange, PrintsBytes, PutsBytes, RequestsPlan, SendsSignal, SetsBase, SetsCodes, SetsMask, ShowsPort, ShowsSample, SpillsWindows, TakesMessage, UsesInput, Waits, Writing, comes_to, putting_bytes, queue_room, right_tests, with_change, with_writings}
+use Rattle.machine_model.specs.Effects.{ArmsTimer, CallEffect, ChangesOwn, CreatesPort, DoesToAll, EntersTrace, GivesAnswer, GivesOrder, GoesBack, MeetsEvent, OwnChange, PrintsBytes, PutsBytes, RequestsPlan, SendsSignal, SetsBase, SetsCodes, SetsMask, ShowsPort, ShowsSample, SpillsWindows, TakesMessage, UsesInput, Waits, Writing, comes_to, putting_bytes, queue_room, right_tests, with_change, with_writings}
 use Rattle.machine_model.specs.Facts.{AreEnds, AreLast, HaveEight, IsChannelEnd}
 use Rattle.machine_model.specs.Hypercalls.{served}
 use Rattle.machine_model.specs.OwnEffects.{trace_entry, tracing}
@@ -237,7 +237,7 @@ writings_keep [] ps = refl
 writings_keep (writing ∷ writings) ps = writings_keep writings (with_written writing.address writing.bytes ps)
 
 -- what each effect leaves
-effect_leaves : (effect : Effect) (caller : Caller) → Leaves caller (comes_to effect caller)
+effect_leaves : (effect : CallEffect) (caller : Caller) → Leaves caller (comes_to effect caller)
 unfolding with_answer with_written
 effect_leaves (GivesAnswer value writings) caller = keeps caller (comes_to (GivesAnswer value writings) caller) (writings_keep writings caller.state)
 effect_leaves (PrintsBytes bytes value) caller = keeps caller (comes_to (PrintsBytes bytes value) caller) refl

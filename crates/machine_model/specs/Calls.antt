@@ -8,7 +8,7 @@ use Rattle.xm_conf.specs.declared.health.Event.TheVariants.{PartitionError}
 use Rattle.xm_conf.specs.declared.port.Kind.TheVariants as kind
 use Rattle.xm_traces.specs.Ring.{Kept}
 use Rattle.machine_model.specs.Caller.{Caller, Served, Test, a_of, answering, b_of, c_of, caller_bytes, d_of, e_of, invalid_mode, invalid_parameter, is_neither, mode_numbered, no_action, not_available, refused_if, room, shown, system_only, target, text, unknown_call}
-use Rattle.machine_model.specs.Effects.{ArmsTimer, ChangesOwn, CreatesPort, DoesToAll, Effect, EntersTrace, GivesAnswer, GivesOrder, GoesBack, MeetsEvent, OwnChange, PrintsBytes, PutsBytes, RequestsPlan, SendsSignal, SetsBase, SetsCodes, SetsMask, ShowsPort, ShowsSample, SpillsWindows, TakesMessage, TestedEffect, UsesInput, Waits, Writing, performed}
+use Rattle.machine_model.specs.Effects.{ArmsTimer, CallEffect, ChangesOwn, CreatesPort, DoesToAll, EntersTrace, GivesAnswer, GivesOrder, GoesBack, MeetsEvent, OwnChange, PrintsBytes, PutsBytes, RequestsPlan, SendsSignal, SetsBase, SetsCodes, SetsMask, ShowsPort, ShowsSample, SpillsWindows, TakesMessage, TestedEffect, UsesInput, Waits, Writing, performed}
 use Rattle.machine_model.specs.PortEffects.{name_given}
 use Rattle.machine_model.specs.Readings.{clock_numbered, clock_of, entry_seen, is_missing, is_negative, joined, log_counts, status_seen}
 use Rattle.machine_model.specs.Structures.{double, health_bytes, queuing_status, sampling_status, trace_bytes}
@@ -17,11 +17,11 @@ pub use Rattle.machine_model.specs.declared.numbers.Call.{Call}
 pub use Rattle.machine_model.specs.declared.numbers.Call.TheVariants.{GetSelf, HaltPartition, ResetPartition, SuspendPartition, ResumePartition, ShutdownPartition, IdleSelf, GetPartitionStatus, HaltSystem, ResetSystem, GetSystemStatus, GetTime, SetTimer, SwitchSchedPlan, GetPlanStatus, CreateSamplingPort, WriteSamplingMessage, ReadSamplingMessage, GetSamplingPortStatus, CreateQueuingPort, SendQueuingMessage, ReceiveQueuingMessage, GetQueuingPortStatus, TraceEvent, TraceRead, TraceStatus, RaiseEvent, HmRead, HmStatus, SetIrqmask, ClearIrqmask, WriteConsole, ReadInput, Iret, SetPsr, SetTbr, FlushRegwin, RaiseIpvi}
 
 -- an effect after these tests
-abbrev pub where_passed : List Test → Effect → TestedEffect
+abbrev pub where_passed : List Test → CallEffect → TestedEffect
 where_passed tests effect = record { tests = tests; effect = effect }
 
 -- an effect that needs no test but those of its right
-abbrev pub always : Effect → TestedEffect
+abbrev pub always : CallEffect → TestedEffect
 always effect = where_passed [] effect
 
 -- bytes at an address

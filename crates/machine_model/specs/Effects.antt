@@ -51,31 +51,31 @@ with_change (SetsBase base) ps = record ps { traps = record ps.traps { base = ba
 -- the first message of a queue; it sends a signal over the link of this number; it reads the message of a sampling port; it writes so many bytes on a
 -- port of this kind; it creates a port; it changes its own partition; it enters a trace; it uses an input word; it meets a health event; it goes back
 -- from a trap; or it spills its windows
-pub data Effect : Type 0 where
-  GivesAnswer : (value : ℕ) (writings : List Writing) → Effect
-  PrintsBytes : (bytes : List ℕ) (value : ℕ) → Effect
-  GivesOrder : (id : ℕ) (order : Order) → Effect
-  DoesToAll : (event : WholeEvent) → Effect
-  RequestsPlan : (plan : ℕ) (writings : List Writing) → Effect
-  PutsBytes : (the_kind : Kind) (address size : ℕ) → Effect
-  TakesMessage : Effect
-  SendsSignal : (number : ℕ) → Effect
-  ShowsSample : Effect
-  ShowsPort : (the_kind : Kind) (size : ℕ) (status : MadePort → List ℕ) → Effect
-  CreatesPort : (the_kind : Kind) (way size most : ℕ) (name : Option (List ℕ)) → Effect
-  ChangesOwn : (change : OwnChange) → Effect
-  EntersTrace : Effect
-  UsesInput : Effect
-  MeetsEvent : (event : Event) (word : ℕ) → Effect
-  GoesBack : Effect
-  SpillsWindows : Effect
+pub data CallEffect : Type 0 where
+  GivesAnswer : (value : ℕ) (writings : List Writing) → CallEffect
+  PrintsBytes : (bytes : List ℕ) (value : ℕ) → CallEffect
+  GivesOrder : (id : ℕ) (order : Order) → CallEffect
+  DoesToAll : (event : WholeEvent) → CallEffect
+  RequestsPlan : (plan : ℕ) (writings : List Writing) → CallEffect
+  PutsBytes : (the_kind : Kind) (address size : ℕ) → CallEffect
+  TakesMessage : CallEffect
+  SendsSignal : (number : ℕ) → CallEffect
+  ShowsSample : CallEffect
+  ShowsPort : (the_kind : Kind) (size : ℕ) (status : MadePort → List ℕ) → CallEffect
+  CreatesPort : (the_kind : Kind) (way size most : ℕ) (name : Option (List ℕ)) → CallEffect
+  ChangesOwn : (change : OwnChange) → CallEffect
+  EntersTrace : CallEffect
+  UsesInput : CallEffect
+  MeetsEvent : (event : Event) (word : ℕ) → CallEffect
+  GoesBack : CallEffect
+  SpillsWindows : CallEffect
 
 -- plan 0 cannot be asked for, and others have to be there
 abbrev pub is_plan_missing : ℕ → Caller → Bool
 is_plan_missing plan caller = plan == 0 || not (nat_lt plan caller.view.sees.plans)
 
 -- the tests that an effect makes by itself, before those of its call: whatever call has it needs this right
-abbrev pub right_tests : Effect → Caller → List Test
+abbrev pub right_tests : CallEffect → Caller → List Test
 right_tests (GivesAnswer value writings) caller = []
 right_tests (PrintsBytes bytes value) caller = []
 right_tests (GivesOrder id order) caller = target caller id ∷ []
@@ -104,7 +104,7 @@ abbrev pub putting_bytes : ℕ → ℕ → Caller → MadePort → Served
 putting_bytes address size caller port = acting (Trades (OwnPuts port.name (caller_bytes caller address size))) 0 caller.state
 
 -- what an effect comes to where the tests are passed; the effects on ports look for the port that the call names, and test it
-abbrev pub comes_to : Effect → Caller → Served
+abbrev pub comes_to : CallEffect → Caller → Served
 comes_to (GivesAnswer value writings) caller = answering value (with_writings writings caller.state)
 comes_to (PrintsBytes bytes value) caller = record (answering value caller.state) { told = printed bytes }
 comes_to (GivesOrder id order) caller = acting (Upon id order) 0 caller.state
@@ -131,7 +131,7 @@ comes_to SpillsWindows caller =
 -- an effect after tests of its call
 pub record TestedEffect : Type 0 where
   pub tests : List Test
-  pub effect : Effect
+  pub effect : CallEffect
 
 -- what it comes to: the tests of the effect's right are made first, then those of the call
 abbrev pub performed : TestedEffect → Caller → Served
