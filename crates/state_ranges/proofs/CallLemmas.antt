@@ -1,19 +1,18 @@
 -- Each call leaves a partition's numbers in their ranges.
 use Rattle.std.proofs.Common.{◌≡◌, ℕ, zero, suc, ◌<◌, ◌≤◌, ◌+◌, Bool, true, false, List, [], ◌∷◌, ◌++◌, length, Option, None, Some, Result, Ok, Err, refl, sym, arith, subst}
-use Rattle.std.specs.Prelude.{◌-◌, ◌/◌, ◌%◌, ◌^◌, ◌==◌, ◌&&◌, ◌||◌, cond, not, nat_lt, if◌then◌else◌, bit_and, drop, slice_get, slice_index_or}
+use Rattle.std.specs.Prelude.{◌-◌, ◌/◌, ◌%◌, ◌^◌, ◌==◌, ◌&&◌, ◌||◌, cond, not, nat_lt, if◌then◌else◌, drop, slice_get, slice_index_or}
 use Rattle.std.specs.List.{AllByRecursion, position_from}
-use Rattle.std.specs.Int.{bit_at, to_be_bytes, w16, w32, w64}
+use Rattle.std.specs.Int.{to_be_bytes, w16, w32, w64}
 use Rattle.std.proofs.lemmas.Bool.Decides.{nat_tests}
 use Rattle.guest_bus.specs.Memory.{Area, with_bytes}
 use Rattle.health_monitor.specs.declared.entry.HealthEntry.{HealthEntry}
-use Rattle.sparc_step.specs.Registers.{with_icc, with_register}
+use Rattle.sparc_step.specs.Registers.{with_register}
 use Rattle.virt_traps.specs.Delivery.{Returned, returned}
 use Rattle.virt_traps.specs.Moves.{Moved, move_made, spilled}
 use Rattle.virt_traps.specs.declared.delivery.IretFault.{IretFault}
 use Rattle.virt_traps.specs.declared.delivery.IretFault.TheVariants.{Stack, Unaligned}
 use Rattle.virt_traps.specs.declared.windows.StackFault.{StackFault}
 use Rattle.xm_base.specs.Bytes.{AreBytes}
-use Rattle.xm_base.specs.declared.partition.Order.{Order}
 use Rattle.xm_base.specs.declared.partition.Order.TheVariants as order
 use Rattle.xm_base.specs.declared.partition.State.TheVariants.{Idle}
 use Rattle.xm_conf.specs.Health.{action_row, event_row}
@@ -31,19 +30,19 @@ use Rattle.xm_ports.specs.declared.ports.CreateFault.{CreateFault}
 use Rattle.xm_ports.specs.declared.ports.CreateFault.TheVariants.{Already, Differs, NoChannel, NoPort}
 use Rattle.xm_traces.specs.Ring.{Kept, entry_at, first_kept, noted}
 use Rattle.xm_traces.specs.declared.entry.TraceEntry.{TraceEntry}
-use Rattle.machine_model.specs.Caller.{Acts, Caller, Meets, Served, Test, Upshot, a_of, acting, answering, b_of, c_of, caller_bytes, d_of, invalid_mode, invalid_parameter, is_neither, is_not_system, mode_numbered, no_action, no_permission, not_allowed, not_available, number_of, refused_if, room, shown, system_only, target, tested, text, unknown_call, with_answer, with_written}
+use Rattle.machine_model.specs.Caller.{Acts, Caller, Meets, Served, Test, Upshot, a_of, acting, answering, b_of, c_of, caller_bytes, d_of, invalid_mode, invalid_parameter, is_not_system, no_action, no_permission, not_allowed, not_available, refused_if, room, shown, system_only, target, tested, text, unknown_call, with_answer, with_written}
+use Rattle.machine_model.specs.CallLemmas.{every_call}
+use Rattle.machine_model.specs.Calls.{Call, GetSelf, HaltPartition, ResetPartition, SuspendPartition, ResumePartition, ShutdownPartition, IdleSelf, GetPartitionStatus, HaltSystem, ResetSystem, GetSystemStatus, GetTime, SetTimer, SwitchSchedPlan, GetPlanStatus, CreateSamplingPort, WriteSamplingMessage, ReadSamplingMessage, GetSamplingPortStatus, CreateQueuingPort, SendQueuingMessage, ReceiveQueuingMessage, GetQueuingPortStatus, TraceEvent, TraceRead, TraceStatus, RaiseEvent, HmRead, HmStatus, SetIrqmask, ClearIrqmask, WriteConsole, ReadInput, Iret, SetPsr, SetTbr, FlushRegwin, RaiseIpvi, effect_of_call}
+use Rattle.machine_model.specs.Effects.{ArmsTimer, CallEffect, ChangesOwn, CreatesPort, DoesToAll, EntersTrace, GivesAnswer, GivesOrder, GoesBack, MeetsEvent, OwnChange, PrintsBytes, PutsBytes, RequestsPlan, SendsSignal, SetsBase, SetsCodes, SetsMask, ShowsPort, ShowsSample, SpillsWindows, TakesMessage, TestedEffect, UsesInput, Waits, Writing, comes_to, performed, putting_bytes, queue_room, right_tests, with_change, with_writings}
 use Rattle.machine_model.specs.Hypercalls.{served}
-use Rattle.machine_model.specs.LinkCalls.{raise_ipvi}
 use Rattle.machine_model.specs.Lists.{and_then}
-use Rattle.machine_model.specs.LogCalls.{bytes_of_entry, counting, entry_seen, hm_read, hm_status, is_missing, is_own, log_counts, raise_event, reading, trace_entry, trace_event, trace_read, trace_status, tracing}
+use Rattle.machine_model.specs.LogCalls.{bytes_of_entry, is_own, trace_entry, tracing}
 use Rattle.machine_model.specs.Partition.{PartitionState, areas_of}
-use Rattle.machine_model.specs.PartitionCalls.{get_partition_status, get_self, get_system_status, halt_partition, halt_system, idle_self, ordering, reset_partition, reset_system, resume_partition, shutdown_partition, status_seen, suspend_partition}
-use Rattle.machine_model.specs.PortCalls.{MadePort, by_created, create_queuing_port, create_refusal, create_sampling_port, creating, destination_only, first_read, get_queuing_port_status, get_sampling_port_status, held_read, is_full, made_port, message_read, name_given, on_port, port_with_content, putting, read_sampling_message, receive_queuing_message, sample_read, send_queuing_message, shape_at, size_fits, source_only, with_channel, write_sampling_message}
-use Rattle.machine_model.specs.ProcessorCalls.{by_flush, by_return, clear_irqmask, flush_regwin, flushed, flushed_after, input_read, iret, read_input, set_irqmask, set_psr, set_tbr, undone, write_console}
+use Rattle.machine_model.specs.PortCalls.{MadePort, by_created, create_refusal, creating, destination_only, first_read, held_read, is_full, made_port, message_read, on_port, port_with_content, sample_read, shape_at, size_fits, source_only, with_channel}
+use Rattle.machine_model.specs.ProcessorCalls.{by_flush, by_return, flushed, flushed_after, input_read, undone}
 use Rattle.machine_model.specs.Structures.{counts_bytes, double, health_bytes, partition_status, queuing_status, sample_status, sampling_status, state_number, trace_bytes, validity, word}
-use Rattle.machine_model.specs.TimeCalls.{clock_numbered, clock_of, get_plan_status, get_time, is_negative, is_no_plan, set_timer, switch_sched_plan, with_timer_set}
 use Rattle.machine_model.specs.Told as told
-use Rattle.machine_model.specs.Told.{Act, AllHalted, AllReset, NotKept, OwnPuts, OwnSignals, OwnTakes, Sight, Unseen, Words}
+use Rattle.machine_model.specs.Told.{Act, NotKept, OwnPuts, OwnSignals, OwnTakes, Sight, Unseen, Words}
 use Rattle.machine_model.specs.View.{PartitionView, PortChannel}
 use Rattle.cue_scripts.specs.Script.{IsOrder}
 use Rattle.state_ranges.specs.Cues.{HasMessageBytes, HasShownBytes}
@@ -272,93 +271,6 @@ health_read_bytes : (o : Option HealthEntry) → AreBytes (bytes_of_entry health
 health_read_bytes None = none_below 256 (omega arith)
 health_read_bytes (Some entry) = health_entry_bytes entry
 
--- what is written is in range, and the call answers 0
-writes : (address : ℕ) (bytes : List ℕ) (ps : PartitionState) → AreBytes bytes → IsPartitionInRange ps → IsServedInRange (answering 0 (with_written address bytes ps))
-writes address bytes ps each has = answers 0 (with_written address bytes ps) (omega arith) (written_range address bytes ps each has)
-
--- an order
-orders : (an_order : Order) (caller : Caller) → IsOrder (Some an_order) → IsCallerInRange caller → IsServedInRange (ordering an_order caller)
-orders an_order caller is has = acts_so (told.Upon (a_of caller) an_order) 0 caller.state is (omega arith) has.state
-
--- the calls on partitions and on the whole system
-get_self_range : (caller : Caller) → IsCallerInRange caller → IsServedInRange (get_self caller)
-unfolding get_self
-get_self_range caller has = answers caller.view.id caller.state has.view.id has.state
-
-halt_partition_range : (caller : Caller) → IsCallerInRange caller → IsServedInRange (halt_partition caller)
-unfolding halt_partition
-halt_partition_range caller has = tested_range (target caller (a_of caller) ∷ []) caller _ (target_test caller (a_of caller), tt) has (orders order.Halt caller tt has)
-
-reset_partition_range : (caller : Caller) → IsCallerInRange caller → IsServedInRange (reset_partition caller)
-unfolding reset_partition
-reset_partition_range caller has =
-    tested_range (target caller (a_of caller) ∷ refused_if (is_neither (b_of caller)) invalid_mode ∷ []) caller _ (target_test caller (a_of caller), (mode_test _, tt)) has
-    (orders (order.Reset (mode_numbered (b_of caller)) (c_of caller)) caller (register_word caller.state.core 11 has.state.core) has)
-
-suspend_partition_range : (caller : Caller) → IsCallerInRange caller → IsServedInRange (suspend_partition caller)
-unfolding suspend_partition
-suspend_partition_range caller has = tested_range (target caller (a_of caller) ∷ []) caller _ (target_test caller (a_of caller), tt) has (orders order.Suspend caller tt has)
-
-resume_partition_range : (caller : Caller) → IsCallerInRange caller → IsServedInRange (resume_partition caller)
-unfolding resume_partition
-resume_partition_range caller has = tested_range (target caller (a_of caller) ∷ []) caller _ (target_test caller (a_of caller), tt) has (orders order.Resume caller tt has)
-
-shutdown_partition_range : (caller : Caller) → IsCallerInRange caller → IsServedInRange (shutdown_partition caller)
-unfolding shutdown_partition
-shutdown_partition_range caller has = tested_range (target caller (a_of caller) ∷ []) caller _ (target_test caller (a_of caller), tt) has (orders order.Shutdown caller tt has)
-
-idle_self_range : (caller : Caller) → IsCallerInRange caller → IsServedInRange (idle_self caller)
-unfolding idle_self
-idle_self_range caller has = answers 0 (record caller.state { state = Idle }) (omega arith) (same_range caller.state (record caller.state { state = Idle }) refl refl refl refl refl has.state)
-
-get_partition_status_range : (caller : Caller) → IsCallerInRange caller → IsServedInRange (get_partition_status caller)
-unfolding get_partition_status
-get_partition_status_range caller has =
-    tested_range (target caller (a_of caller) ∷ room caller (b_of caller) 20 ∷ []) caller _ (target_test caller (a_of caller), (room_test caller (b_of caller) 20, tt)) has
-    (writes (b_of caller) (status_seen caller) caller.state (either_bytes (a_of caller == caller.view.id) (partition_status caller.state) (shown caller.sight) (status_bytes caller.state) (shown_are_bytes caller.sight has.sight)) has.state)
-
-halt_system_range : (caller : Caller) → IsCallerInRange caller → IsServedInRange (halt_system caller)
-unfolding halt_system
-halt_system_range caller has = tested_range (system_only caller ∷ []) caller _ (system_test caller, tt) has (acts_so (told.UponAll AllHalted) 0 caller.state tt (omega arith) has.state)
-
-reset_system_range : (caller : Caller) → IsCallerInRange caller → IsServedInRange (reset_system caller)
-unfolding reset_system
-reset_system_range caller has =
-    tested_range (system_only caller ∷ refused_if (is_neither (a_of caller)) invalid_mode ∷ []) caller _ (system_test caller, (mode_test _, tt)) has
-    (acts_so (told.UponAll (AllReset (mode_numbered (a_of caller)))) 0 caller.state tt (omega arith) has.state)
-
-get_system_status_range : (caller : Caller) → IsCallerInRange caller → IsServedInRange (get_system_status caller)
-unfolding get_system_status
-get_system_status_range caller has =
-    tested_range (system_only caller ∷ room caller (a_of caller) 8 ∷ []) caller _ (system_test caller, (room_test caller (a_of caller) 8, tt)) has
-    (writes (a_of caller) (shown caller.sight) caller.state (shown_are_bytes caller.sight has.sight) has.state)
-
--- the calls on clocks, timers and plans
-get_time_range : (caller : Caller) → IsCallerInRange caller → IsServedInRange (get_time caller)
-unfolding get_time
-get_time_range caller has =
-    tested_range (refused_if (is_neither (a_of caller)) invalid_parameter ∷ room caller (b_of caller) 8 ∷ []) caller _ (parameter_test _, (room_test caller (b_of caller) 8, tt)) has
-    (writes (b_of caller) (double (clock_of (clock_numbered (a_of caller)) caller)) caller.state (number_bytes w64 _) has.state)
-
-set_timer_range : (caller : Caller) → IsCallerInRange caller → IsServedInRange (set_timer caller)
-unfolding set_timer
-set_timer_range caller has =
-    tested_range (refused_if (is_neither (a_of caller)) invalid_parameter ∷ refused_if (is_negative (b_of caller) || is_negative (d_of caller)) invalid_parameter ∷ []) caller _ (parameter_test _, (parameter_test _, tt)) has
-    (answers 0 (with_timer_set caller) (omega arith) (same_range caller.state (with_timer_set caller) refl refl refl refl refl has.state))
-
-switch_sched_plan_range : (caller : Caller) → IsCallerInRange caller → IsServedInRange (switch_sched_plan caller)
-unfolding switch_sched_plan
-switch_sched_plan_range caller has =
-    tested_range (system_only caller ∷ refused_if (is_no_plan caller) invalid_parameter ∷ room caller (b_of caller) 4 ∷ []) caller _ (system_test caller, (parameter_test _, (room_test caller (b_of caller) 4, tt))) has
-    (acts_so (told.Plans (told.Asked (a_of caller))) 0 (with_written (b_of caller) (shown caller.sight) caller.state) tt (omega arith)
-    (written_range (b_of caller) (shown caller.sight) caller.state (shown_are_bytes caller.sight has.sight) has.state))
-
-get_plan_status_range : (caller : Caller) → IsCallerInRange caller → IsServedInRange (get_plan_status caller)
-unfolding get_plan_status
-get_plan_status_range caller has =
-    tested_range (system_only caller ∷ room caller (a_of caller) 20 ∷ []) caller _ (system_test caller, (room_test caller (a_of caller) 20, tt)) has
-    (writes (a_of caller) (shown caller.sight) caller.state (shown_are_bytes caller.sight has.sight) has.state)
-
 -- the number of a port that is made is below the number of ports
 position_small : {X : Type 0} (test : X → Bool) (from : ℕ) (xs : List X) (r : ℕ) → position_from test from xs ≡ Some r → r < from + length xs
 position_small test from [] r is = absurd cc
@@ -411,14 +323,6 @@ creating_range the_kind way size most (Some name) caller has = by (created_over 
         answers r (record caller.state { made = with_port r caller.state.made }) (omega (arith, small, few))
         (same_range caller.state (record caller.state { made = with_port r caller.state.made }) refl refl refl refl refl has.state)
 
-create_sampling_port_range : (caller : Caller) → IsCallerInRange caller → IsServedInRange (create_sampling_port caller)
-unfolding create_sampling_port
-create_sampling_port_range caller has = creating_range kind.Sampling (c_of caller) (b_of caller) 0 (name_given caller) caller has
-
-create_queuing_port_range : (caller : Caller) → IsCallerInRange caller → IsServedInRange (create_queuing_port caller)
-unfolding create_queuing_port
-create_queuing_port_range caller has = creating_range kind.Queuing (d_of caller) (c_of caller) (b_of caller) (name_given caller) caller has
-
 -- what the channel of a made port holds is in range
 abbrev IsMadeInRange : Option MadePort → Type 0
 IsMadeInRange None = Unit {0}
@@ -455,21 +359,9 @@ on_port_range None caller call is has further = answers invalid_parameter caller
 on_port_range (Some port) caller call is has further = further port is
 
 -- a message is put
-puts : (caller : Caller) (port : MadePort) → IsCallerInRange caller → IsServedInRange (putting caller port)
-puts caller port has =
-    acts_so (told.Trades (OwnPuts port.name (caller_bytes caller (b_of caller) (c_of caller)))) 0 caller.state (memory_bytes caller.state.memory (b_of caller) (c_of caller) has.state.memory) (omega arith) has.state
-
-write_sampling_message_range : (caller : Caller) → IsCallerInRange caller → IsServedInRange (write_sampling_message caller)
-unfolding write_sampling_message
-write_sampling_message_range caller has = on_port_range (made_port kind.Sampling caller) caller _ (made_in_range kind.Sampling caller has) has (λ port is.
-    tested_range (source_only port ∷ size_fits port (c_of caller) ∷ text caller (b_of caller) (c_of caller) ∷ []) caller (putting caller port)
-    (allowed_test _, (parameter_test _, (text_test caller (b_of caller) (c_of caller), tt))) has (puts caller port has))
-
-send_queuing_message_range : (caller : Caller) → IsCallerInRange caller → IsServedInRange (send_queuing_message caller)
-unfolding send_queuing_message
-send_queuing_message_range caller has = on_port_range (made_port kind.Queuing caller) caller _ (made_in_range kind.Queuing caller has) has (λ port is.
-    tested_range (source_only port ∷ size_fits port (c_of caller) ∷ text caller (b_of caller) (c_of caller) ∷ refused_if (is_full port) not_available ∷ []) caller (putting caller port)
-    (allowed_test _, (parameter_test _, (text_test caller (b_of caller) (c_of caller), (available_test _, tt)))) has (puts caller port has))
+puts : (address size : ℕ) (caller : Caller) (port : MadePort) → IsCallerInRange caller → IsServedInRange (putting_bytes address size caller port)
+puts address size caller port has =
+    acts_so (told.Trades (OwnPuts port.name (caller_bytes caller address size))) 0 caller.state (memory_bytes caller.state.memory address size has.state.memory) (omega arith) has.state
 
 -- a message is read; it is no longer than the call allows, and that is a word
 not_longer : (most size : ℕ) → nat_lt most size ≡ false → most < 2 ^ 32 → size < 2 ^ 32
@@ -497,11 +389,6 @@ held_range (Sampling None) caller port is has = answers no_action caller.state (
 held_range (Sampling (Some sample)) caller port is has = sample_range caller port sample is has
 held_range (Queuing messages) caller port is has = answers no_action caller.state (omega arith) has.state
 
-read_sampling_message_range : (caller : Caller) → IsCallerInRange caller → IsServedInRange (read_sampling_message caller)
-unfolding read_sampling_message
-read_sampling_message_range caller has = on_port_range (made_port kind.Sampling caller) caller _ (made_in_range kind.Sampling caller has) has (λ port is.
-    tested_range (destination_only port ∷ []) caller _ (allowed_test _, tt) has (held_range port.content caller port is has))
-
 message_range : (caller : Caller) (port : MadePort) (message : List ℕ) → AreBytes message → IsCallerInRange caller → IsServedInRange (message_read caller port message)
 message_range caller port message each has = by (nat_lt (c_of caller) (length message)) refl
   where
@@ -520,11 +407,6 @@ first_range (Sampling (Some sample)) caller port is has = answers not_available 
 first_range (Queuing []) caller port is has = answers not_available caller.state (omega arith) has.state
 first_range (Queuing (message ∷ messages)) caller port is has = message_range caller port message is.0 has
 
-receive_queuing_message_range : (caller : Caller) → IsCallerInRange caller → IsServedInRange (receive_queuing_message caller)
-unfolding receive_queuing_message
-receive_queuing_message_range caller has = on_port_range (made_port kind.Queuing caller) caller _ (made_in_range kind.Queuing caller has) has (λ port is.
-    tested_range (destination_only port ∷ []) caller _ (allowed_test _, tt) has (first_range port.content caller port is has))
-
 -- the status of a port
 sample_status_bytes : (the_kind : ChanKind) (time : ℕ) (o : Option HeldSample) → AreBytes (sample_status the_kind time o)
 sample_status_bytes the_kind time None = append_below 256 (double 0 ++ word 0) (word 0) (append_below 256 (double 0) (word 0) (number_bytes w64 0) (number_bytes w32 0)) (number_bytes w32 0)
@@ -539,18 +421,6 @@ sampling_status_bytes the_kind time content = sample_status_bytes the_kind time 
 queuing_status_bytes : (the_kind : ChanKind) (content : Content) → AreBytes (queuing_status the_kind content)
 unfolding queuing_status
 queuing_status_bytes the_kind content = append_below 256 (word (length (messages_of content))) (word (most_of the_kind)) (number_bytes w32 _) (number_bytes w32 _)
-
-get_sampling_port_status_range : (caller : Caller) → IsCallerInRange caller → IsServedInRange (get_sampling_port_status caller)
-unfolding get_sampling_port_status
-get_sampling_port_status_range caller has = on_port_range (made_port kind.Sampling caller) caller _ (made_in_range kind.Sampling caller has) has (λ port is.
-    tested_range (room caller (b_of caller) 16 ∷ []) caller _ (room_test caller (b_of caller) 16, tt) has
-    (writes (b_of caller) (sampling_status port.shape.kind caller.time port.content) caller.state (sampling_status_bytes port.shape.kind caller.time port.content) has.state))
-
-get_queuing_port_status_range : (caller : Caller) → IsCallerInRange caller → IsServedInRange (get_queuing_port_status caller)
-unfolding get_queuing_port_status
-get_queuing_port_status_range caller has = on_port_range (made_port kind.Queuing caller) caller _ (made_in_range kind.Queuing caller has) has (λ port is.
-    tested_range (room caller (b_of caller) 8 ∷ []) caller _ (room_test caller (b_of caller) 8, tt) has
-    (writes (b_of caller) (queuing_status port.shape.kind port.content) caller.state (queuing_status_bytes port.shape.kind port.content) has.state))
 
 -- the calls on traces and on the health log
 all_more : (entries : List TraceEntry) (entry : TraceEntry) → AreBytes entry.load → AllByRecursion (λ (e : TraceEntry). AreBytes e.load) entries → AllByRecursion (λ (e : TraceEntry). AreBytes e.load) (entries ++ entry ∷ [])
@@ -579,61 +449,6 @@ tracing_range caller has = record {
   upshot = tt;
 }
 
-trace_event_range : (caller : Caller) → IsCallerInRange caller → IsServedInRange (trace_event caller)
-unfolding trace_event
-trace_event_range caller has =
-    tested_range (text caller (b_of caller) 8 ∷ refused_if (bit_and (a_of caller) caller.view.part.trace_mask == 0) no_action ∷ []) caller (tracing caller)
-    (text_test caller (b_of caller) 8, (action_test _, tt)) has (tracing_range caller has)
-
-reading_range : {T : Type 0} (size : ℕ) (bytes : T → List ℕ) (kept : Kept T) (caller : Caller) → AreBytes (entry_seen bytes caller kept) → IsCallerInRange caller → IsServedInRange (reading size bytes kept caller)
-reading_range size bytes kept caller each has =
-    tested_range (target caller (a_of caller) ∷ refused_if (is_missing caller kept) not_available ∷ room caller (c_of caller) size ∷ []) caller _
-    (target_test caller (a_of caller), (available_test _, (room_test caller (c_of caller) size, tt))) has (writes (c_of caller) (entry_seen bytes caller kept) caller.state each has.state)
-
-counting_range : {T : Type 0} (kept : Kept T) (caller : Caller) → IsCallerInRange caller → IsServedInRange (counting kept caller)
-counting_range kept caller has =
-    tested_range (target caller (a_of caller) ∷ room caller (b_of caller) 8 ∷ []) caller _ (target_test caller (a_of caller), (room_test caller (b_of caller) 8, tt)) has
-    (writes (b_of caller) (log_counts caller kept) caller.state (either_bytes (is_own caller) (counts_bytes kept) (shown caller.sight) (count_bytes kept) (shown_are_bytes caller.sight has.sight)) has.state)
-
-trace_read_range : (caller : Caller) → IsCallerInRange caller → IsServedInRange (trace_read caller)
-unfolding trace_read
-trace_read_range caller has =
-    reading_range 24 trace_bytes caller.state.traces caller
-    (either_bytes (is_own caller) (bytes_of_entry trace_bytes (entry_at (b_of caller) caller.state.traces)) (shown caller.sight) (trace_read_bytes (b_of caller) caller.state.traces has.state.traces) (shown_are_bytes caller.sight has.sight)) has
-
-trace_status_range : (caller : Caller) → IsCallerInRange caller → IsServedInRange (trace_status caller)
-unfolding trace_status
-trace_status_range caller has = counting_range caller.state.traces caller has
-
-raise_event_range : (caller : Caller) → IsCallerInRange caller → IsServedInRange (raise_event caller)
-unfolding raise_event
-raise_event_range caller has = record { after = answer_range 0 caller.state (omega arith) has.state; upshot = tt }
-
-hm_read_range : (caller : Caller) → IsCallerInRange caller → IsServedInRange (hm_read caller)
-unfolding hm_read
-hm_read_range caller has =
-    reading_range 20 health_bytes caller.state.health caller
-    (either_bytes (is_own caller) (bytes_of_entry health_bytes (entry_at (b_of caller) caller.state.health)) (shown caller.sight) (health_read_bytes (entry_at (b_of caller) caller.state.health)) (shown_are_bytes caller.sight has.sight)) has
-
-hm_status_range : (caller : Caller) → IsCallerInRange caller → IsServedInRange (hm_status caller)
-unfolding hm_status
-hm_status_range caller has = counting_range caller.state.health caller has
-
--- the calls on interrupts, the console, input words and the virtual processor
-set_irqmask_range : (caller : Caller) → IsCallerInRange caller → IsServedInRange (set_irqmask caller)
-unfolding set_irqmask
-set_irqmask_range caller has = answers 0 _ (omega arith) (same_range caller.state _ refl refl refl refl refl has.state)
-
-clear_irqmask_range : (caller : Caller) → IsCallerInRange caller → IsServedInRange (clear_irqmask caller)
-unfolding clear_irqmask
-clear_irqmask_range caller has = answers 0 _ (omega arith) (same_range caller.state _ refl refl refl refl refl has.state)
-
-write_console_range : (caller : Caller) → IsCallerInRange caller → IsServedInRange (write_console caller)
-unfolding write_console
-write_console_range caller has =
-    tested_range (refused_if _ invalid_parameter ∷ text caller (a_of caller) (b_of caller) ∷ []) caller _ (parameter_test _, (text_test caller (a_of caller) (b_of caller), tt)) has
-    (record { after = answer_range (b_of caller) caller.state (register_word caller.state.core 10 has.state.core) has.state; upshot = tt })
-
 input_range : (inputs : List ℕ) (caller : Caller) → IsCallerInRange caller → IsServedInRange (input_read inputs caller)
 unfolding with_written
 input_range [] caller has = answers not_available caller.state (omega arith) has.state
@@ -642,10 +457,6 @@ input_range (next ∷ rest) caller has =
     (answers 0 (record (with_written (a_of caller) (word next) caller.state) { inputs = rest }) (omega arith)
     (same_range (with_written (a_of caller) (word next) caller.state) (record (with_written (a_of caller) (word next) caller.state) { inputs = rest }) refl refl refl refl refl
     (written_range (a_of caller) (word next) caller.state (number_bytes w32 next) has.state)))
-
-read_input_range : (caller : Caller) → IsCallerInRange caller → IsServedInRange (read_input caller)
-unfolding read_input
-read_input_range caller has = input_range caller.state.inputs caller has
 
 -- a call that is undone
 undone_range : (caller : Caller) (ps : PartitionState) → IsCallerInRange caller → IsPartitionInRange ps → IsServedInRange (undone caller ps)
@@ -659,34 +470,8 @@ return_range (Ok left) r caller core base has = record { after = with_core calle
 return_range (Err Unaligned) r caller core base has = answers invalid_parameter caller.state (omega arith) has.state
 return_range (Err Stack) r caller core base has = undone_range caller caller.state has has.state
 
-iret_range : (caller : Caller) → IsCallerInRange caller → IsServedInRange (iret caller)
-unfolding iret
-iret_range caller has =
-    let r = returned (areas_of caller.view) caller.state.traps caller.state.core caller.state.memory in
-    let is = returned_in_range (areas_of caller.view) caller.state.traps caller.state.core caller.state.memory has.state.core has.state.memory in
-    return_range r.answer r caller is.core is.base has
-
-set_psr_range : (caller : Caller) → IsCallerInRange caller → IsServedInRange (set_psr caller)
-unfolding set_psr
-set_psr_range caller has =
-    answers 0 _ (omega arith) (with_core caller.state (record caller.state {
-      core = with_icc caller.state.core (a_of caller / 2 ^ 20 % 16);
-      traps = record caller.state.traps { enabled = bit_at (a_of caller) 5 == 1 };
-    }) (with_icc_words caller.state.core (a_of caller / 2 ^ 20 % 16) (omega arith) has.state.core) refl refl refl refl has.state)
-
 table_ends : (a : ℕ) → a < 2 ^ 32 → a - a % 4096 + 4096 ≤ 2 ^ 32
 table_ends a small = omega (arith, small)
-
-set_tbr_range : (caller : Caller) → IsCallerInRange caller → IsServedInRange (set_tbr caller)
-unfolding set_tbr
-set_tbr_range caller has =
-    answers 0 (record caller.state { traps = record caller.state.traps { base = a_of caller - a_of caller % 4096 } }) (omega arith) (record {
-      core = has.state.core;
-      memory = has.state.memory;
-      table = table_ends (a_of caller) (register_word caller.state.core 9 has.state.core);
-      status = has.state.status;
-      traces = has.state.traces;
-    })
 
 flushed_range : (count : ℕ) (areas : List Area) (moved : Moved) → IsMovedInRange moved → IsMovedInRange (flushed count areas moved)
 flushed_range zero areas moved is = is
@@ -702,63 +487,180 @@ flush_range : (answer : Result (Unit {0}) StackFault) (ps : PartitionState) (cal
 flush_range (Ok all) ps caller is has = answers 0 ps (omega arith) is
 flush_range (Err fault) ps caller is has = undone_range caller ps has is
 
-flush_regwin_range : (caller : Caller) → IsCallerInRange caller → IsServedInRange (flush_regwin caller)
-unfolding flush_regwin
-flush_regwin_range caller has =
+-- the bytes of each of these are bytes
+abbrev AreWritings : List Writing → Type 0
+AreWritings writings = AllByRecursion (λ (writing : Writing). AreBytes writing.bytes) writings
+
+writings_range : (writings : List Writing) (ps : PartitionState) → AreWritings writings → IsPartitionInRange ps → IsPartitionInRange (with_writings writings ps)
+writings_range [] ps each has = has
+writings_range (writing ∷ writings) ps each has = writings_range writings (with_written writing.address writing.bytes ps) each.1 (written_range writing.address writing.bytes ps each.0 has)
+
+-- the numbers of what is changed
+abbrev IsChangeInRange : OwnChange → Type 0
+IsChangeInRange Waits = Unit {0}
+IsChangeInRange (ArmsTimer clock timer) = Unit {0}
+IsChangeInRange (SetsMask mask) = Unit {0}
+IsChangeInRange (SetsCodes icc enabled) = icc < 16
+IsChangeInRange (SetsBase base) = base + 4096 ≤ 2 ^ 32
+
+change_range : (change : OwnChange) (ps : PartitionState) → IsChangeInRange change → IsPartitionInRange ps → IsPartitionInRange (with_change change ps)
+change_range Waits ps is has = same_range ps (record ps { state = Idle }) refl refl refl refl refl has
+change_range (ArmsTimer clock timer) ps is has = same_range ps (with_change (ArmsTimer clock timer) ps) refl refl refl refl refl has
+change_range (SetsMask mask) ps is has = same_range ps (with_change (SetsMask mask) ps) refl refl refl refl refl has
+change_range (SetsCodes icc enabled) ps is has = with_core ps (with_change (SetsCodes icc enabled) ps) (with_icc_words ps.core icc is has.core) refl refl refl refl has
+change_range (SetsBase base) ps is has = record { core = has.core; memory = has.memory; table = is; status = has.status; traces = has.traces }
+
+-- the numbers of an effect
+abbrev IsEffectInRange : CallEffect → Type 0
+IsEffectInRange (GivesAnswer value writings) = (value < 2 ^ 32) × AreWritings writings
+IsEffectInRange (PrintsBytes bytes value) = value < 2 ^ 32
+IsEffectInRange (GivesOrder id an_order) = IsOrder (Some an_order)
+IsEffectInRange (DoesToAll event) = Unit {0}
+IsEffectInRange (RequestsPlan plan writings) = AreWritings writings
+IsEffectInRange (PutsBytes the_kind address size) = Unit {0}
+IsEffectInRange TakesMessage = Unit {0}
+IsEffectInRange (SendsSignal number) = Unit {0}
+IsEffectInRange ShowsSample = Unit {0}
+IsEffectInRange (ShowsPort the_kind size status) = (port : MadePort) → AreBytes (status port)
+IsEffectInRange (CreatesPort the_kind way size most name) = Unit {0}
+IsEffectInRange (ChangesOwn change) = IsChangeInRange change
+IsEffectInRange EntersTrace = Unit {0}
+IsEffectInRange UsesInput = Unit {0}
+IsEffectInRange (MeetsEvent event word) = Unit {0}
+IsEffectInRange GoesBack = Unit {0}
+IsEffectInRange SpillsWindows = Unit {0}
+
+-- the tests of a right refuse with words
+right_range : (effect : CallEffect) (caller : Caller) → AreTests (right_tests effect caller)
+right_range (GivesAnswer value writings) caller = tt
+right_range (PrintsBytes bytes value) caller = tt
+right_range (GivesOrder id an_order) caller = (target_test caller id, tt)
+right_range (DoesToAll event) caller = (system_test caller, tt)
+right_range (RequestsPlan plan writings) caller = (system_test caller, (parameter_test _, tt))
+right_range (PutsBytes the_kind address size) caller = tt
+right_range TakesMessage caller = tt
+right_range (SendsSignal number) caller = (parameter_test _, tt)
+right_range ShowsSample caller = tt
+right_range (ShowsPort the_kind size status) caller = tt
+right_range (CreatesPort the_kind way size most name) caller = tt
+right_range (ChangesOwn change) caller = tt
+right_range EntersTrace caller = tt
+right_range UsesInput caller = tt
+right_range (MeetsEvent event word) caller = tt
+right_range GoesBack caller = tt
+right_range SpillsWindows caller = tt
+
+more_tests : (one other : List Test) → AreTests one → AreTests other → AreTests (one ++ other)
+more_tests [] other first second = second
+more_tests (test ∷ tests) other first second = (first.0, more_tests tests other first.1 second)
+
+-- a message that is put through a port of a kind
+put_range : (the_kind : Kind) (address size : ℕ) (caller : Caller) (port : MadePort) → IsCallerInRange caller
+    → IsServedInRange (tested (source_only port ∷ size_fits port size ∷ text caller address size ∷ queue_room the_kind port) caller (putting_bytes address size caller port))
+put_range kind.Sampling address size caller port has =
+    tested_range (source_only port ∷ size_fits port size ∷ text caller address size ∷ []) caller (putting_bytes address size caller port)
+    (allowed_test _, (parameter_test _, (text_test caller address size, tt))) has (puts address size caller port has)
+put_range kind.Queuing address size caller port has =
+    tested_range (source_only port ∷ size_fits port size ∷ text caller address size ∷ refused_if (is_full port) not_available ∷ []) caller (putting_bytes address size caller port)
+    (allowed_test _, (parameter_test _, (text_test caller address size, (available_test _, tt)))) has (puts address size caller port has)
+
+-- what each effect comes to
+effect_range : (effect : CallEffect) (caller : Caller) → IsEffectInRange effect → IsCallerInRange caller → IsServedInRange (comes_to effect caller)
+effect_range (GivesAnswer value writings) caller is has = answers value (with_writings writings caller.state) is.0 (writings_range writings caller.state is.1 has.state)
+effect_range (PrintsBytes bytes value) caller is has = record { after = answer_range value caller.state is has.state; upshot = tt }
+effect_range (GivesOrder id an_order) caller is has = acts_so (told.Upon id an_order) 0 caller.state is (omega arith) has.state
+effect_range (DoesToAll event) caller is has = acts_so (told.UponAll event) 0 caller.state tt (omega arith) has.state
+effect_range (RequestsPlan plan writings) caller is has = acts_so (told.Plans (told.Asked plan)) 0 (with_writings writings caller.state) tt (omega arith) (writings_range writings caller.state is has.state)
+effect_range (PutsBytes the_kind address size) caller is has = on_port_range (made_port the_kind caller) caller _ (made_in_range the_kind caller has) has (λ port in_range. put_range the_kind address size caller port has)
+effect_range TakesMessage caller is has = on_port_range (made_port kind.Queuing caller) caller _ (made_in_range kind.Queuing caller has) has (λ port in_range.
+    tested_range (destination_only port ∷ []) caller _ (allowed_test _, tt) has (first_range port.content caller port in_range has))
+effect_range (SendsSignal number) caller is has = acts_so (told.Trades (OwnSignals number)) 0 caller.state tt (omega arith) has.state
+effect_range ShowsSample caller is has = on_port_range (made_port kind.Sampling caller) caller _ (made_in_range kind.Sampling caller has) has (λ port in_range.
+    tested_range (destination_only port ∷ []) caller _ (allowed_test _, tt) has (held_range port.content caller port in_range has))
+effect_range (ShowsPort the_kind size status) caller is has = on_port_range (made_port the_kind caller) caller _ (made_in_range the_kind caller has) has (λ port in_range.
+    tested_range (room caller (b_of caller) size ∷ []) caller _ (room_test caller (b_of caller) size, tt) has
+    (answers 0 (with_written (b_of caller) (status port) caller.state) (omega arith) (written_range (b_of caller) (status port) caller.state (is port) has.state)))
+effect_range (CreatesPort the_kind way size most name) caller is has = creating_range the_kind way size most name caller has
+effect_range (ChangesOwn change) caller is has = answers 0 (with_change change caller.state) (omega arith) (change_range change caller.state is has.state)
+effect_range EntersTrace caller is has = tracing_range caller has
+effect_range UsesInput caller is has = input_range caller.state.inputs caller has
+effect_range (MeetsEvent event word) caller is has = record { after = answer_range 0 caller.state (omega arith) has.state; upshot = tt }
+effect_range GoesBack caller is has =
+    let r = returned (areas_of caller.view) caller.state.traps caller.state.core caller.state.memory in
+    let in_range = returned_in_range (areas_of caller.view) caller.state.traps caller.state.core caller.state.memory has.state.core has.state.memory in
+    return_range r.answer r caller in_range.core in_range.base has
+effect_range SpillsWindows caller is has =
     let moved = flushed 8 (areas_of caller.view) (move_made caller.state.core caller.state.memory) in
-    let is = flushed_range 8 (areas_of caller.view) (move_made caller.state.core caller.state.memory) (record { core = has.state.core; memory = has.state.memory }) in
+    let in_range = flushed_range 8 (areas_of caller.view) (move_made caller.state.core caller.state.memory) (record { core = has.state.core; memory = has.state.memory }) in
     flush_range moved.answer (record caller.state { core = moved.core; memory = moved.memory }) caller
-    (core_in_range caller.state (record caller.state { core = moved.core; memory = moved.memory }) is.core is.memory refl refl refl has.state) has
+    (core_in_range caller.state (record caller.state { core = moved.core; memory = moved.memory }) in_range.core in_range.memory refl refl refl has.state) has
 
-raise_ipvi_range : (caller : Caller) → IsCallerInRange caller → IsServedInRange (raise_ipvi caller)
-unfolding raise_ipvi
-raise_ipvi_range caller has =
-    tested_range (refused_if _ invalid_parameter ∷ []) caller _ (parameter_test _, tt) has (acts_so (told.Trades (OwnSignals (a_of caller))) 0 caller.state tt (omega arith) has.state)
+-- an effect after tests is in range
+record IsAskedInRange (asked : TestedEffect) : Type 0 where
+  tests : AreTests asked.tests
+  effect : IsEffectInRange asked.effect
 
--- the call with a number, or a later one
-choice : (b : Bool) (one other : Served) → IsServedInRange one → IsServedInRange other → IsServedInRange (if b then one else other)
-choice true one other first further = first
-choice false one other first further = further
+-- so is what each call tests and does
+call_in_range : (call : Call) (caller : Caller) → IsCallerInRange caller → IsAskedInRange (effect_of_call call caller)
+call_in_range GetSelf caller has = record { tests = tt; effect = (has.view.id, tt) }
+call_in_range HaltPartition caller has = record { tests = tt; effect = tt }
+call_in_range ResetPartition caller has = record { tests = (mode_test _, tt); effect = register_word caller.state.core 11 has.state.core }
+call_in_range SuspendPartition caller has = record { tests = tt; effect = tt }
+call_in_range ResumePartition caller has = record { tests = tt; effect = tt }
+call_in_range ShutdownPartition caller has = record { tests = tt; effect = tt }
+call_in_range IdleSelf caller has = record { tests = tt; effect = tt }
+call_in_range GetPartitionStatus caller has = record {
+  tests = (target_test caller (a_of caller), (room_test caller (b_of caller) 20, tt));
+  effect = (omega arith, (either_bytes (a_of caller == caller.view.id) (partition_status caller.state) (shown caller.sight) (status_bytes caller.state) (shown_are_bytes caller.sight has.sight), tt));
+}
+call_in_range HaltSystem caller has = record { tests = tt; effect = tt }
+call_in_range ResetSystem caller has = record { tests = (mode_test _, tt); effect = tt }
+call_in_range GetSystemStatus caller has = record { tests = (system_test caller, (room_test caller (a_of caller) 8, tt)); effect = (omega arith, (shown_are_bytes caller.sight has.sight, tt)) }
+call_in_range GetTime caller has = record { tests = (parameter_test _, (room_test caller (b_of caller) 8, tt)); effect = (omega arith, (number_bytes w64 _, tt)) }
+call_in_range SetTimer caller has = record { tests = (parameter_test _, (parameter_test _, tt)); effect = tt }
+call_in_range SwitchSchedPlan caller has = record { tests = (room_test caller (b_of caller) 4, tt); effect = (shown_are_bytes caller.sight has.sight, tt) }
+call_in_range GetPlanStatus caller has = record { tests = (system_test caller, (room_test caller (a_of caller) 20, tt)); effect = (omega arith, (shown_are_bytes caller.sight has.sight, tt)) }
+call_in_range CreateSamplingPort caller has = record { tests = tt; effect = tt }
+call_in_range WriteSamplingMessage caller has = record { tests = tt; effect = tt }
+call_in_range ReadSamplingMessage caller has = record { tests = tt; effect = tt }
+call_in_range GetSamplingPortStatus caller has = record { tests = tt; effect = λ port. sampling_status_bytes port.shape.kind caller.time port.content }
+call_in_range CreateQueuingPort caller has = record { tests = tt; effect = tt }
+call_in_range SendQueuingMessage caller has = record { tests = tt; effect = tt }
+call_in_range ReceiveQueuingMessage caller has = record { tests = tt; effect = tt }
+call_in_range GetQueuingPortStatus caller has = record { tests = tt; effect = λ port. queuing_status_bytes port.shape.kind port.content }
+call_in_range TraceEvent caller has = record { tests = (text_test caller (b_of caller) 8, (action_test _, tt)); effect = tt }
+call_in_range TraceRead caller has = record {
+  tests = (target_test caller (a_of caller), (available_test _, (room_test caller (c_of caller) 24, tt)));
+  effect = (omega arith, (either_bytes (is_own caller) (bytes_of_entry trace_bytes (entry_at (b_of caller) caller.state.traces)) (shown caller.sight) (trace_read_bytes (b_of caller) caller.state.traces has.state.traces) (shown_are_bytes caller.sight has.sight), tt));
+}
+call_in_range TraceStatus caller has = record {
+  tests = (target_test caller (a_of caller), (room_test caller (b_of caller) 8, tt));
+  effect = (omega arith, (either_bytes (is_own caller) (counts_bytes caller.state.traces) (shown caller.sight) (count_bytes caller.state.traces) (shown_are_bytes caller.sight has.sight), tt));
+}
+call_in_range RaiseEvent caller has = record { tests = tt; effect = tt }
+call_in_range HmRead caller has = record {
+  tests = (target_test caller (a_of caller), (available_test _, (room_test caller (c_of caller) 20, tt)));
+  effect = (omega arith, (either_bytes (is_own caller) (bytes_of_entry health_bytes (entry_at (b_of caller) caller.state.health)) (shown caller.sight) (health_read_bytes (entry_at (b_of caller) caller.state.health)) (shown_are_bytes caller.sight has.sight), tt));
+}
+call_in_range HmStatus caller has = record {
+  tests = (target_test caller (a_of caller), (room_test caller (b_of caller) 8, tt));
+  effect = (omega arith, (either_bytes (is_own caller) (counts_bytes caller.state.health) (shown caller.sight) (count_bytes caller.state.health) (shown_are_bytes caller.sight has.sight), tt));
+}
+call_in_range SetIrqmask caller has = record { tests = tt; effect = tt }
+call_in_range ClearIrqmask caller has = record { tests = tt; effect = tt }
+call_in_range WriteConsole caller has = record { tests = (parameter_test _, (text_test caller (a_of caller) (b_of caller), tt)); effect = register_word caller.state.core 10 has.state.core }
+call_in_range ReadInput caller has = record { tests = tt; effect = tt }
+call_in_range Iret caller has = record { tests = tt; effect = tt }
+call_in_range SetPsr caller has = record { tests = tt; effect = omega arith }
+call_in_range SetTbr caller has = record { tests = tt; effect = table_ends (a_of caller) (register_word caller.state.core 9 has.state.core) }
+call_in_range FlushRegwin caller has = record { tests = tt; effect = tt }
+call_in_range RaiseIpvi caller has = record { tests = tt; effect = tt }
+
+asked_range : (asked : TestedEffect) (caller : Caller) → IsAskedInRange asked → IsCallerInRange caller → IsServedInRange (performed asked caller)
+asked_range asked caller is has =
+    tested_range (right_tests asked.effect caller ++ asked.tests) caller (comes_to asked.effect caller)
+    (more_tests (right_tests asked.effect caller) asked.tests (right_range asked.effect caller) is.tests) has (effect_range asked.effect caller is.effect has)
 
 pub served_range : (caller : Caller) → IsCallerInRange caller → IsServedInRange (served caller)
-unfolding served
 served_range caller has =
-    choice (number_of caller == 1) _ _ (get_self_range caller has)
-    (choice (number_of caller == 2) _ _ (halt_partition_range caller has)
-    (choice (number_of caller == 3) _ _ (reset_partition_range caller has)
-    (choice (number_of caller == 4) _ _ (suspend_partition_range caller has)
-    (choice (number_of caller == 5) _ _ (resume_partition_range caller has)
-    (choice (number_of caller == 6) _ _ (shutdown_partition_range caller has)
-    (choice (number_of caller == 7) _ _ (idle_self_range caller has)
-    (choice (number_of caller == 8) _ _ (get_partition_status_range caller has)
-    (choice (number_of caller == 9) _ _ (halt_system_range caller has)
-    (choice (number_of caller == 10) _ _ (reset_system_range caller has)
-    (choice (number_of caller == 11) _ _ (get_system_status_range caller has)
-    (choice (number_of caller == 12) _ _ (get_time_range caller has)
-    (choice (number_of caller == 13) _ _ (set_timer_range caller has)
-    (choice (number_of caller == 14) _ _ (switch_sched_plan_range caller has)
-    (choice (number_of caller == 15) _ _ (get_plan_status_range caller has)
-    (choice (number_of caller == 16) _ _ (create_sampling_port_range caller has)
-    (choice (number_of caller == 17) _ _ (write_sampling_message_range caller has)
-    (choice (number_of caller == 18) _ _ (read_sampling_message_range caller has)
-    (choice (number_of caller == 19) _ _ (get_sampling_port_status_range caller has)
-    (choice (number_of caller == 20) _ _ (create_queuing_port_range caller has)
-    (choice (number_of caller == 21) _ _ (send_queuing_message_range caller has)
-    (choice (number_of caller == 22) _ _ (receive_queuing_message_range caller has)
-    (choice (number_of caller == 23) _ _ (get_queuing_port_status_range caller has)
-    (choice (number_of caller == 24) _ _ (trace_event_range caller has)
-    (choice (number_of caller == 25) _ _ (trace_read_range caller has)
-    (choice (number_of caller == 26) _ _ (trace_status_range caller has)
-    (choice (number_of caller == 27) _ _ (raise_event_range caller has)
-    (choice (number_of caller == 28) _ _ (hm_read_range caller has)
-    (choice (number_of caller == 29) _ _ (hm_status_range caller has)
-    (choice (number_of caller == 30) _ _ (set_irqmask_range caller has)
-    (choice (number_of caller == 31) _ _ (clear_irqmask_range caller has)
-    (choice (number_of caller == 32) _ _ (write_console_range caller has)
-    (choice (number_of caller == 33) _ _ (read_input_range caller has)
-    (choice (number_of caller == 34) _ _ (iret_range caller has)
-    (choice (number_of caller == 35) _ _ (set_psr_range caller has)
-    (choice (number_of caller == 36) _ _ (set_tbr_range caller has)
-    (choice (number_of caller == 37) _ _ (flush_regwin_range caller has)
-    (choice (number_of caller == 38) _ _ (raise_ipvi_range caller has)
-    (answers unknown_call caller.state (omega arith) has.state))))))))))))))))))))))))))))))))))))))
+    every_call caller IsServedInRange (λ call. asked_range (effect_of_call call caller) caller (call_in_range call caller has) has) (answers unknown_call caller.state (omega arith) has.state)

@@ -1,5 +1,5 @@
 -- How a call ends by its arguments.
-use Rattle.std.proofs.Common.{◌≡◌, ◌≢◌, ℕ, List, None, refl, ◌∙◌, sym, subst}
+use Rattle.std.proofs.Common.{◌≡◌, ◌≢◌, ℕ, List, refl, ◌∙◌, sym, subst}
 use Rattle.std.specs.Prelude.{Result, Ok, Err, String, Vec}
 use Rattle.std.specs.IoError.{error_kind}
 use Rattle.std.specs.declared.io.Error.{Error}

@@ -36,7 +36,8 @@ pub fn program<O: Write + Drop, E: Write + Drop>(
     stderr: E,
 ) -> ExitCode
     ensures ended { IsEndedBy given (exit_status result) }
-    ensures usage { IfOk given (λ texts. exit_status result ≢ 6 → ((exit_status result ≡ 2) ↔ (command_of (after_name texts.items) ≡ None))) }
+    ensures usage { IfOk given (λ texts. exit_status result ≢ 6
+        → ((exit_status result ≡ 2) ↔ (command_of (after_name texts.items) ≡ None))) }
 {
     let mut out = OutSink::new(stdout);
     let mut err = OutSink::new(stderr);
