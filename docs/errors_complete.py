@@ -4,7 +4,7 @@ no text of the code has; and for each type of a fault which command prints its t
 which one is named and does not. Ends with 1 where there is one of any, else with 0.
 
 The texts are those of crates/file_commands/src/complaint.rt, those that another file of that crate or of
-run_commands, xm_commands, file_maker or alone_replay makes itself, those of each `Display` of a type named ..Fault in a crate,
+run_commands, xm_commands, builders or replay_setup makes itself, those of each `Display` of a type named ..Fault in a crate,
 and those that the script `xm_run`, `tools/words.sh` and `tools/launcher` say on standard error.
 A row is a line of a table whose first column has the text as code, behind a paragraph that begins with
 `Texts of` and the type; values are one word each. The variant `Memory` is left out: want of memory is told by the program as `no memory`.
@@ -19,13 +19,13 @@ from pathlib import Path
 
 ROOT = Path(__file__).resolve().parent.parent
 COMPLAINTS = "complaint.rt"
-MAKERS = ("file_commands", "run_commands", "xm_commands", "file_maker", "alone_replay")
+MAKERS = ("file_commands", "run_commands", "xm_commands", "builders", "replay_setup")
 SCRIPT = "script"
 SHELL = ("xm_run", "tools/words.sh", "tools/launcher")
 # The words of the document for what a text of the script has as a value.
 VALUES = r"\b(?:FILE|FOLDERS?|CRATE|DATE|TIME|TEXT|WHAT|[NMK])\b"
 WORK = ROOT / "crates/xm_commands/src/work.rt"
-GRAMMAR = ROOT / "crates/xm_words/specs/Grammar.antt"
+GRAMMAR = ROOT / "crates/command_line/specs/Grammar.antt"
 
 
 def spelled(text):
@@ -114,14 +114,14 @@ def command_words():
 
 def functions():
     """The text of each function of the commands, by its name with its crate; a name stands for those of all crates, too.
-    What is done for one kind of a `Telling` alone is a function of that kind."""
+    What is done for one kind of a `Printout` alone is a function of that kind."""
     found = {}
     for path in sorted(path for crate in MAKERS for path in ROOT.glob(f"crates/{crate}/src/**/*.rt")):
         crate = path.relative_to(ROOT).parts[1]
         source = re.sub(r"//.*", "", path.read_text(encoding="utf-8"))
         parts = re.split(r"\bfn (\w+)", source)
         for name, text in zip(parts[1::2], parts[2::2]):
-            arms = re.split(r"\b(Telling::\w+) =>", text)
+            arms = re.split(r"\b(Printout::\w+) =>", text)
             for key, body in [(name, arms[0]), *zip(arms[1::2], arms[2::2])]:
                 for where in (crate, None):
                     found[where, key] = found.get((where, key), "") + body
@@ -130,7 +130,7 @@ def functions():
 
 def called(crate, text, known):
     """The functions that a text calls, of its own crate where that has one of the name. No method makes a fault's text."""
-    for name in re.findall(r"Telling::\w+|(?<![.:\w])\w+(?=\()", text):
+    for name in re.findall(r"Printout::\w+|(?<![.:\w])\w+(?=\()", text):
         where = crate if (crate, name) in known else None
         if (where, name) in known:
             yield where, name

@@ -17,7 +17,7 @@ from pathlib import Path
 ROOT = Path(__file__).resolve().parent.parent
 PLAIN = "Plain types"
 NO_CLAUSE = "What no clause says"
-OF_SUITES = {"case_files"}
+OF_SUITES = {"case_reader"}
 
 
 def libraries():

@@ -1,5 +1,5 @@
 #!/usr/bin/env python3
-"""Writes the three containers of crates/cue_rows, and the lines that the program has to print.
+"""Writes the three containers of crates/cue_suite, and the lines that the program has to print.
 
 usage: cues.py FOLDER
 

@@ -1,5 +1,5 @@
 #!/usr/bin/env python3
-"""Writes the container and the input words of crates/worked_files, and what that program has to print.
+"""Writes the container and the input words of crates/output_suite, and what that program has to print.
 
 usage: files.py FOLDER
 

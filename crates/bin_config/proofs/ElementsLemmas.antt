@@ -4,11 +4,11 @@ use Rattle.std.specs.Prelude.{Ok, Err}
 use Rattle.std.proofs.lemmas.List.{append-nil, take_all, take_more_set}
 use Rattle.std.proofs.Math.ListN.{length-set}
 use Rattle.xm_base.specs.Cursor.{Place}
-use Rattle.sealed_files.specs.Steps.{◌>>=◌}
+use Rattle.file_headers.specs.Steps.{◌>>=◌}
 use Rattle.bin_config.specs.Reading.{Read, elements_at}
 use Rattle.bin_config.specs.Gives.{Fails, with_front}
-use Rattle.file_texts.specs.declared.fault.XmcFault.{XmcFault}
-use Rattle.file_texts.specs.declared.fault.XmcFault.TheVariants as fault
+use Rattle.fault_messages.specs.declared.fault.XmcFault.{XmcFault}
+use Rattle.fault_messages.specs.declared.fault.XmcFault.TheVariants as fault
 
 -- one more element after a prefix
 pub with_front-more : {X : Type 0} (front : List X) (x : X) (read : Read (List X)) → with_front (front ++ x ∷ []) read ≡ with_front front (read >>= λ xs. Ok (x ∷ xs.0, xs.1))
@@ -76,5 +76,5 @@ pub elements_filled : {X : Type 0} (element : Place → Read X) (places : List X
 elements_filled element places n place r past sofar =
     elements_all element (length places) n place (take n places) r past sofar ∙ ap (λ all. Ok (all, place)) (take_all n places past)
 
--- what a loop over places comes to
+-- the outcome of a loop over places
 pub ruleset elements_fill = (elements_set, elements_fails, elements_filled)

@@ -19,7 +19,7 @@ few_slots conf h n d below = (h.slots n d below).few
 pub few_areas : (conf : Conf) → HasCounts conf → All (λ part. length part.areas ≤ 8) conf.parts
 few_areas conf h n d below = (h.areas n d below).few
 
--- what the counts tell
+-- what the counts say
 pub ruleset few = (few_slots, few_areas)
 
 -- a channel of its kind has few destinations
@@ -42,5 +42,5 @@ fitting_counts conf fits = fits.counts
 pub fitting_two : (conf : Conf) → Fits (described conf) → FitsVersion Two conf
 fitting_two conf fits = record { fits = fits; links = tt }
 
--- what the rules tell
+-- what the rules say
 pub ruleset fitting = (fitting_counts, fitting_dests, fitting_two)

@@ -3,7 +3,7 @@ use Rattle.std.proofs.Common.{◌≡◌, List, ℕ, Option, Some, None, Result, 
 use Rattle.std.specs.Prelude.{IfOk}
 use Rattle.xm_base.specs.Bytes.{AreBytes}
 use Rattle.xm_conf.specs.Configuration.{Conf}
-use Rattle.sealed_files.specs.Gives.{Gives}
+use Rattle.file_headers.specs.Gives.{Gives}
 use Rattle.bin_config.specs.Gives.{Fails}
 use Rattle.bin_config.specs.Laws.{IsSpellingOf, ReadIsSpelled, SpelledIsRead, UpgradedIsSame}
 use Rattle.bin_config.specs.RangeLemmas.{fits_two, ranges_if_spelled}
@@ -11,7 +11,7 @@ use Rattle.bin_config.specs.Reading.{read_as, read_of, read_within}
 use Rattle.bin_config.specs.Spelled.{HasConfRanges}
 use Rattle.bin_config.specs.Version.{FitsVersion, IsWanted}
 use Rattle.bin_config.specs.Xmc.{xmc}
-use Rattle.file_texts.specs.declared.fault.XmcFault.{XmcFault}
+use Rattle.fault_messages.specs.declared.fault.XmcFault.{XmcFault}
 use Rattle.bin_config.specs.declared.version.Version.{Version}
 use Rattle.bin_config.specs.declared.version.Version.TheVariants.{Two}
 

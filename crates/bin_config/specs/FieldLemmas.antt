@@ -6,18 +6,18 @@ use Rattle.std.proofs.lemmas.List.Concat.{flat_map-cons}
 use Rattle.std.proofs.lemmas.List.Elements.{All-from_recursion, recursion_from_All}
 use Rattle.xm_base.specs.Bytes.{AreBytes}
 use Rattle.xm_base.specs.Cursor.{Place, ahead}
-use Rattle.sealed_files.specs.FieldLemmas.{IsWide, Reads, Takes, number_again, number_takes, takes_both, wide16, wide32, wide8}
-use Rattle.sealed_files.specs.Fields.{number_at}
-use Rattle.sealed_files.specs.StepLemmas.{ok_is, stepped}
-use Rattle.sealed_files.specs.Steps.{◌>>=◌}
+use Rattle.file_headers.specs.FieldLemmas.{IsWide, Reads, Takes, number_again, number_takes, takes_both, wide16, wide32, wide8}
+use Rattle.file_headers.specs.Fields.{number_at}
+use Rattle.file_headers.specs.StepLemmas.{ok_is, stepped}
+use Rattle.file_headers.specs.Steps.{◌>>=◌}
 use Rattle.bin_config.specs.Reading.{Read, byte_field_at, half_word_at, word_field_at, or_fault, coded_at, elements_at, counted_at, conf_short}
 use Rattle.bin_config.specs.Spelled.{IsByte, IsHalfWord, HasFourBytes, AreFew}
 use Rattle.bin_config.specs.Xmc.{half_word, word_field, list_field}
 
 -- a field that had a value
-pub had : {X : Type 0} (at : ℕ) (behind : Place) (found : Option X) (x : X) (after : Place) → or_fault at behind found ≡ Ok (x, after) → (found ≡ Some x) × (behind ≡ after)
-had at behind (Some y) x after e = let same : (y, behind) ≡ (x, after) = ok_is (y, behind) (x, after) e in (ap (λ p. Some p.0) same, ap (λ p. p.1) same)
-had at behind None x after e = absurd cc
+pub had : {X : Type 0} (at : ℕ) (following : Place) (found : Option X) (x : X) (after : Place) → or_fault at following found ≡ Ok (x, after) → (found ≡ Some x) × (following ≡ after)
+had at following (Some y) x after e = let same : (y, following) ≡ (x, after) = ok_is (y, following) (x, after) e in (ap (λ p. Some p.0) same, ap (λ p. p.1) same)
+had at following None x after e = absurd cc
 
 -- a reader reads exactly what is spelled: what it gives is spelled so where it stood, and what is spelled is read
 pub record IsReaderOf {X : Type 0} (read : Place → Read X) (spell : X → List ℕ) (P : X → Type 0) : Type 0 where
@@ -72,7 +72,7 @@ coded_spells read spell P value code Q s there back = record {
       record { after = r.after; is = rw (r.is, c.0) refl; ahead = r.ahead };
 }
 
--- so many elements are spelled one after another
+-- this many elements are spelled one after another
 pub elements_takes : {X : Type 0} (read : Place → Read X) (spell : X → List ℕ) (P : X → Type 0) → IsReaderOf read spell P → (count : ℕ) (place : Place) (xs : List X) (after : Place)
     → AreBytes (ahead place) → elements_at read count place ≡ Ok (xs, after) → Takes place (flat_map spell xs) after × (length xs ≡ count) × AllByRecursion P xs
 elements_takes {X} read spell P s zero place xs after each e =
@@ -98,7 +98,7 @@ elements_again read spell P s place (x ∷ xs) rest each is =
     let others = elements_again read spell P s first.after xs rest each.1 first.ahead in
     record { after = others.after; is = rw (first.is, others.is) refl; ahead = others.ahead }
 
--- so many elements
+-- this many elements
 pub elements_spells : {X : Type 0} (read : Place → Read X) (spell : X → List ℕ) (P : X → Type 0) (count : ℕ) → IsReaderOf read spell P
     → IsReaderOf (elements_at read count) (flat_map spell) (λ xs. (length xs ≡ count) × AllByRecursion P xs)
 elements_spells read spell P count s = record {

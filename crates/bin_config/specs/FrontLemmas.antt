@@ -2,12 +2,12 @@
 use Rattle.std.proofs.Common.{◌≡◌, ℕ, List, ◌++◌, Result, Ok, refl, sym, ap, subst, ◌∙◌, append_assoc}
 use Rattle.xm_base.specs.Bytes.{AreBytes}
 use Rattle.xm_base.specs.Cursor.{Place, ahead}
-use Rattle.sealed_files.specs.FieldLemmas.{Takes, takes_both}
-use Rattle.sealed_files.specs.StepLemmas.{ok_is, stepped}
-use Rattle.sealed_files.specs.Steps.{◌>>=◌}
+use Rattle.file_headers.specs.FieldLemmas.{Takes, takes_both}
+use Rattle.file_headers.specs.StepLemmas.{ok_is, stepped}
+use Rattle.file_headers.specs.Steps.{◌>>=◌}
 use Rattle.bin_config.specs.Reading.{Read}
 use Rattle.bin_config.specs.FieldLemmas.{IsReaderOf}
-use Rattle.file_texts.specs.declared.fault.XmcFault.{XmcFault}
+use Rattle.fault_messages.specs.declared.fault.XmcFault.{XmcFault}
 
 -- fields before something: their values go to what follows, with the place after them
 abbrev pub LeadingFields : Type 0 → Type 1
@@ -38,11 +38,11 @@ one_field read Y more place = read place >>= λ a. more a.0 a.1
 
 -- one more field, which may depend on those before it
 abbrev pub then_of : {T B : Type 0} → LeadingFields T → (T → Place → Read B) → LeadingFields (T × B)
-then_of front read Y more place = front Y (λ t behind. read t behind >>= λ b. more (t, b.0) b.1) place
+then_of front read Y more place = front Y (λ t following. read t following >>= λ b. more (t, b.0) b.1) place
 
 -- all fields, as one value
 abbrev pub all_fields : {T X : Type 0} → LeadingFields T → (T → X) → Place → Read X
-all_fields {T} {X} front to place = front (X × Place) (λ t behind. Ok (to t, behind)) place
+all_fields {T} {X} front to place = front (X × Place) (λ t following. Ok (to t, following)) place
 
 -- one field is read as it is spelled
 pub first : {A : Type 0} {read : Place → Read A} {spell : A → List ℕ} {P : A → Type 0} → IsReaderOf read spell P → Opens (one_field read) spell P
@@ -61,7 +61,7 @@ pub followed : {T B : Type 0} {front : LeadingFields T} {spell : T → List ℕ}
     → Opens front spell P → ((t : T) → IsReaderOf (read t) text_of (Q t)) → Opens (then_of front read) (λ x. spell x.0 ++ text_of x.1) (λ x. P x.0 × Q x.0 x.1)
 followed {T} {B} {front} {spell} {P} read text_of Q opens s = record {
   takes = λ Y more place end each e.
-      let o = opens.takes Y (λ t behind. read t behind >>= λ b. more (t, b.0) b.1) place end each e in
+      let o = opens.takes Y (λ t following. read t following >>= λ b. more (t, b.0) b.1) place end each e in
       let b = stepped (read o.value o.after) (λ b. more (o.value, b.0) b.1) end o.led in
       let t = (s o.value).takes o.after b.value.0 b.value.1 o.takes.rest b.is in
       record {
@@ -72,7 +72,7 @@ followed {T} {B} {front} {spell} {P} read text_of Q opens s = record {
         led = b.led;
       };
   again = λ Y more place x rest p is.
-      let o = opens.again Y (λ t behind. read t behind >>= λ b. more (t, b.0) b.1) place x.0 (text_of x.1 ++ rest) p.0 (is ∙ append_assoc (spell x.0) (text_of x.1) rest) in
+      let o = opens.again Y (λ t following. read t following >>= λ b. more (t, b.0) b.1) place x.0 (text_of x.1 ++ rest) p.0 (is ∙ append_assoc (spell x.0) (text_of x.1) rest) in
       let r = (s x.0).again o.after x.1 rest p.1 o.ahead in
       record { after = r.after; is = o.is ∙ rw r.is refl; ahead = r.ahead };
 }
@@ -88,14 +88,14 @@ pub made_of_fields : {T X : Type 0} {front : LeadingFields T} {spell : T → Lis
     → IsReaderOf (all_fields front to) text_of Q
 made_of_fields {T} {X} {front} {spell} {P} to from text_of Q opens there back same = record {
   takes = λ place x after each e.
-      let o = opens.takes (X × Place) (λ t behind. Ok (to t, behind)) place (x, after) each e in
+      let o = opens.takes (X × Place) (λ t following. Ok (to t, following)) place (x, after) each e in
       let h = there o.value o.is in
       let text : spell o.value ≡ text_of (to o.value) = ap spell (sym h.0) ∙ same (to o.value) h.1 in
       let R : X × Place → Type 0 = λ y. Takes place (text_of y.0) y.1 × Q y.0 in
       subst R (ok_is (to o.value, o.after) (x, after) o.led) (subst (λ (bytes : List ℕ). Takes place bytes o.after) text o.takes, h.1);
   again = λ place x rest q is.
       let h = back x q in
-      let o = opens.again (X × Place) (λ t behind. Ok (to t, behind)) place (from x) rest h.1 (is ∙ ap (λ bytes. bytes ++ rest) (sym (same x q))) in
+      let o = opens.again (X × Place) (λ t following. Ok (to t, following)) place (from x) rest h.1 (is ∙ ap (λ bytes. bytes ++ rest) (sym (same x q))) in
       record { after = o.after; is = o.is ∙ ap (λ y. Ok (y, o.after)) h.0; ahead = o.ahead };
 }
 

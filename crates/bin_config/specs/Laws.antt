@@ -6,7 +6,7 @@ use Rattle.bin_config.specs.Reading.{read_as, read_of, read_within}
 use Rattle.bin_config.specs.Spelled.{HasConfRanges, IsSpelledConf}
 use Rattle.bin_config.specs.Version.{FitsVersion, IsWanted, version_number}
 use Rattle.bin_config.specs.Xmc.{xmc}
-use Rattle.file_texts.specs.declared.fault.XmcFault.TheVariants as fault
+use Rattle.fault_messages.specs.declared.fault.XmcFault.TheVariants as fault
 use Rattle.bin_config.specs.declared.version.Version.{Version}
 use Rattle.bin_config.specs.declared.version.Version.TheVariants.{Two}
 
@@ -55,6 +55,6 @@ CutIsShort =
     (want : Option Version) (v : Version) (conf : Conf) (front rest : List ℕ) → IsWanted want v → IsSpelledConf v conf
     → xmc v conf ≡ front ++ rest → rest ≢ [] → 10 ≤ length front → read_within want front ≡ Err (fault.Short (length front))
 
--- what can be spelled is shorter than what its length field tells
+-- what can be spelled is shorter than what its length field can state
 abbrev pub FitsItsLength : Type 0
 FitsItsLength = (v : Version) (conf : Conf) → IsSpelledConf v conf → length (xmc v conf) < 2 ^ 32

@@ -2,9 +2,9 @@
 use Rattle.std.specs.Prelude.{ℕ, suc, zero, ◌==◌, Bool, true, false, ◌&&◌, ◌||◌, nat_lt, if◌then◌else◌, List, [], ◌∷◌, length, slice_get, codes, Option, Some, None, Result, Ok, Err}
 use Rattle.std.specs.Int.{w8, w16, w32}
 use Rattle.xm_base.specs.Cursor.{Place, cursor_start, left}
-use Rattle.sealed_files.specs.Fields.{field_bytes, number_at}
-use Rattle.sealed_files.specs.Heads.{magic_at}
-use Rattle.sealed_files.specs.Steps.{◌>>=◌}
+use Rattle.file_headers.specs.Fields.{field_bytes, number_at}
+use Rattle.file_headers.specs.Heads.{magic_at}
+use Rattle.file_headers.specs.Steps.{◌>>=◌}
 use Rattle.xm_conf.specs.Configuration.{Plan, Part, Chan, Conf}
 use Rattle.xm_conf.specs.Health.{actions}
 use Rattle.xm_conf.specs.Name.{name_from_bytes}
@@ -30,8 +30,8 @@ use Rattle.bin_config.specs.Version.{wanted, parts_in_version}
 use Rattle.bin_config.specs.declared.identity.Identity.{Identity}
 use Rattle.bin_config.specs.declared.version.Version.{Version}
 use Rattle.bin_config.specs.declared.version.Version.TheVariants as version
-use Rattle.file_texts.specs.declared.fault.XmcFault.{XmcFault}
-use Rattle.file_texts.specs.declared.fault.XmcFault.TheVariants as fault
+use Rattle.fault_messages.specs.declared.fault.XmcFault.{XmcFault}
+use Rattle.fault_messages.specs.declared.fault.XmcFault.TheVariants as fault
 
 -- a value with the place after it, or a fault
 abbrev pub Read : Type 0 → Type 0
@@ -55,8 +55,8 @@ word_field_at place = number_at conf_short w32 place
 
 -- a value where there is one; else the field at a place is at fault
 abbrev pub or_fault : {X : Type 0} → ℕ → Place → Option X → Read X
-or_fault at behind None = Err (fault.Field at)
-or_fault at behind (Some x) = Ok (x, behind)
+or_fault at following None = Err (fault.Field at)
+or_fault at following (Some x) = Ok (x, following)
 
 -- a number that means a value; else its field is at fault
 abbrev pub coded_at : {X : Type 0} → (Place → Read ℕ) → (ℕ → Option X) → Place → Read X
@@ -72,17 +72,17 @@ one_of_two first second byte = if byte == 0 then Some first else if byte == 1 th
 unfoldable pub flag_at : Place → Read Bool
 flag_at place = coded_at byte_field_at (one_of_two false true) place
 
--- the bytes of a text, where so many are left; the text begins at a place
-abbrev pub text_behind : ℕ → ℕ → Place → Read (List ℕ)
-text_behind at count place = field_bytes (λ here. fault.Short at) count place >>= λ bytes. or_fault at bytes.1 (name_from_bytes bytes.0)
+-- the bytes of a text, where this many are left; the text begins at a place
+abbrev pub text_after : ℕ → ℕ → Place → Read (List ℕ)
+text_after at count place = field_bytes (λ here. fault.Short at) count place >>= λ bytes. or_fault at bytes.1 (name_from_bytes bytes.0)
 
 -- a text
 unfoldable pub text_field_at : Place → Read (List ℕ)
 text_field_at place = do
   count ← byte_field_at place
-  text_behind place.at count.0 count.1
+  text_after place.at count.0 count.1
 
--- so many elements, one after another
+-- this many elements, one after another
 abbrev pub elements_at : {X : Type 0} → (Place → Read X) → ℕ → Place → Read (List X)
 elements_at element zero place = Ok ([], place)
 elements_at element (suc count) place = do
@@ -267,8 +267,8 @@ conf_body_at v place = do
 
 -- a version where there is one; else the number of a version is at fault
 abbrev pub or_version : ℕ → Place → Option Version → Read Version
-or_version number behind None = Err (fault.Version number)
-or_version number behind (Some v) = Ok (v, behind)
+or_version number following None = Err (fault.Version number)
+or_version number following (Some v) = Ok (v, following)
 
 -- the version, which is the one that is wanted, or either
 unfoldable pub wanted_version_at : Option Version → Place → Read Version
@@ -276,18 +276,18 @@ wanted_version_at want place = do
   number ← half_word_at place
   or_version number.0 number.1 (wanted want number.0)
 
--- the bytes are as many as they tell
+-- there are as many bytes as the length field states
 abbrev pub is_whole : ℕ → ℕ → Result (Unit {0}) XmcFault
-is_whole total told =
-    if nat_lt total told then Err (fault.Short total) else if nat_lt told total then Err (fault.Trailing told) else Ok tt
+is_whole total stated =
+    if nat_lt total stated then Err (fault.Short total) else if nat_lt stated total then Err (fault.Trailing stated) else Ok tt
 
--- the first fields: what comes first, the version, which is told, and the length of the whole
+-- the first fields: what comes first, the version, which is returned, and the length of the whole
 unfoldable pub head_at : Option Version → Place → Read Version
 head_at want place = do
   named ← magic_at conf_short fault.Magic (codes "XMCF") place
   version ← wanted_version_at want named
-  told ← word_field_at version.1
-  is_whole (length place.bytes) told.0 >>= λ all. Ok (version.0, told.1)
+  stated ← word_field_at version.1
+  is_whole (length place.bytes) stated.0 >>= λ all. Ok (version.0, stated.1)
 
 -- nothing is left
 abbrev pub nothing_left : (Conf × Place) → Result Conf XmcFault

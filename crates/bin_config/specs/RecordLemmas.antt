@@ -18,10 +18,10 @@ use Rattle.xm_conf.specs.declared.port.Way.TheVariants as way
 use Rattle.xm_conf.specs.declared.channel.ChanKind.{ChanKind}
 use Rattle.xm_conf.specs.declared.channel.ChanKind.TheVariants as chan_kind
 use Rattle.xm_conf.specs.declared.link.Link.{Link}
-use Rattle.sealed_files.specs.FieldLemmas.{Reads, Takes, bytes_again, bytes_take, takes_both}
-use Rattle.sealed_files.specs.Fields.{field_bytes}
-use Rattle.sealed_files.specs.StepLemmas.{ok_is, stepped}
-use Rattle.sealed_files.specs.Steps.{◌>>=◌}
+use Rattle.file_headers.specs.FieldLemmas.{Reads, Takes, bytes_again, bytes_take, takes_both}
+use Rattle.file_headers.specs.Fields.{field_bytes}
+use Rattle.file_headers.specs.StepLemmas.{ok_is, stepped}
+use Rattle.file_headers.specs.Steps.{◌>>=◌}
 use Rattle.bin_config.specs.Reading as reading
 use Rattle.bin_config.specs.Spelled.{IsByte, IsHalfWord, HasFourBytes, IsSpelledRegion, IsSpelledSlot, IsSpelledPlan, IsSpelledNeed, IsSpelledMonitor, IsSpelledArea, IsSpelledPart, IsSpelledEnd, IsSpelledKind, IsSpelledChan, IsSpelledLink, AreSpelledLinks, IsSpelledConf}
 use Rattle.bin_config.specs.Xmc as xmc
@@ -30,7 +30,7 @@ use Rattle.bin_config.specs.FrontLemmas.{first, then, followed, made_of_fields, 
 use Rattle.bin_config.specs.declared.identity.Identity.{Identity}
 use Rattle.bin_config.specs.declared.version.Version.{Version}
 use Rattle.bin_config.specs.declared.version.Version.TheVariants as version
-use Rattle.file_texts.specs.declared.fault.XmcFault.TheVariants.{Short}
+use Rattle.fault_messages.specs.declared.fault.XmcFault.TheVariants.{Short}
 
 -- a region
 pub region_spells : IsReaderOf reading.region_at xmc.region_record IsSpelledRegion
@@ -182,14 +182,14 @@ name_back x named = rw ((is_name-Decides x).1 named) refl
 text_takes : (place : Place) (x : List ℕ) (after : Place) → AreBytes (ahead place) → reading.text_field_at place ≡ Ok (x, after) → Takes place (xmc.text_field x) after × IsName x
 unfolding reading.text_field_at xmc.text_field
 text_takes place x after each e =
-    let a = stepped (reading.byte_field_at place) (λ count. reading.text_behind place.at count.0 count.1) (x, after) e in
+    let a = stepped (reading.byte_field_at place) (λ count. reading.text_after place.at count.0 count.1) (x, after) e in
     let size = byte_spells.takes place a.value.0 a.value.1 each a.is in
     let b = stepped (field_bytes (λ here. Short place.at) a.value.0 a.value.1) (λ bytes. reading.or_fault place.at bytes.1 (name_from_bytes bytes.0)) (x, after) a.led in
     let h = had place.at b.value.1 (name_from_bytes b.value.0) x after b.led in
     let named = name_there b.value.0 x h.0 in
     let t = bytes_take (λ here. Short place.at) a.value.0 a.value.1 b.value.0 b.value.1 size.0.rest b.is in
     let counted : a.value.0 ≡ length x = sym t.1 ∙ ap length named.0 in
-    let bytes : Takes a.value.1 x after = subst (λ (behind : Place). Takes a.value.1 x behind) h.1 (subst (λ (y : List ℕ). Takes a.value.1 y b.value.1) named.0 t.0) in
+    let bytes : Takes a.value.1 x after = subst (λ (following : Place). Takes a.value.1 x following) h.1 (subst (λ (y : List ℕ). Takes a.value.1 y b.value.1) named.0 t.0) in
     (subst (λ (n : ℕ). Takes place ((n ∷ []) ++ x) after) counted (takes_both place (a.value.0 ∷ []) a.value.1 x after size.0 bytes), named.1)
 
 -- a text that stands there
@@ -257,7 +257,7 @@ need_takes place x after each e =
     let period = word_spells.takes a.value.1 b.value.0 b.value.1 duration.0.rest b.is in
     let both = takes_both place (xmc.word_field a.value.0) a.value.1 (xmc.word_field b.value.0) b.value.1 duration.0 period.0 in
     let c = need_there a.value.0 b.value.0 x duration.1 period.1 h.0 in
-    (subst (λ (text : List ℕ). Takes place text after) c.0 (subst (λ (behind : Place). Takes place (xmc.word_field a.value.0 ++ xmc.word_field b.value.0) behind) h.1 both), c.1)
+    (subst (λ (text : List ℕ). Takes place text after) c.0 (subst (λ (following : Place). Takes place (xmc.word_field a.value.0 ++ xmc.word_field b.value.0) following) h.1 both), c.1)
 
 -- a requirement that stands there
 need_again : (place : Place) (x : Option Need) (rest : List ℕ) → IfSome x IsSpelledNeed → ahead place ≡ xmc.need_field x ++ rest → Reads (reading.need_at place) x rest

@@ -24,7 +24,7 @@ use Rattle.bin_config.specs.Xmc as xmc
 use Rattle.bin_config.specs.declared.version.Version.{Version}
 use Rattle.bin_config.specs.declared.version.Version.TheVariants as version
 
--- a text has at most so many bytes
+-- a text has at most this many bytes
 pub record HasAtMost (most : ℕ) (bytes : List ℕ) : Type 0 where
   pub is : length bytes ≤ most
 

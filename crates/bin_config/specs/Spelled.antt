@@ -26,7 +26,7 @@ IsHalfWord n = n < 2 ^ 16
 abbrev pub HasFourBytes : ℕ → Type 0
 HasFourBytes n = n < 2 ^ 32
 
--- a list has no more elements than a byte can tell, and each is so
+-- a list has no more elements than a byte can count, and each is so
 pub record AreFew {X : Type 0} (P : X → Type 0) (xs : List X) : Type 0 where
   pub few : length xs < 256
   pub each : All P xs

@@ -136,7 +136,7 @@ body v conf =
     text_field conf.name ++ list_field region_record conf.regions ++ word_field conf.hv_size ++ list_field text_field conf.uarts ++ list_field plan_record conf.plans
     ++ list_field part_record conf.parts ++ list_field chan conf.chans ++ links v conf.links
 
--- the first bytes of a file of so many bytes
+-- the first bytes of a file of this many bytes
 unfoldable pub head : Version → ℕ → List ℕ
 head v total = codes "XMCF" ++ half_word (version_number v) ++ word_field total
 

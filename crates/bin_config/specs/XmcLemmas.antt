@@ -15,11 +15,11 @@ use Rattle.xm_conf.specs.Description.{described}
 use Rattle.xm_conf.specs.Laws.{IsBrokenUnlessFits}
 use Rattle.xm_conf.specs.Rules.{first_broken}
 use Rattle.xm_conf.specs.declared.item.Broken.{Broken}
-use Rattle.sealed_files.specs.FieldLemmas.{Reads, Takes, bytes_again, takes_both}
-use Rattle.sealed_files.specs.HeadLemmas.{magic_takes}
-use Rattle.sealed_files.specs.Heads.{magic_at}
-use Rattle.sealed_files.specs.StepLemmas.{led_on, ok_is, stepped}
-use Rattle.sealed_files.specs.Steps.{◌>>=◌}
+use Rattle.file_headers.specs.FieldLemmas.{Reads, Takes, bytes_again, takes_both}
+use Rattle.file_headers.specs.HeadLemmas.{magic_takes}
+use Rattle.file_headers.specs.Heads.{magic_at}
+use Rattle.file_headers.specs.StepLemmas.{led_on, ok_is, stepped}
+use Rattle.file_headers.specs.Steps.{◌>>=◌}
 use Rattle.bin_config.specs.Laws.{IsPrefixFree, ReadIsSpelled, SpelledIsRead, OtherIsRefused, MoreIsTrailing, CutIsShort, FitsItsLength}
 use Rattle.bin_config.specs.Reading.{half_word_at, or_version, wanted_version_at, is_whole, head_at, conf_body_at, nothing_left, unbroken, fields_at, read_within, conf_short, word_field_at}
 use Rattle.bin_config.specs.Spelled.{IsSpelledConf, AreSpelledLinks}
@@ -30,7 +30,7 @@ use Rattle.bin_config.specs.FrontLemmas.{Reached, first, then}
 use Rattle.bin_config.specs.RangeLemmas.{spelled_if_fits}
 use Rattle.bin_config.specs.RecordLemmas.{conf_spells}
 use Rattle.bin_config.specs.ShortLemmas.{body_short}
-use Rattle.file_texts.specs.declared.fault.XmcFault.TheVariants as fault
+use Rattle.fault_messages.specs.declared.fault.XmcFault.TheVariants as fault
 use Rattle.bin_config.specs.declared.version.Version.{Version}
 use Rattle.bin_config.specs.declared.version.Version.TheVariants as version
 
@@ -64,7 +64,7 @@ one_is_short conf =
 abbrev length_word : List ℕ → ℕ
 length_word bytes = from_be_bytes w32 (take 4 (drop 6 bytes))
 
--- a file tells its total
+-- a file states its length
 total_at-head : (v : Version) (total : ℕ) (rest : List ℕ) → total < 2 ^ 32 → length_word (head v total ++ rest) ≡ total
 unfolding head
 total_at-head v total rest below = from_be_bytes-to_be_bytes_4 total below
@@ -76,10 +76,10 @@ prefix_free v w a b rest below is =
     let own_a : length (xmc v a) ≡ 10 + length (body v a) = length-xmc v a in
     let own_b : length (xmc w b) ≡ 10 + length (body w b) = length-xmc w b in
     let sum : length (xmc w b) ≡ length (xmc v a) + length rest = ap length is ∙ length-append (xmc v a) rest in
-    let told_b : length_word (xmc w b) ≡ 10 + length (body w b) = total_at-head w (10 + length (body w b)) (body w b) (omega arith) in
-    let told_a : length_word (xmc v a ++ rest) ≡ 10 + length (body v a) =
+    let stated_b : length_word (xmc w b) ≡ 10 + length (body w b) = total_at-head w (10 + length (body w b)) (body w b) (omega arith) in
+    let stated_a : length_word (xmc v a ++ rest) ≡ 10 + length (body v a) =
     ap length_word (append_assoc (head v (10 + length (body v a))) (body v a) rest) ∙ total_at-head v (10 + length (body v a)) (body v a ++ rest) (omega arith) in
-    let same : 10 + length (body w b) ≡ 10 + length (body v a) = sym told_b ∙ ap length_word is ∙ told_a in
+    let same : 10 + length (body w b) ≡ 10 + length (body v a) = sym stated_b ∙ ap length_word is ∙ stated_a in
     nil_from_length rest (omega arith)
 
 -- a list with something in it
@@ -92,7 +92,7 @@ front_is : (v : Version) (size count : ℕ) → 10 ≤ count → count ≡ lengt
 unfolding head
 front_is v size count long = omega (arith, long)
 
--- a file of as many bytes as it tells
+-- a file of as many bytes as it states
 text_of_whole : (v : Version) (bytes : List ℕ) (conf : Conf) → bytes ≡ head v (length bytes) ++ body v conf → bytes ≡ xmc v conf
 unfolding xmc
 text_of_whole v bytes conf parts = parts ∙ ap (λ size. head v size ++ body v conf) (ap length parts ∙ length-head v (length bytes) (body v conf))
@@ -111,9 +111,9 @@ magic_again place rest is =
     record { after = b.after; is = rw b.is refl; ahead = b.ahead }
 
 -- a version that was found
-had_version : (n : ℕ) (behind : Place) (found : Option Version) (v : Version) (after : Place) → or_version n behind found ≡ Ok (v, after) → (found ≡ Some v) × (behind ≡ after)
-had_version n behind (Some w) v after e = let same : (w, behind) ≡ (v, after) = ok_is (w, behind) (v, after) e in (ap (λ p. Some p.0) same, ap (λ p. p.1) same)
-had_version n behind None v after e = absurd cc
+had_version : (n : ℕ) (following : Place) (found : Option Version) (v : Version) (after : Place) → or_version n following found ≡ Ok (v, after) → (found ≡ Some v) × (following ≡ after)
+had_version n following (Some w) v after e = let same : (w, following) ≡ (v, after) = ok_is (w, following) (v, after) e in (ap (λ p. Some p.0) same, ap (λ p. p.1) same)
+had_version n following None v after e = absurd cc
 
 -- the version that was found is the one of the number
 found_is : (w v : Version) → (let found : Option Version = Some w in found ≡ Some v) → w ≡ v
@@ -179,7 +179,7 @@ conf_version_takes want place v after each e =
     let t = half_word_spells.takes place n.value.0 n.value.1 each n.is in
     let h = had_version n.value.0 n.value.1 (wanted want n.value.0) v after n.led in
     let is = wanted_there want n.value.0 v h.0 in
-    (subst (λ (m : ℕ). Takes place (half_word m) after) is.0 (subst (λ (behind : Place). Takes place (half_word n.value.0) behind) h.1 t.0), is.1)
+    (subst (λ (m : ℕ). Takes place (half_word m) after) is.0 (subst (λ (following : Place). Takes place (half_word n.value.0) following) h.1 t.0), is.1)
 
 -- the version, where it stands
 conf_version_again : (want : Option Version) (place : Place) (v : Version) (rest : List ℕ) → IsWanted want v → ahead place ≡ half_word (version_number v) ++ rest → Reads (wanted_version_at want place) v rest
@@ -192,16 +192,16 @@ conf_version_again want place v rest wants is =
 version_spells : (want : Option Version) → IsReaderOf (wanted_version_at want) (λ v. half_word (version_number v)) (IsWanted want)
 version_spells want = record { takes = conf_version_takes want; again = conf_version_again want }
 
--- the first fields that are read: the bytes are as many as they tell
+-- the first fields that are read: there are as many bytes as the length field states
 head_takes : (want : Option Version) (bytes : List ℕ) (got : Version × Place) → AreBytes bytes → head_at want (cursor_start bytes) ≡ Ok got
     → Takes (cursor_start bytes) (head got.0 (length bytes)) got.1 × IsWanted want got.0
 unfolding head_at head
 head_takes want bytes got each e =
     let m = stepped (magic_at conf_short fault.Magic (codes "XMCF") (cursor_start bytes)) (λ named.
-    wanted_version_at want named >>= λ version. word_field_at version.1 >>= λ told. is_whole (length bytes) told.0 >>= λ all. Ok (version.0, told.1)) got e in
+    wanted_version_at want named >>= λ version. word_field_at version.1 >>= λ stated. is_whole (length bytes) stated.0 >>= λ all. Ok (version.0, stated.1)) got e in
     let named = magic_takes conf_short fault.Magic (codes "XMCF") (cursor_start bytes) m.value each m.is in
     let fields = then (first (version_spells want)) word_spells in
-    let o = fields.takes (Version × Place) (λ t behind. is_whole (length bytes) t.1 >>= λ all. Ok (t.0, behind)) m.value got named.rest m.led in
+    let o = fields.takes (Version × Place) (λ t following. is_whole (length bytes) t.1 >>= λ all. Ok (t.0, following)) m.value got named.rest m.led in
     let w = stepped (is_whole (length bytes) o.value.1) (λ all. Ok (o.value.0, o.after)) got o.led in
     let size : o.value.1 ≡ length bytes = whole_is (length bytes) o.value.1 w.value w.is in
     let both = takes_both (cursor_start bytes) (codes "XMCF") m.value (half_word (version_number o.value.0) ++ word_field o.value.1) o.after named o.takes in
@@ -217,12 +217,12 @@ head_takes want bytes got each e =
 
 -- the first fields, where they stand
 head_again : (want : Option Version) (v : Version) (bytes : List ℕ) (size : ℕ) (rest : List ℕ) → IsWanted want v → size < 2 ^ 32 → bytes ≡ head v size ++ rest
-    → Reached (head_at want (cursor_start bytes)) (λ behind. is_whole (length bytes) size >>= λ all. Ok (v, behind)) rest
+    → Reached (head_at want (cursor_start bytes)) (λ following. is_whole (length bytes) size >>= λ all. Ok (v, following)) rest
 unfolding head_at head
 head_again want v bytes size rest wants below is =
     let m = magic_again (cursor_start bytes) ((half_word (version_number v) ++ word_field size) ++ rest) is in
     let fields = then (first (version_spells want)) word_spells in
-    let r = fields.again (Version × Place) (λ t behind. is_whole (length bytes) t.1 >>= λ all. Ok (t.0, behind)) m.after (v, size) rest (wants, below) m.ahead in
+    let r = fields.again (Version × Place) (λ t following. is_whole (length bytes) t.1 >>= λ all. Ok (t.0, following)) m.after (v, size) rest (wants, below) m.ahead in
     record { after = r.after; is = rw m.is r.is; ahead = r.ahead }
 
 -- fields that are read are a spelling
@@ -249,22 +249,22 @@ fields_again v place conf spelled is =
     let none : ltb 0 (left c.after) ≡ false = ap (λ rest. ltb 0 (length rest)) c.ahead in
     rw (c.is, none) refl
 
--- what can be spelled is shorter than what its length field tells
+-- what can be spelled is shorter than what its length field can state
 pub xmc_short : FitsItsLength
 xmc_short v conf spelled = omega (arith, length-xmc v conf, (body_short v conf spelled).is)
 
--- as many bytes as are told
+-- as many bytes as are stated
 whole_same : (size : ℕ) → is_whole size size ≡ Ok tt
 whole_same size = let same : ltb size size ≡ false = le-ltb size size (omega arith) in rw same refl
 
--- more bytes than are told
+-- more bytes than are stated
 whole_more : (total size : ℕ) → size < total → is_whole total size ≡ Err (fault.Trailing size)
 whole_more total size less =
     let long : ltb total size ≡ false = le-ltb total size (omega (arith, less)) in
     let short : ltb size total ≡ true = lt-ltb size total less in
     rw (long, short) refl
 
--- fewer bytes than are told
+-- fewer bytes than are stated
 whole_less : (total size : ℕ) → total < size → is_whole total size ≡ Err (fault.Short total)
 whole_less total size less = let test : ltb total size ≡ true = lt-ltb total size less in rw test refl
 
@@ -311,9 +311,9 @@ pub other_refused : OtherIsRefused
 unfolding read_within head_at wanted_version_at xmc head
 other_refused v w conf differ =
     let total : ℕ = 10 + length (body w conf) in
-    let behind : List ℕ = word_field total ++ body w conf in
+    let following : List ℕ = word_field total ++ body w conf in
     let m = magic_again (cursor_start (xmc w conf)) ((half_word (version_number w) ++ word_field total) ++ body w conf) refl in
-    let n = half_word_spells.again m.after (version_number w) behind (number_small w) (m.ahead ∙ append_assoc (half_word (version_number w)) (word_field total) (body w conf)) in
+    let n = half_word_spells.again m.after (version_number w) following (number_small w) (m.ahead ∙ append_assoc (half_word (version_number w)) (word_field total) (body w conf)) in
     rw (m.is, n.is, wanted_other v w differ) refl
 
 -- nothing is read of a spelling with something after it

@@ -55,7 +55,7 @@ pub fn prefix_free()
     ensures law { IsPrefixFree }
 {}
 
-/// The length of a spelling is one that it can tell.
+/// The length of a spelling fits its field.
 pub fn spelling_is_short()
     ensures law { FitsItsLength }
 {}

@@ -8,7 +8,7 @@ mod reading;
 mod version;
 mod writing;
 
-pub use file_texts::XmcFault;
+pub use fault_messages::XmcFault;
 pub use law::{
     cut_is_short, more_is_trailing, other_is_refused, prefix_free, read_is_spelled,
     spelled_is_read, spelling_is_short, upgraded_is_same,

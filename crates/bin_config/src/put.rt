@@ -8,7 +8,7 @@ use byteorder::{BigEndian, ByteOrder};
 use xm_base::Memory;
 
 /// Puts bytes as they are.
-pub(crate) fn put(bytes: &mut Vec<u8>, piece: &[u8]) -> Result<(), Memory>
+pub(crate) fn append(bytes: &mut Vec<u8>, piece: &[u8]) -> Result<(), Memory>
     ensures { Puts result bytes.old.items bytes.new.items piece.now }
 {
     match bytes.extend_from_slice(piece) {
@@ -21,7 +21,7 @@ pub(crate) fn put(bytes: &mut Vec<u8>, piece: &[u8]) -> Result<(), Memory>
 pub(crate) fn put_byte(bytes: &mut Vec<u8>, byte: u8) -> Result<(), Memory>
     ensures { Puts result bytes.old.items bytes.new.items (byte ∷ []) }
 {
-    put(bytes, &[byte])
+    append(bytes, &[byte])
 }
 
 /// Puts a number of two bytes.
@@ -30,7 +30,7 @@ pub(crate) fn put_half_word(bytes: &mut Vec<u8>, number: u16) -> Result<(), Memo
 {
     let mut piece = [0; 2];
     BigEndian::write_u16(&mut piece, number);
-    put(bytes, &piece)
+    append(bytes, &piece)
 }
 
 /// Puts a number of four bytes.
@@ -39,5 +39,5 @@ pub(crate) fn put_word(bytes: &mut Vec<u8>, number: u32) -> Result<(), Memory>
 {
     let mut piece = [0; 4];
     BigEndian::write_u32(&mut piece, number);
-    put(bytes, &piece)
+    append(bytes, &piece)
 }

@@ -4,21 +4,21 @@ ghost use Rattle.std.specs.Prelude.{◌≡◌, IfOk, Ok, Result, codes, length};
 ghost use Rattle.xm_conf.specs.Configuration.{Conf as Meaning};
 ghost use Rattle.xm_conf.specs.Description.{described};
 ghost use Rattle.xm_conf.specs.Rules.{first_broken};
-ghost use Rattle.sealed_files.specs.Gives.{Gives, GivesAt};
-ghost use Rattle.sealed_files.specs.Heads.{magic_at};
+ghost use Rattle.file_headers.specs.Gives.{Gives, GivesAt};
+ghost use Rattle.file_headers.specs.Heads.{magic_at};
 ghost use Rattle.bin_config.specs.Gives.{Fails};
 ghost use Rattle.xm_base.specs.Cursor.{Place};
 ghost use Rattle.bin_config.specs.Laws.{IsSpellingOf};
 ghost use Rattle.bin_config.specs.Reading as reading;
 ghost use Rattle.bin_config.specs.Reading.{Read};
 ghost use Rattle.bin_config.specs.Version.{parts_in_version};
-ghost use Rattle.file_texts.specs.declared.fault.XmcFault.TheVariants as fault;
+ghost use Rattle.fault_messages.specs.declared.fault.XmcFault.TheVariants as fault;
 ghost use Rattle.bin_config.specs.declared.version.Version.{Version as AVersion};
 
 use crate::identity::Identity;
 use crate::law::{read_is_spelled, spelled_is_read};
 use crate::version::Version;
-use file_texts::XmcFault;
+use fault_messages::XmcFault;
 use std::alloc::Global;
 use xm_base::Cursor;
 use xm_conf::{
@@ -102,8 +102,8 @@ fn flag(cursor: &mut Cursor<'_>) -> Result<bool, XmcFault>
 }
 
 /// The bytes of a text that begins at a place.
-fn text_behind(at: usize, count: u8, cursor: &mut Cursor<'_>) -> Result<Name, XmcFault>
-    ensures { GivesAt Fails (λ value. value) result cursor.new (reading.text_behind at count cursor.old) }
+fn text_after(at: usize, count: u8, cursor: &mut Cursor<'_>) -> Result<Name, XmcFault>
+    ensures { GivesAt Fails (λ value. value) result cursor.new (reading.text_after at count cursor.old) }
 {
     match cursor.take(usize::from(count)) {
         Ok(bytes) => match Name::new(bytes) {
@@ -121,7 +121,7 @@ fn text(cursor: &mut Cursor<'_>) -> Result<Name, XmcFault>
 {
     let at = cursor.at();
     let count = byte(cursor)?;
-    text_behind(at, count, cursor)
+    text_after(at, count, cursor)
 }
 
 /// A port's kind.
@@ -253,7 +253,7 @@ fn flags(cursor: &mut Cursor<'_>) -> Result<u16, XmcFault>
     }
 }
 
-/// So many elements, one after another.
+/// This many elements, one after another.
 fn each<T: Drop, F: Fn(&mut Cursor<'_>) -> Result<T, XmcFault>>(
     alloc: Global,
     count: u8,
@@ -325,7 +325,7 @@ fn action(cursor: &mut Cursor<'_>) -> Result<Action, XmcFault>
     }
 }
 
-/// So many actions as there are places for.
+/// As many actions as there are places for.
 #[tactic(auto, using(crate::proofs::ElementsLemmas::elements_fill))]
 fn fill(places: &mut [Action], cursor: &mut Cursor<'_>) -> Result<(), XmcFault>
     ensures { GivesAt Fails (λ _. places.new) result cursor.new (reading.elements_at reading.action_at (length places.old) cursor.old) }
@@ -448,7 +448,7 @@ fn conf(alloc: Global, version: Version, cursor: &mut Cursor<'_>) -> Result<RawC
 }
 
 /// The name of the format.
-#[tactic(auto, unfolding(sealed_files::specs::Heads::magic_at))]
+#[tactic(auto, unfolding(file_headers::specs::Heads::magic_at))]
 fn magic(cursor: &mut Cursor<'_>) -> Result<(), XmcFault>
     ensures { Gives Fails (λ _. cursor.new) result (magic_at reading.conf_short fault.Magic (codes "XMCF") cursor.old) }
 {
@@ -470,8 +470,8 @@ fn version(wanted: Option<Version>, cursor: &mut Cursor<'_>) -> Result<Version, 
     }
 }
 
-/// The first fields: what comes first, the version, which is told, and the length of the whole, which
-/// has so many bytes.
+/// The first fields: what comes first, the version, which is returned, and the length of the whole, which
+/// has this many bytes.
 #[tactic(auto, unfolding(crate::specs::Reading::head_at))]
 fn head(total: usize, wanted: Option<Version>, cursor: &mut Cursor<'_>) -> Result<Version, XmcFault>
     requires { total ≡ length cursor.old.bytes }
@@ -479,16 +479,16 @@ fn head(total: usize, wanted: Option<Version>, cursor: &mut Cursor<'_>) -> Resul
 {
     magic(cursor)?;
     let version = version(wanted, cursor)?;
-    let told = word(cursor)?;
-    is_whole(total, told)?;
+    let stated = word(cursor)?;
+    is_whole(total, stated)?;
     Ok(version)
 }
 
-/// The bytes are as many as they tell.
-fn is_whole(total: usize, told: u32) -> Result<(), XmcFault>
-    ensures { Gives Fails (λ value. value) result (reading.is_whole total told) }
+/// There are as many bytes as the length field states.
+fn is_whole(total: usize, stated: u32) -> Result<(), XmcFault>
+    ensures { Gives Fails (λ value. value) result (reading.is_whole total stated) }
 {
-    let length = told as usize;
+    let length = stated as usize;
     if total < length {
         return Err(XmcFault::Short { at: total });
     }

@@ -12,7 +12,7 @@ ghost use Rattle.xm_conf.specs.Limits.{most_dests};
 ghost use Rattle.xm_conf.specs.Name.{IsName};
 
 use crate::law::spelled_is_read;
-use crate::put::{put, put_byte, put_half_word, put_word};
+use crate::put::{append, put_byte, put_half_word, put_word};
 use crate::version::Version;
 use std::alloc::Global;
 use xm_base::Memory;
@@ -29,7 +29,7 @@ fn put_text(bytes: &mut Vec<u8>, name: &Name) -> Result<(), Memory>
 {
     let piece = name.bytes();
     put_byte(bytes, piece.len() as u8)?;
-    put(bytes, piece)
+    append(bytes, piece)
 }
 
 /// Puts each of the elements, as one is put.
@@ -305,8 +305,8 @@ fn put_body(bytes: &mut Vec<u8>, raw: &RawConf) -> Result<(), Memory>
     put_list(bytes, &raw.links, put_link)
 }
 
-/// The length of a file whose body has so many bytes. A body is far shorter than what a length can
-/// tell.
+/// The length of a file whose body has this many bytes. A body is far shorter than what a length can
+/// state.
 fn total(body: usize) -> Result<u32, Memory>
     ensures { IfOk result (λ total. total ≡ 10 + body) }
 {
@@ -319,12 +319,12 @@ fn total(body: usize) -> Result<u32, Memory>
     }
 }
 
-/// Puts the first bytes of a file of so many bytes.
+/// Puts the first bytes of a file of this many bytes.
 #[tactic(auto, using(crate::proofs::PutsLemmas::put_then), unfolding(crate::specs::Xmc::head))]
 fn put_head(bytes: &mut Vec<u8>, total: u32) -> Result<(), Memory>
     ensures { Puts result bytes.old.items bytes.new.items (xmc.head Two total) }
 {
-    put(bytes, b"XMCF")?;
+    append(bytes, b"XMCF")?;
     put_half_word(bytes, Version::Two.number())?;
     put_word(bytes, total)
 }
@@ -336,7 +336,7 @@ fn framed(alloc: Global, body: &[u8]) -> Result<Vec<u8>, Memory>
     let total = total(body.len())?;
     let mut bytes = Vec::new(alloc);
     put_head(&mut bytes, total)?;
-    put(&mut bytes, body)?;
+    append(&mut bytes, body)?;
     Ok(bytes)
 }
 

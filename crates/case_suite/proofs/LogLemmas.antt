@@ -4,7 +4,7 @@ use Rattle.std.proofs.lemmas.Option.{get_or_from_slice_get, slice_get-get_or}
 use Rattle.std.specs.Prelude.{All}
 use Rattle.machine_model.specs.Machine.{Machine, booted_part}
 use Rattle.machine_model.specs.Partition.{PartitionState}
-use Rattle.slot_runs.specs.Passes.{part_at}
+use Rattle.span_model.specs.Passes.{part_at}
 
 -- what holds of each partition by its number holds of all
 pub all_short : (g : Machine) → ((q : ℕ) → q < length g.parts → (part_at q g).health.next ≤ g.ticks) → All (λ part. part.health.next ≤ g.ticks) g.parts

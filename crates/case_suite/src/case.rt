@@ -1,7 +1,7 @@
 //! A case: what it says of itself, and what its group says for all of its cases.
 
 use anyhow::{Context, Result};
-use case_files::{Entry, Recipe};
+use case_reader::{Entry, Recipe};
 use toml::Value;
 
 // The keys of a case.

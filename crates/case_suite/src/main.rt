@@ -13,7 +13,7 @@ mod wanted;
 
 use anyhow::{Context, Result};
 use case::Case;
-use case_files::{Entry, Recipe, Shelf, entry_of, read_data};
+use case_reader::{Entry, Recipe, Shelf, entry_of, read_data};
 use std::alloc::Global;
 use std::fs::Files;
 use tally::Tally;

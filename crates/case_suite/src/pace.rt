@@ -12,11 +12,11 @@ use xm_outside::Sink;
 pub(crate) enum Pace {
     /// Tick by tick.
     Ticks,
-    /// By stretches of so many ticks at most.
+    /// By stretches of this many ticks at most.
     Stretches(u64),
 }
 
-/// Does a tick, or a stretch, of a run that has so many ticks left.
+/// Does a tick, or a stretch, of a run that has this many ticks left.
 pub(crate) fn advance<O: Sink>(
     machine: &mut Machine,
     left: u64,

@@ -1,7 +1,7 @@
 //! A reset between the ticks of a run, as a table says it.
 
 use anyhow::{Context, Result, bail};
-use case_files::Entry;
+use case_reader::Entry;
 use xm_base::Mode;
 
 /// A reset of a partition with a status, or of all, before a tick.

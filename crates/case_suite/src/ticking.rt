@@ -2,12 +2,13 @@
 
 ghost use Rattle.std.specs.Prelude.{◌≡◌, ◌<◌, ◌≤◌, All, IfOk, length};
 ghost use Rattle.std.specs.Bool.{OnTrue};
-ghost use Rattle.slot_runs.specs.Passes.{part_at};
+ghost use Rattle.span_model.specs.Passes.{part_at};
 
 use crate::pace::{Pace, advance};
 use crate::reset::{Reset, reset_of};
 use anyhow::{Context, Result, bail};
-use case_files::entry_of;
+use case_reader::entry_of;
+use command_line::{Command, PartFile, PartFiles, RunOptions, Span, Words, command};
 use std::alloc::Global;
 use toml::Value;
 use uart_board::Board;
@@ -15,7 +16,6 @@ use xm_base::{FILE_BYTES, Mode, TICKS};
 use xm_container::{System, unpack};
 use xm_machine::{Inputs, Line, Machine, WriteFault, put_line};
 use xm_outside::{MemStore, Sink};
-use xm_words::{Command, PartFile, PartFiles, RunOptions, Span, Words, command};
 
 const NO_MEMORY: &str = "there is no memory";
 
@@ -87,7 +87,7 @@ fn tick_run<O: Sink>(
     Ok(true)
 }
 
-// Does so many ticks, with the resets between them, and writes the report.
+// Does this many ticks, with the resets between them, and writes the report.
 fn put_run<O: Sink>(
     machine: &mut Machine,
     ticks: u64,
@@ -125,7 +125,7 @@ fn count(system: &System) -> u8
     system.conf().raw().parts.len() as u8
 }
 
-// The input words of so many partitions.
+// The input words of this many partitions.
 fn inputs_in(alloc: Global, parts: u8, named: PartFiles<'_>, files: &MemStore) -> Result<Inputs>
     ensures { IfOk result (λ inputs. length inputs ≡ parts) }
 {
@@ -174,7 +174,7 @@ fn put_front<O: Sink>(machine: &Machine, ticks: u64, out: &mut O) -> Result<()> 
     put_line(out, &line).ok().context(NOT_TAKEN)
 }
 
-// Does ticks up to so many in all.
+// Does ticks up to this many in all.
 fn do_ticks<O: Sink>(machine: &mut Machine, ticks: u64, pace: Pace, out: &mut O) -> Result<()> {
     for _ in machine.done()..ticks {
         if machine.halted() || machine.done() >= ticks.min(TICKS) {
@@ -186,7 +186,7 @@ fn do_ticks<O: Sink>(machine: &mut Machine, ticks: u64, pace: Pace, out: &mut O)
     Ok(())
 }
 
-// Does the ticks before a reset, and then it, where the run comes to it.
+// Does the ticks before a reset, and then it, where the run gets to it.
 fn do_reset<O: Sink>(
     machine: &mut Machine,
     ticks: u64,

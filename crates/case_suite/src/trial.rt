@@ -1,4 +1,4 @@
-//! A case tried: its command lines over its files, and what they come to.
+//! A case tried: its command lines over its files, and their outcome.
 
 ghost use Rattle.std.specs.Prelude.{◌≡◌, OnOk};
 
@@ -8,7 +8,8 @@ use crate::ticking::is_ticked;
 use crate::verdict::Verdict;
 use crate::wanted;
 use anyhow::{Context, Result, bail};
-use case_files::{Entry, Shelf, made, number_of, text_of};
+use case_reader::{Entry, Shelf, made, number_of, text_of};
+use command_line::Words;
 use std::alloc::Global;
 use std::fs::Files;
 use toml::{Table, Value};
@@ -16,7 +17,6 @@ use uart_board::Board;
 use xm_base::TICKS;
 use xm_commands::{Status, xm_main};
 use xm_outside::{MemSink, MemStore, Sink};
-use xm_words::Words;
 
 const NO_MEMORY: &str = "there is no memory";
 
@@ -221,7 +221,7 @@ fn words_in(alloc: Global, entry: Entry<'_>) -> Result<Option<Words>> {
     }
 }
 
-// Does what a call says, or tells that it was not done.
+// Does what a call says, or reports that it was not done.
 fn carry_out(alloc: Global, call: &str, files: &mut MemStore) -> Result<()> {
     let words = call_words(alloc, call)?;
     let mut out = sink(alloc, None, "out", "out_step")?;
@@ -229,7 +229,7 @@ fn carry_out(alloc: Global, call: &str, files: &mut MemStore) -> Result<()> {
     done(alloc, &words, files, &mut out, &mut err).context(call)
 }
 
-// Does what the words say, or tells that it was not done.
+// Does what the words say, or reports that it was not done.
 fn done<O: Sink, E: Sink>(
     alloc: Global,
     words: &Words,
@@ -295,7 +295,7 @@ fn names(entry: Option<Entry<'_>>, key: &str) -> bool {
     }
 }
 
-// Compares the files whose bytes are told by name.
+// Compares the files whose bytes are given by name.
 fn compare_same(
     shelf: &Shelf,
     same: &Table,

@@ -1,7 +1,7 @@
 //! How a case differs from what it says.
 
 use anyhow::Result;
-use case_files::Entry;
+use case_reader::Entry;
 use md5::{Digest, Md5};
 use std::alloc::Global;
 use xm_commands::Status;

@@ -7,17 +7,17 @@ use Rattle.health_monitor.specs.declared.effects.Whole.TheVariants as whole
 use Rattle.machine_model.specs.Caller.{Caller, a_of, b_of, c_of, is_room, number_of, with_answer, with_written}
 use Rattle.machine_model.specs.Lists.{then_some}
 use Rattle.machine_model.specs.Observed.{HealthCounts, HealthEntryOf, Observation, PartitionStatus, Question, TraceCounts, TraceEntryOf, about_other, observing}
-use Rattle.machine_model.specs.Told.{Words}
-use Rattle.machine_model.specs.Traffic.{Still, told_as}
+use Rattle.machine_model.specs.Emission.{Words}
+use Rattle.machine_model.specs.Traffic.{Still, traffic_as}
 use Rattle.machine_model.specs.View.{PartitionView}
 use Rattle.xm_conf.specs.Configuration.{Conf}
-use Rattle.whole_system.specs.ServedLemmas.{areas_seen}
-use Rattle.whole_system.specs.Serving.{HasEvent, IsServed, IsUponOne, WantsAt, caller_of, own_traffic, untraded, upshot_of}
-use Rattle.whole_system.specs.State.{SysState, areas_in, with_machine, with_part}
-use Rattle.whole_system.specs.declared.call_site.CallSite.{CallSite}
-use Rattle.whole_system.specs.declared.served.Act.{Act}
-use Rattle.whole_system.specs.declared.served.Act.TheVariants as act
-use Rattle.whole_system.specs.declared.served.Note.TheVariants.{Saw}
+use Rattle.system_state.specs.ServedLemmas.{areas_seen}
+use Rattle.system_state.specs.Serving.{HasEvent, IsServed, IsUponOne, WantsAt, caller_of, own_traffic, untraded, upshot_of}
+use Rattle.system_state.specs.State.{SysState, areas_in, with_machine, with_part}
+use Rattle.system_state.specs.declared.call_site.CallSite.{CallSite}
+use Rattle.system_state.specs.declared.served.Act.{Act}
+use Rattle.system_state.specs.declared.served.Act.TheVariants as act
+use Rattle.system_state.specs.declared.served.Note.TheVariants.{Saw}
 
 -- one area and the others: what may be written of them may be read
 one_readable : (here may others reads : Bool) → (others ≡ true → reads ≡ true) → ((here && may) || others) ≡ true → (here || reads) ≡ true
@@ -48,7 +48,7 @@ untraded_act (act.Whole whole.Maintenance) = refl
 untraded_act (act.Event event word) = refl
 
 -- and none under any names of channels
-pub still_act : (conf : Conf) (p : ℕ) (act : Act) → told_as conf p (own_traffic (upshot_of act)) ≡ Still
+pub still_act : (conf : Conf) (p : ℕ) (act : Act) → traffic_as conf p (own_traffic (upshot_of act)) ≡ Still
 still_act conf p act.Nothing = refl
 still_act conf p (act.Upon id order) = refl
 still_act conf p (act.Ask plan) = refl
@@ -62,11 +62,11 @@ still_act conf p (act.Event event word) = refl
 pub served_shown : (site : CallSite) (sys new : SysState) (address value : ℕ) (bytes : List ℕ) (act : Act) → is_room (caller_of site sys) address (length bytes) ≡ true → IsUponOne act sys
     → HasEvent act → WantsAt (caller_of site sys).view (caller_of site sys).state.core address
     → new ≡ with_machine (with_part site.part (with_answer value (with_written address bytes (caller_of site sys).state)) sys.machine) sys
-    → IsServed site.part (Words bytes) (record { after = with_answer value (with_written address bytes (caller_of site sys).state); told = []; upshot = upshot_of act }) (record { note = Saw address (length bytes); act = act }) sys new
+    → IsServed site.part (Words bytes) (record { after = with_answer value (with_written address bytes (caller_of site sys).state); emitted = []; upshot = upshot_of act }) (record { note = Saw address (length bytes); act = act }) sys new
 unfolding caller_of with_answer with_written
 served_shown site sys new address value bytes act room one event wanted new_is = record {
   state = new_is;
-  told = refl;
+  emitted = refl;
   upshot = untraded_act act;
   traffic = still_act sys.machine.system.conf site.part act;
   seen = ap Words (sym (bytes_at-with_bytes (caller_of site sys).state.memory address bytes));

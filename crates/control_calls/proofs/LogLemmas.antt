@@ -1,4 +1,4 @@
--- What the calls that read a log or a status come to, by what is there.
+-- The outcome of the calls that read a log or a status, by what is there.
 use Rattle.std.proofs.Common.{◌≡◌, ℕ, ◌<◌, Bool, true, false, List, [], ◌∷◌, length, None, Some, refl, sym, ap, ◌∙◌}
 use Rattle.std.specs.Prelude.{if◌then◌else◌, ◌==◌, not, is_none, slice_get}
 use Rattle.std.proofs.lemmas.Bool.{eqb-true}
@@ -7,16 +7,16 @@ use Rattle.machine_model.specs.Caller.{Caller, Served, a_of, answering, b_of, c_
 use Rattle.machine_model.specs.LogCalls.{bytes_of_entry, entry_seen, is_missing, is_own, reading}
 use Rattle.machine_model.specs.Machine.{shown_entry, shown_of, with_room}
 use Rattle.machine_model.specs.Partition.{PartitionState}
-use Rattle.machine_model.specs.Told.{NotKept, Sight, Unseen, Words}
+use Rattle.machine_model.specs.Emission.{NotKept, Sight, Unseen, Words}
 use Rattle.machine_model.specs.View.{view_of}
-use Rattle.whole_system.specs.ServedLemmas.{served_as}
+use Rattle.system_state.specs.ServedLemmas.{served_as}
 use Rattle.control_calls.proofs.ShownLemmas.{IsShownBytes, IsShownEntry}
-use Rattle.whole_system.specs.SightLemmas.{shown_there}
-use Rattle.whole_system.specs.Serving.{IsServed, caller_of}
-use Rattle.whole_system.specs.Shown.{seen_when}
-use Rattle.whole_system.specs.State.{SysState, part_at}
-use Rattle.whole_system.specs.declared.call_site.CallSite.{CallSite}
-use Rattle.whole_system.specs.declared.served.Served as code
+use Rattle.system_state.specs.SightLemmas.{shown_there}
+use Rattle.system_state.specs.Serving.{IsServed, caller_of}
+use Rattle.system_state.specs.Shown.{seen_when}
+use Rattle.system_state.specs.State.{SysState, part_at}
+use Rattle.system_state.specs.declared.call_site.CallSite.{CallSite}
+use Rattle.system_state.specs.declared.served.Served as code
 
 -- where there is no room, nothing is written, whatever is shown
 given_room : (caller : Caller) (at size : ℕ) (seen bytes : List ℕ) → (is_room caller at size ≡ true → seen ≡ bytes)
@@ -42,10 +42,10 @@ not_kept true free = refl
 not_kept false true = refl
 not_kept false false = refl
 
--- bytes are never told as an entry that is not kept
-is_told : (free : Bool) (bytes : List ℕ) → is_not_kept (with_room free (Words bytes)) ≡ false
-is_told true bytes = refl
-is_told false bytes = refl
+-- bytes are never shown as an entry that is not kept
+is_shown : (free : Bool) (bytes : List ℕ) → is_not_kept (with_room free (Words bytes)) ≡ false
+is_shown true bytes = refl
+is_shown false bytes = refl
 
 -- the caller is named by its number
 own_is : (site : CallSite) (sys : SysState) → is_own (caller_of site sys) ≡ (a_of (caller_of site sys) == site.part)
@@ -136,7 +136,7 @@ reading_given site sys size bytes log entry given answer new observed named ther
 
     missing : (own : Bool) → is_own caller ≡ own → (if own then is_none (entry_at (b_of caller) (log caller.state)) else is_not_kept caller.sight) ≡ false
     missing true own = ap is_none (own_entry own)
-    missing false own = ap is_not_kept (seen ∙ ap (λ test. if test then Unseen else with_room free (Words given)) own) ∙ is_told free given
+    missing false own = ap is_not_kept (seen ∙ ap (λ test. if test then Unseen else with_room free (Words given)) own) ∙ is_shown free given
 
     written : (own : Bool) → is_own caller ≡ own → free ≡ true → (if own then bytes_of_entry bytes (entry_at (b_of caller) (log caller.state)) else shown caller.sight) ≡ given
     written true own room = ap (bytes_of_entry bytes) (own_entry own) ∙ sym same
@@ -181,8 +181,8 @@ writing_given site sys size bytes given answer new observed named there same lon
         named_sight site sys free (λ ps. Words (bytes ps)) observed named there
         ∙ ap (λ (all : List ℕ). if is_own caller then Unseen else with_room free (Words all)) (sym same)
 
-    told : List ℕ
-    told = if is_own caller then bytes caller.state else shown caller.sight
+    shown_bytes : List ℕ
+    shown_bytes = if is_own caller then bytes caller.state else shown caller.sight
 
     written : (own : Bool) → is_own caller ≡ own → free ≡ true → (if own then bytes caller.state else shown caller.sight) ≡ given
     written true own room = ap bytes (own_state site sys own) ∙ sym same
@@ -191,5 +191,5 @@ writing_given site sys size bytes given answer new observed named there same lon
 
     comes : writing size bytes caller ≡ tested (room caller (b_of caller) size ∷ []) caller (answering 0 (with_written (b_of caller) given caller.state))
     comes =
-        ap (λ test. tested (test ∷ room caller (b_of caller) size ∷ []) caller (answering 0 (with_written (b_of caller) told caller.state))) named
-        ∙ given_room caller (b_of caller) size told given (written (is_own caller) refl)
+        ap (λ test. tested (test ∷ room caller (b_of caller) size ∷ []) caller (answering 0 (with_written (b_of caller) shown_bytes caller.state))) named
+        ∙ given_room caller (b_of caller) size shown_bytes given (written (is_own caller) refl)

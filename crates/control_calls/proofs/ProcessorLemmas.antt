@@ -6,19 +6,19 @@ use Rattle.machine_model.specs.Caller.{Caller, Test, a_of, answering, invalid_pa
 use Rattle.machine_model.specs.Partition.{PartitionState, areas_of}
 use Rattle.machine_model.specs.ProcessorCalls.{by_flush, by_return, flush_regwin, input_read, iret, printed, read_input, undone}
 use Rattle.machine_model.specs.Structures.{word}
-use Rattle.machine_model.specs.Told.{Console, Unseen}
+use Rattle.machine_model.specs.Emission.{Console, Unseen}
 use Rattle.machine_model.specs.View.{view_of}
-use Rattle.slot_runs.specs.Passes.{part_at, with_part}
+use Rattle.span_model.specs.Passes.{part_at, with_part}
 use Rattle.virt_traps.specs.declared.delivery.IretFault.{IretFault}
 use Rattle.virt_traps.specs.declared.windows.StackFault.{StackFault}
-use Rattle.whole_system.specs.ServedLemmas.{served_changed}
-use Rattle.whole_system.specs.Serving.{IsCaller, IsServed, caller_of}
-use Rattle.whole_system.specs.State.{OwnState, SysState, areas_in, memory_of, with_machine, with_memory, input_words_of}
-use Rattle.whole_system.specs.Stepping.{behind_flush, behind_return, flushed_in, returned_in}
-use Rattle.whole_system.specs.declared.call_site.CallSite.{CallSite}
-use Rattle.whole_system.specs.declared.served.Act.TheVariants as act
-use Rattle.whole_system.specs.declared.served.Note.TheVariants as note
-use Rattle.whole_system.specs.declared.served.Served as code
+use Rattle.system_state.specs.ServedLemmas.{served_changed}
+use Rattle.system_state.specs.Serving.{IsCaller, IsServed, caller_of}
+use Rattle.system_state.specs.State.{OwnState, SysState, areas_in, memory_of, with_machine, with_memory, input_words_of}
+use Rattle.system_state.specs.Stepping.{after_flush, after_return, flushed_in, returned_in}
+use Rattle.system_state.specs.declared.call_site.CallSite.{CallSite}
+use Rattle.system_state.specs.declared.served.Act.TheVariants as act
+use Rattle.system_state.specs.declared.served.Note.TheVariants as note
+use Rattle.system_state.specs.declared.served.Served as code
 
 -- no byte is printed
 pub prints_none : (memory : Memory) (at size : ℕ) → size ≡ 0 → printed (bytes_at memory at size) ≡ []
@@ -75,7 +75,7 @@ unfolding read_input
 input_asked p inputs caller answer old new left served =
     subst (λ (words : List ℕ). IsServed p Unseen (input_read words caller) answer old new) (sym left) served
 
--- those that are left, of a partition that has used so many
+-- those that are left, of a partition that has used this many
 pub inputs_left : (site : CallSite) (sys : SysState) (own : OwnState) → part_at site.part sys.machine ≡ with_memory own (memory_of site.part sys.machine) (input_words_of site.part sys.machine)
     → (caller_of site sys).state.inputs ≡ drop own.used (input_words_of site.part sys.machine)
 unfolding caller_of
@@ -90,18 +90,18 @@ return_answered site old new answer result is served =
     subst (λ (r : Result (Unit {0}) IretFault). IsServed site.part Unseen (by_return r (returned_in (areas_in site.part old.machine) (part_at site.part old.machine)) (caller_of site old)) answer old new) is served
 
 -- the return that was made
-pub return_made : (site : CallSite) (old new : SysState) → new ≡ with_machine (with_part site.part (behind_return (returned_in (areas_in site.part old.machine) (part_at site.part old.machine)) (part_at site.part old.machine)) old.machine) old
+pub return_made : (site : CallSite) (old new : SysState) → new ≡ with_machine (with_part site.part (after_return (returned_in (areas_in site.part old.machine) (part_at site.part old.machine)) (part_at site.part old.machine)) old.machine) old
     → IsServed site.part Unseen (by_return (Ok tt) (returned_in (areas_in site.part old.machine) (part_at site.part old.machine)) (caller_of site old)) (record { note = note.Nothing; act = act.Nothing }) old new
 unfolding caller_of
-return_made site old new is = record { state = is; told = refl; upshot = refl; traffic = refl; seen = refl; readable = tt; one = tt; asked = tt; entered = tt; event = tt }
+return_made site old new is = record { state = is; emitted = refl; upshot = refl; traffic = refl; seen = refl; readable = tt; one = tt; asked = tt; entered = tt; event = tt }
 
 -- a flush of the windows, by what it answered
 pub flush_answered : (site : CallSite) (old new : SysState) (answer : code.Served) (result : Result (Unit {0}) StackFault) → result ≡ (flushed_in (areas_in site.part old.machine) (part_at site.part old.machine)).answer
-    → IsServed site.part Unseen (by_flush result (behind_flush (flushed_in (areas_in site.part old.machine) (part_at site.part old.machine)) (part_at site.part old.machine)) (caller_of site old)) answer old new
+    → IsServed site.part Unseen (by_flush result (after_flush (flushed_in (areas_in site.part old.machine) (part_at site.part old.machine)) (part_at site.part old.machine)) (caller_of site old)) answer old new
     → IsServed site.part Unseen (flush_regwin (caller_of site old)) answer old new
 unfolding flush_regwin caller_of view_of areas_of
 flush_answered site old new answer result is served =
-    subst (λ (r : Result (Unit {0}) StackFault). IsServed site.part Unseen (by_flush r (behind_flush (flushed_in (areas_in site.part old.machine) (part_at site.part old.machine)) (part_at site.part old.machine)) (caller_of site old)) answer old new) is served
+    subst (λ (r : Result (Unit {0}) StackFault). IsServed site.part Unseen (by_flush r (after_flush (flushed_in (areas_in site.part old.machine) (part_at site.part old.machine)) (part_at site.part old.machine)) (caller_of site old)) answer old new) is served
 
 -- a call that is undone after a change of its caller
 pub undone_changed : (site : CallSite) (old mid new : SysState) (ps : PartitionState) (answer : code.Served) → IsCaller site old → mid ≡ with_machine (with_part site.part ps old.machine) old

@@ -11,12 +11,12 @@ use Rattle.machine_model.specs.Partition.{PartitionState}
 use Rattle.machine_model.specs.Observed.{CurrentPlan, HealthCounts, HealthEntryOf, Observation, PartitionStatus, PlanStatus, Question, SystemStatus, TraceCounts, TraceEntryOf, about_other, about_system, observing}
 use Rattle.machine_model.specs.Structures.{counts_bytes, health_bytes, partition_status, plan_status, system_status, trace_bytes, word}
 use Rattle.machine_model.specs.TimeCalls.{is_no_plan}
-use Rattle.machine_model.specs.Told.{Unseen, Words}
-use Rattle.whole_system.specs.SightLemmas.{sight_of_number}
-use Rattle.whole_system.specs.Serving.{caller_of}
-use Rattle.whole_system.specs.Shown.{seen_when}
-use Rattle.whole_system.specs.State.{SysState}
-use Rattle.whole_system.specs.declared.call_site.CallSite.{CallSite}
+use Rattle.machine_model.specs.Emission.{Unseen, Words}
+use Rattle.system_state.specs.SightLemmas.{sight_of_number}
+use Rattle.system_state.specs.Serving.{caller_of}
+use Rattle.system_state.specs.Shown.{seen_when}
+use Rattle.system_state.specs.State.{SysState}
+use Rattle.system_state.specs.declared.call_site.CallSite.{CallSite}
 
 -- bytes are shown where there is room for them
 roomed : (free : Bool) (bytes : List ℕ) → with_room free (Words bytes) ≡ seen_when (refused_if (not free) invalid_parameter ∷ []) (Words bytes)
@@ -93,13 +93,13 @@ asked_sight site sys number question address size is asks =
     at false true true = refl
     at false true false = refl
 
--- of a log of so many bytes an entry a caller is shown that of the partition that it names, where that is another
+-- of a log of this many bytes an entry a caller is shown that of the partition that it names, where that is another
 abbrev pub IsShownEntry : {T : Type 0} → CallSite → SysState → ℕ → (T → List ℕ) → (PartitionState → Kept T) → Type 0
 IsShownEntry site sys size bytes log =
     (caller_of site sys).sight
     ≡ seen_when (target (caller_of site sys) (a_of (caller_of site sys)) ∷ []) (if is_own (caller_of site sys) then Unseen else with_room (is_room (caller_of site sys) (c_of (caller_of site sys)) size) (shown_of (slice_get sys.machine.parts (a_of (caller_of site sys))) (λ ps. shown_entry bytes (entry_at (b_of (caller_of site sys)) (log ps)))))
 
--- and of so many bytes of a state
+-- and of this many bytes of a state
 abbrev pub IsShownBytes : CallSite → SysState → ℕ → (PartitionState → List ℕ) → Type 0
 IsShownBytes site sys size bytes =
     (caller_of site sys).sight

@@ -2,21 +2,21 @@
 
 ghost use Rattle.std.specs.Prelude.{◌≡◌, ◌<◌, ◌==◌, if◌then◌else◌, true, [], ◌∷◌, length};
 ghost use Rattle.machine_model.specs.Caller.{answering, is_room, room, tested, with_answer, with_written};
-ghost use Rattle.machine_model.specs.Told.{Unseen, Words};
-ghost use Rattle.whole_system.specs.Serving.{HasEvent, IsCaller, IsServed, IsUponOne, WantsAt, caller_of, upshot_of};
-ghost use Rattle.whole_system.specs.Shown.{seen_when};
+ghost use Rattle.machine_model.specs.Emission.{Unseen, Words};
+ghost use Rattle.system_state.specs.Serving.{HasEvent, IsCaller, IsServed, IsUponOne, WantsAt, caller_of, upshot_of};
+ghost use Rattle.system_state.specs.Shown.{seen_when};
 
-use whole_system::answering::{answer, answer_written, room, write};
-use whole_system::{Act, CallSite, Note, Served, Sys, engine};
+use system_state::answering::{answer, answer_written, room, write};
+use system_state::{Act, CallSite, Note, Served, Sys, engine};
 use xm_base::PartId;
 
 /// A call that answers with a result and reaches beyond its caller.
-#[tactic(auto, unfolding(whole_system::specs::Serving::caller_of, machine_model::specs::Caller::with_answer))]
+#[tactic(auto, unfolding(system_state::specs::Serving::caller_of, machine_model::specs::Caller::with_answer))]
 pub(crate) fn act(sys: &mut Sys, site: CallSite, act: Act, value: u32) -> Served
     requires caller { IsCaller site sys.old }
     requires one { IsUponOne act sys.old }
     requires event { HasEvent act }
-    ensures { IsServed site.part Unseen (record { after = with_answer value (caller_of site sys.old).state; told = []; upshot = upshot_of act }) result sys.old sys.new }
+    ensures { IsServed site.part Unseen (record { after = with_answer value (caller_of site sys.old).state; emitted = []; upshot = upshot_of act }) result sys.old sys.new }
 {
     engine::set_result(sys, site.part, value);
     Served {
@@ -26,7 +26,7 @@ pub(crate) fn act(sys: &mut Sys, site: CallSite, act: Act, value: u32) -> Served
 }
 
 /// An observing call: it writes bytes that its caller is shown of the rest of the system, and answers with a result.
-#[tactic(auto, unfolding(whole_system::specs::Serving::caller_of, machine_model::specs::Caller::with_answer))]
+#[tactic(auto, unfolding(system_state::specs::Serving::caller_of, machine_model::specs::Caller::with_answer))]
 pub(crate) fn show(
     sys: &mut Sys,
     site: CallSite,
@@ -41,7 +41,7 @@ pub(crate) fn show(
     requires wanted { WantsAt (caller_of site sys.old).view (caller_of site sys.old).state.core address }
     requires few { length bytes.now < 65536 }
     requires room { is_room (caller_of site sys.old) address (length bytes.now) ≡ true }
-    ensures { IsServed site.part (Words bytes.now) (record { after = with_answer value (with_written address bytes.now (caller_of site sys.old).state); told = []; upshot = upshot_of act }) result sys.old sys.new }
+    ensures { IsServed site.part (Words bytes.now) (record { after = with_answer value (with_written address bytes.now (caller_of site sys.old).state); emitted = []; upshot = upshot_of act }) result sys.old sys.new }
 {
     write(sys, site, address, bytes);
     engine::set_result(sys, site.part, value);

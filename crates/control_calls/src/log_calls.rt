@@ -5,16 +5,16 @@ ghost use Rattle.sparc_step.specs.Registers.{register_at};
 ghost use Rattle.xm_traces.specs.Ring.{noted};
 ghost use Rattle.machine_model.specs.Caller.{Acts, answering, caller_bytes, not_available, with_answer};
 ghost use Rattle.machine_model.specs.LogCalls.{hm_read, hm_status, raise_event, trace_event, trace_read, trace_status};
-ghost use Rattle.machine_model.specs.Told.{NotKept, Nothing, Trace, Unseen};
-ghost use Rattle.whole_system.specs.Serving.{IsCaller, IsServed, MayRead, caller_of};
-ghost use Rattle.whole_system.specs.State.{part_at};
+ghost use Rattle.machine_model.specs.Emission.{NotKept, Nothing, Trace, Unseen};
+ghost use Rattle.system_state.specs.Serving.{IsCaller, IsServed, MayRead, caller_of};
+ghost use Rattle.system_state.specs.State.{part_at};
 
 use crate::acting::{act, show_named};
-use whole_system::answering::{
+use system_state::answering::{
     A, B, C, NO_ACTION, NOT_AVAILABLE, OUT_0, answer, argument, read, refused_if, target, text,
 };
-use whole_system::structures::{counts_bytes, health_bytes, trace_bytes};
-use whole_system::{Act, CallSite, Note, Served, Sys, engine};
+use system_state::structures::{counts_bytes, health_bytes, trace_bytes};
+use system_state::{Act, CallSite, Note, Served, Sys, engine};
 use xm_conf::Event;
 use xm_traces::TraceEntry;
 
@@ -38,7 +38,7 @@ pub fn trace_event(sys: &mut Sys, site: CallSite) -> Served
 }
 
 // The events that the caller traces, a bit each.
-#[tactic(auto, unfolding(whole_system::specs::Serving::caller_of, machine_model::specs::View::view_of, machine_model::specs::View::part_of))]
+#[tactic(auto, unfolding(system_state::specs::Serving::caller_of, machine_model::specs::View::view_of, machine_model::specs::View::part_of))]
 fn trace_mask(sys: &Sys, site: CallSite) -> u32
     requires { IsCaller site sys.now }
     ensures { result ≡ (caller_of site sys.now).view.part.trace_mask }
@@ -48,7 +48,7 @@ fn trace_mask(sys: &Sys, site: CallSite) -> u32
 }
 
 // The trace entry of a call, with the 8 bytes at an address.
-#[tactic(auto, unfolding(whole_system::specs::Serving::caller_of))]
+#[tactic(auto, unfolding(system_state::specs::Serving::caller_of))]
 fn trace_entry(sys: &Sys, site: CallSite, bits: u32, at: u32) -> TraceEntry
     requires caller { IsCaller site sys.now }
     requires readable { MayRead (caller_of site sys.now) at 8 }
@@ -64,12 +64,12 @@ fn trace_entry(sys: &Sys, site: CallSite, bits: u32, at: u32) -> TraceEntry
     }
 }
 
-// The caller's entry is noted and told.
-#[tactic(auto, unfolding(whole_system::specs::Serving::caller_of, machine_model::specs::Caller::with_answer))]
+// The caller's entry is noted and emitted.
+#[tactic(auto, unfolding(system_state::specs::Serving::caller_of, machine_model::specs::Caller::with_answer))]
 fn enter(sys: &mut Sys, site: CallSite, entry: TraceEntry) -> Served
     requires caller { IsCaller site sys.old }
     requires traces { (part_at site.part sys.old.machine).traces.next < 4294967295 }
-    ensures { IsServed site.part Unseen (record { after = with_answer 0 (record (caller_of site sys.old).state { traces = noted entry (caller_of site sys.old).state.traces }); told = Trace entry.bits entry.load ∷ []; upshot = Acts Nothing }) result sys.old sys.new }
+    ensures { IsServed site.part Unseen (record { after = with_answer 0 (record (caller_of site sys.old).state { traces = noted entry (caller_of site sys.old).state.traces }); emitted = Trace entry.bits entry.load ∷ []; upshot = Acts Nothing }) result sys.old sys.new }
 {
     let own = sys.part_mut(site.part);
     own.traces.note(entry);
@@ -107,13 +107,13 @@ fn miss(sys: &mut Sys, site: CallSite, id: u32) -> Served
     if id == u32::from(site.part) {
         answer(sys, site, NOT_AVAILABLE)
     } else {
-        told_not_kept(sys, site)
+        answer_not_kept(sys, site)
     }
 }
 
-// The caller is told that an entry of another partition is not kept.
-#[tactic(auto, unfolding(whole_system::specs::Serving::caller_of, machine_model::specs::Caller::with_answer))]
-fn told_not_kept(sys: &mut Sys, site: CallSite) -> Served
+// The caller is shown that an entry of another partition is not kept.
+#[tactic(auto, unfolding(system_state::specs::Serving::caller_of, machine_model::specs::Caller::with_answer))]
+fn answer_not_kept(sys: &mut Sys, site: CallSite) -> Served
     requires { IsCaller site sys.old }
     ensures { IsServed site.part NotKept (answering not_available (caller_of site sys.old).state) result sys.old sys.new }
 {

@@ -4,20 +4,20 @@ ghost use Rattle.std.specs.Prelude.{[], ◌∷◌, ◌≡◌};
 ghost use Rattle.sparc_step.specs.Registers.{register_at};
 ghost use Rattle.machine_model.specs.Caller.{a_of, invalid_mode, is_neither, mode_numbered, refused_if, target, tested};
 ghost use Rattle.machine_model.specs.PartitionCalls.{get_partition_status, get_self, get_system_status, halt_system, idle_self, ordering, reset_partition, reset_system};
-ghost use Rattle.machine_model.specs.Told.{Unseen};
-ghost use Rattle.whole_system.specs.Serving.{IsCaller, IsServed, caller_of};
+ghost use Rattle.machine_model.specs.Emission.{Unseen};
+ghost use Rattle.system_state.specs.Serving.{IsCaller, IsServed, caller_of};
 
 use crate::acting::{act, show, show_named};
 use health_monitor::Whole;
-use whole_system::answering::{
+use system_state::answering::{
     A, B, C, INVALID_MODE, OUT_0, answer, argument, refused_if, room, system_only, target,
 };
-use whole_system::structures::{partition_status, system_status};
-use whole_system::{Act, CallSite, Note, Served, Sys};
+use system_state::structures::{partition_status, system_status};
+use system_state::{Act, CallSite, Note, Served, Sys};
 use xm_base::{Mode, Order, State};
 
 /// Call 1, XM_get_self: the caller's number.
-#[tactic(auto, unfolding(whole_system::specs::Serving::caller_of, machine_model::specs::View::view_of, machine_model::specs::PartitionCalls::get_self))]
+#[tactic(auto, unfolding(system_state::specs::Serving::caller_of, machine_model::specs::View::view_of, machine_model::specs::PartitionCalls::get_self))]
 pub fn get_self(sys: &mut Sys, site: CallSite) -> Served
     requires { IsCaller site sys.old }
     ensures { IsServed site.part Unseen (get_self (caller_of site sys.old)) result sys.old sys.new }
@@ -76,7 +76,7 @@ pub fn reset_partition(sys: &mut Sys, site: CallSite) -> Served
 }
 
 /// Call 7, XM_idle_self: the caller waits for its next slot or an interrupt.
-#[tactic(auto, unfolding(whole_system::specs::Serving::caller_of, machine_model::specs::Caller::with_answer, machine_model::specs::PartitionCalls::idle_self))]
+#[tactic(auto, unfolding(system_state::specs::Serving::caller_of, machine_model::specs::Caller::with_answer, machine_model::specs::PartitionCalls::idle_self))]
 pub fn idle_self(sys: &mut Sys, site: CallSite) -> Served
     requires { IsCaller site sys.old }
     ensures { IsServed site.part Unseen (idle_self (caller_of site sys.old)) result sys.old sys.new }

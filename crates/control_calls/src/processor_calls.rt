@@ -5,31 +5,31 @@ ghost use Rattle.std.specs.Int.{bit_at, to_be_bytes, w32};
 ghost use Rattle.xm_base.specs.declared.limits.TheConstants.{CONSOLE_BYTES};
 ghost use Rattle.machine_model.specs.Caller.{a_of, answering, b_of, caller_bytes, is_room, with_written};
 ghost use Rattle.machine_model.specs.ProcessorCalls.{clear_irqmask, flush_regwin, input_read, iret, printed, read_input, set_irqmask, set_psr, set_tbr, undone, write_console};
-ghost use Rattle.machine_model.specs.Told.{Unseen};
+ghost use Rattle.machine_model.specs.Emission.{Unseen};
 ghost use Rattle.sparc_step.specs.Registers.{with_icc};
-ghost use Rattle.whole_system.specs.Serving.{IsCaller, IsServed, MayRead, caller_of};
-ghost use Rattle.whole_system.specs.State.{input_words_of};
+ghost use Rattle.system_state.specs.Serving.{IsCaller, IsServed, MayRead, caller_of};
+ghost use Rattle.system_state.specs.State.{input_words_of};
 
 use sparc_step::{Core, Processor};
-use virt_traps::IretFault;
-use whole_system::answering::{
+use system_state::answering::{
     A, B, INVALID_PARAMETER, NOT_AVAILABLE, OUT_0, answer, argument, refused_if, room, text, write,
 };
-use whole_system::{Act, CallSite, Note, Served, Sys, engine};
+use system_state::{Act, CallSite, Note, Served, Sys, engine};
+use virt_traps::IretFault;
 use xm_base::CONSOLE_BYTES;
 use xm_conf::Event;
 
 /// The bit of a PSR that is set where traps are enabled.
 const TRAPS_ENABLED: u32 = 1 << 5;
 
-/// What a call came to that changed its caller alone.
+/// The outcome of a call that changed its caller alone.
 const DONE: Served = Served {
     note: Note::Nothing,
     act: Act::Nothing,
 };
 
 /// Call 30, XM_set_irqmask(a): the interrupts of a are masked.
-#[tactic(auto, unfolding(whole_system::specs::Serving::caller_of, machine_model::specs::Caller::with_answer, machine_model::specs::ProcessorCalls::set_irqmask))]
+#[tactic(auto, unfolding(system_state::specs::Serving::caller_of, machine_model::specs::Caller::with_answer, machine_model::specs::ProcessorCalls::set_irqmask))]
 pub fn set_irqmask(sys: &mut Sys, site: CallSite) -> Served
     requires { IsCaller site sys.old }
     ensures { IsServed site.part Unseen (set_irqmask (caller_of site sys.old)) result sys.old sys.new }
@@ -42,7 +42,7 @@ pub fn set_irqmask(sys: &mut Sys, site: CallSite) -> Served
 }
 
 /// Call 31, XM_clear_irqmask(a): the interrupts of a are no longer masked.
-#[tactic(auto, unfolding(whole_system::specs::Serving::caller_of, machine_model::specs::Caller::with_answer, machine_model::specs::ProcessorCalls::clear_irqmask))]
+#[tactic(auto, unfolding(system_state::specs::Serving::caller_of, machine_model::specs::Caller::with_answer, machine_model::specs::ProcessorCalls::clear_irqmask))]
 pub fn clear_irqmask(sys: &mut Sys, site: CallSite) -> Served
     requires { IsCaller site sys.old }
     ensures { IsServed site.part Unseen (clear_irqmask (caller_of site sys.old)) result sys.old sys.new }
@@ -72,14 +72,14 @@ pub fn write_console(sys: &mut Sys, site: CallSite) -> Served
 }
 
 // Prints bytes of the caller's memory, all of which it may read. Their number is the result.
-#[tactic(auto, using(crate::proofs::ProcessorLemmas::prints_none, crate::proofs::ProcessorLemmas::prints_some), unfolding(whole_system::specs::Serving::caller_of, machine_model::specs::Caller::with_answer, machine_model::specs::View::view_of, machine_model::specs::Partition::areas_of))]
+#[tactic(auto, using(crate::proofs::ProcessorLemmas::prints_none, crate::proofs::ProcessorLemmas::prints_some), unfolding(system_state::specs::Serving::caller_of, machine_model::specs::Caller::with_answer, machine_model::specs::View::view_of, machine_model::specs::Partition::areas_of))]
 fn print(sys: &mut Sys, site: CallSite, at: u32, size: u32) -> Served
     requires caller { IsCaller site sys.old }
     requires at { at ≡ a_of (caller_of site sys.old) }
     requires size { size ≡ b_of (caller_of site sys.old) }
     requires few { size ≤ CONSOLE_BYTES }
     requires readable { MayRead (caller_of site sys.old) at size }
-    ensures { IsServed site.part Unseen (record (answering size (caller_of site sys.old).state) { told = printed (caller_bytes (caller_of site sys.old) at size) }) result sys.old sys.new }
+    ensures { IsServed site.part Unseen (record (answering size (caller_of site sys.old).state) { emitted = printed (caller_bytes (caller_of site sys.old) at size) }) result sys.old sys.new }
 {
     engine::set_result(sys, site.part, size);
     if size == 0 {
@@ -106,7 +106,7 @@ pub fn read_input(sys: &mut Sys, site: CallSite) -> Served
     }
 }
 
-// Writes an input word where the caller asks for it, after which it has used so many.
+// Writes an input word where the caller asks for it, after which it has used this many.
 fn hand_over(sys: &mut Sys, site: CallSite, at: u32, word: u32, used: usize) -> Served
     requires caller { IsCaller site sys.old }
     requires at { at ≡ a_of (caller_of site sys.old) }
@@ -118,7 +118,7 @@ fn hand_over(sys: &mut Sys, site: CallSite, at: u32, word: u32, used: usize) -> 
     }
 }
 
-// Writes an input word where there is room for it, after which the caller has used so many.
+// Writes an input word where there is room for it, after which the caller has used this many.
 fn put_input(sys: &mut Sys, site: CallSite, at: u32, word: u32, used: usize) -> Served
     requires caller { IsCaller site sys.old }
     requires room { is_room (caller_of site sys.old) at 4 ≡ true }
@@ -128,8 +128,8 @@ fn put_input(sys: &mut Sys, site: CallSite, at: u32, word: u32, used: usize) -> 
     use_inputs(sys, site, used)
 }
 
-// Ends a call after which its caller has used so many input words.
-#[tactic(auto, unfolding(whole_system::specs::Serving::caller_of, machine_model::specs::Caller::with_answer))]
+// Ends a call after which its caller has used this many input words.
+#[tactic(auto, unfolding(system_state::specs::Serving::caller_of, machine_model::specs::Caller::with_answer))]
 fn use_inputs(sys: &mut Sys, site: CallSite, used: usize) -> Served
     requires { IsCaller site sys.old }
     ensures { IsServed site.part Unseen (answering 0 (record (caller_of site sys.old).state { inputs = drop used (input_words_of site.part sys.old.machine) })) result sys.old sys.new }
@@ -156,7 +156,7 @@ pub fn iret(sys: &mut Sys, site: CallSite) -> Served
 }
 
 /// Call 35, sparc_set_psr(a): the condition codes from bits 23 to 20, and from bit 5 whether traps are enabled.
-#[tactic(auto, unfolding(whole_system::specs::Serving::caller_of, machine_model::specs::Caller::with_answer, machine_model::specs::ProcessorCalls::set_psr, sparc_step::specs::Registers::with_icc))]
+#[tactic(auto, unfolding(system_state::specs::Serving::caller_of, machine_model::specs::Caller::with_answer, machine_model::specs::ProcessorCalls::set_psr, sparc_step::specs::Registers::with_icc))]
 pub fn set_psr(sys: &mut Sys, site: CallSite) -> Served
     requires { IsCaller site sys.old }
     ensures { IsServed site.part Unseen (set_psr (caller_of site sys.old)) result sys.old sys.new }
@@ -204,7 +204,7 @@ fn enabled_of(psr: u32) -> bool
 }
 
 /// Call 36, sparc_set_tbr(a): the table of traps stands at a, a multiple of 4096.
-#[tactic(auto, unfolding(whole_system::specs::Serving::caller_of, machine_model::specs::Caller::with_answer, machine_model::specs::ProcessorCalls::set_tbr))]
+#[tactic(auto, unfolding(system_state::specs::Serving::caller_of, machine_model::specs::Caller::with_answer, machine_model::specs::ProcessorCalls::set_tbr))]
 pub fn set_tbr(sys: &mut Sys, site: CallSite) -> Served
     requires { IsCaller site sys.old }
     ensures { IsServed site.part Unseen (set_tbr (caller_of site sys.old)) result sys.old sys.new }
@@ -253,7 +253,7 @@ fn put_counters(core: &mut Core, pc: u32, npc: u32)
 }
 
 // Undoes a call that met a stack fault: the program is at it again.
-#[tactic(auto, unfolding(whole_system::specs::Serving::caller_of))]
+#[tactic(auto, unfolding(system_state::specs::Serving::caller_of))]
 fn undo(sys: &mut Sys, site: CallSite) -> Served
     requires caller { IsCaller site sys.old }
     requires pc { site.pc % 4 ≡ 0 }

@@ -6,17 +6,17 @@ ghost use Rattle.sparc_step.specs.Registers.{register_at};
 ghost use Rattle.virt_clocks.specs.Clocks.{armed, with_timer};
 ghost use Rattle.machine_model.specs.Caller.{answering, invalid_parameter, is_neither, refused_if};
 ghost use Rattle.machine_model.specs.TimeCalls.{clock_numbered, clock_of, get_plan_status, get_time, is_negative, joined, set_timer, switch_sched_plan};
-ghost use Rattle.machine_model.specs.Told.{Unseen};
-ghost use Rattle.whole_system.specs.Serving.{IsCaller, IsServed, caller_of};
+ghost use Rattle.machine_model.specs.Emission.{Unseen};
+ghost use Rattle.system_state.specs.Serving.{IsCaller, IsServed, caller_of};
 
 use crate::acting::show;
-use virt_clocks::Clock;
-use whole_system::answering::{
+use system_state::answering::{
     A, B, C, D, E, INVALID_PARAMETER, OUT_0, answer, answer_written, argument, refused_if, room,
     system_only,
 };
-use whole_system::structures::plan_status;
-use whole_system::{Act, CallSite, Note, Served, Sys};
+use system_state::structures::plan_status;
+use system_state::{Act, CallSite, Note, Served, Sys};
+use virt_clocks::Clock;
 
 /// Call 12, XM_get_time(a, b): the clock a, at b.
 #[tactic(auto, unfolding(machine_model::specs::TimeCalls::get_time))]
@@ -103,7 +103,7 @@ pub fn get_plan_status(sys: &mut Sys, site: CallSite) -> Served
 }
 
 // Plan 0 cannot be asked for, and others have to be there.
-#[tactic(auto, unfolding(whole_system::specs::Serving::caller_of, machine_model::specs::View::view_of))]
+#[tactic(auto, unfolding(system_state::specs::Serving::caller_of, machine_model::specs::View::view_of))]
 fn plan_there(sys: &Sys, site: CallSite, plan: u32) -> Option<u32>
     requires { IsCaller site sys.now }
     ensures value { result ≡ refused_if (plan == 0 || not (nat_lt plan (caller_of site sys.now).view.sees.plans)) invalid_parameter }
@@ -129,7 +129,7 @@ fn joined(high: u32, low: u32) -> i64
 }
 
 // Sets the caller's timer on a clock.
-#[tactic(auto, unfolding(whole_system::specs::Serving::caller_of, machine_model::specs::Caller::with_answer))]
+#[tactic(auto, unfolding(system_state::specs::Serving::caller_of, machine_model::specs::Caller::with_answer))]
 fn arm(sys: &mut Sys, site: CallSite, clock: Clock, deadline: i64, interval: i64) -> Served
     requires caller { IsCaller site sys.old }
     requires deadline { pos 0 ≤ℤ deadline }
@@ -163,7 +163,7 @@ fn clock_numbered(number: u32) -> Clock
 }
 
 // What a clock says.
-#[tactic(auto, unfolding(whole_system::specs::Serving::caller_of))]
+#[tactic(auto, unfolding(system_state::specs::Serving::caller_of))]
 fn time_of(sys: &Sys, site: CallSite, clock: Clock) -> u64
     requires { IsCaller site sys.now }
     ensures { result ≡ clock_of clock (caller_of site sys.now) }

@@ -10,7 +10,7 @@ use Rattle.machine_model.specs.CoreFile.{area_bytes}
 use Rattle.machine_model.specs.Machine.{Machine}
 use Rattle.machine_model.specs.Partition.{areas_of}
 use Rattle.machine_model.specs.View.{System, part_of, view_of}
-use Rattle.whole_system.specs.State.{areas_in}
+use Rattle.system_state.specs.State.{areas_in}
 use Rattle.xm_conf.specs.declared.part.Area as configured
 use Rattle.core_files.specs.Length.{area_length}
 use Rattle.core_files.proofs.WritingLemmas.{element_written}

@@ -35,7 +35,7 @@ words_long : (words : List ℕ) → length (flat_map word words) ≡ length word
 words_long [] = refl
 words_long (n ∷ words) = omega (arith, longer (word n) (flat_map word words) 4 (length words * 4) refl (words_long words))
 
--- trace entries that tell 8 bytes
+-- trace entries that have 8 bytes
 traces_long : (entries : List TraceEntry) → HaveEight entries → length (flat_map trace_bytes entries) ≡ length entries * 24
 unfolding trace_bytes
 traces_long [] eight = refl
@@ -52,7 +52,7 @@ health_long (entry ∷ entries) =
     let one : length (health_bytes entry) ≡ 20 = refl in
     omega (arith, longer (health_bytes entry) (flat_map health_bytes entries) 20 (length entries * 20) one (health_long entries))
 
--- a log whose entries have so many bytes
+-- a log whose entries have this many bytes
 log_long : {T : Type 0} (size : ℕ) (bytes : T → List ℕ) (kept : Kept T) (most : ℕ) → length kept.entries * size + (64 - length kept.entries) * size ≡ most
     → length (flat_map bytes kept.entries) ≡ length kept.entries * size → length (log_bytes size bytes kept) ≡ 8 + most
 unfolding counts_bytes
@@ -74,7 +74,7 @@ areas_long memory (area ∷ areas) =
     longer (area_bytes memory area) (flat_map (area_bytes memory) areas) (area_length area) (sum_by area_length areas) one (areas_long memory areas)
     ∙ sym (sum_by-cons area_length area areas)
 
--- what a partition always has: eight and 128 registers, and logs with at most 64 entries, whose traces tell 8 bytes
+-- what a partition always has: eight and 128 registers, and logs with at most 64 entries, whose traces have 8 bytes
 pub record HasSizes (ps : PartitionState) : Type 0 where
   pub globals : length ps.core.globals ≡ 8
   pub windows : length ps.core.windows ≡ 128

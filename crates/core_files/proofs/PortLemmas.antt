@@ -9,7 +9,7 @@ flag_few : (one : Bool) → flag one ≤ 1
 flag_few true = omega arith
 flag_few false = omega arith
 
--- the bits of so many flags
+-- the bits of this many flags
 pub bits_below : (made : List Bool) → bits_of_flags made < 2 ^ length made
 bits_below [] = omega arith
 bits_below (one ∷ rest) = omega (arith, bits_below rest, flag_few one, pow-suc 2 (length rest))

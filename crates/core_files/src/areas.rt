@@ -6,16 +6,16 @@ ghost use Rattle.guest_bus.specs.Memory.{all_from, bytes_at, is_readable};
 ghost use Rattle.guest_memory.specs.Loading.{area_of};
 ghost use Rattle.machine_model.specs.CoreFile.{area_bytes};
 ghost use Rattle.machine_model.specs.Structures.{word};
-ghost use Rattle.whole_system.specs.State.{areas_in, memory_of};
+ghost use Rattle.system_state.specs.State.{areas_in, memory_of};
 ghost use Rattle.core_files.specs.Length.{area_length};
 
-use crate::fields::{put, put_structure};
-use whole_system::structures::Structure;
-use whole_system::{Sys, read_memory};
+use crate::fields::{put_structure, write_at};
+use system_state::structures::Structure;
+use system_state::{Sys, read_memory};
 use xm_base::PartId;
 use xm_conf::Area;
 
-/// Writes the areas of a partition at a place, their number before them, and tells the place after them.
+/// Writes the areas of a partition at a place, their number before them, and returns the place after them.
 pub(crate) fn put_areas(into: &mut [u8], at: usize, areas: &[Area], sys: &Sys, p: PartId) -> usize
     requires partition { p < length sys.now.machine.parts }
     requires areas { areas_in p sys.now.machine ≡ map area_of areas.now }
@@ -29,7 +29,7 @@ pub(crate) fn put_areas(into: &mut [u8], at: usize, areas: &[Area], sys: &Sys, p
     put_each(into, at, areas, sys, p)
 }
 
-/// Writes the number of areas at a place, and tells the place after it.
+/// Writes the number of areas at a place, and returns the place after it.
 fn put_number(into: &mut [u8], at: usize, areas: &[Area]) -> usize
     requires few { length areas.now ≤ 8 }
     requires room { at + 1 ≤ length into.old }
@@ -37,10 +37,10 @@ fn put_number(into: &mut [u8], at: usize, areas: &[Area]) -> usize
     ensures place { result ≡ at + 1 }
     ensures room { length into.new ≡ length into.old }
 {
-    put(into, at, &[areas.len() as u8])
+    write_at(into, at, &[areas.len() as u8])
 }
 
-/// Writes areas of a partition at a place, each with its bytes, and tells the place after them.
+/// Writes areas of a partition at a place, each with its bytes, and returns the place after them.
 fn put_each(into: &mut [u8], at: usize, areas: &[Area], sys: &Sys, p: PartId) -> usize
     requires partition { p < length sys.now.machine.parts }
     requires areas { areas_in p sys.now.machine ≡ map area_of areas.now }
@@ -56,7 +56,7 @@ fn put_each(into: &mut [u8], at: usize, areas: &[Area], sys: &Sys, p: PartId) ->
     after
 }
 
-/// Writes an area of a partition with its bytes at a place, and tells the place after it.
+/// Writes an area of a partition with its bytes at a place, and returns the place after it.
 fn put_area(into: &mut [u8], at: usize, area: &Area, sys: &Sys, p: PartId) -> usize
     requires partition { p < length sys.now.machine.parts }
     requires readable { all_from (is_readable (areas_in p sys.now.machine)) area.now.start area.now.size ≡ true }
@@ -80,7 +80,7 @@ fn area_head(area: &Area) -> Structure
     bytes
 }
 
-/// Writes the bytes of an area of a partition at a place, and tells the place after them.
+/// Writes the bytes of an area of a partition at a place, and returns the place after them.
 fn put_memory(into: &mut [u8], at: usize, area: &Area, sys: &Sys, p: PartId) -> usize
     requires partition { p < length sys.now.machine.parts }
     requires readable { all_from (is_readable (areas_in p sys.now.machine)) area.now.start area.now.size ≡ true }

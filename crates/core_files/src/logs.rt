@@ -5,11 +5,11 @@ ghost use Rattle.std.specs.List.{flat_map};
 ghost use Rattle.machine_model.specs.CoreFile.{log_bytes};
 ghost use Rattle.machine_model.specs.Facts.{HaveEight};
 ghost use Rattle.machine_model.specs.Structures.{health_bytes, trace_bytes};
-ghost use Rattle.whole_system.specs.State.{part_at};
+ghost use Rattle.system_state.specs.State.{part_at};
 
 use crate::fields::{put_structure, put_zeros};
-use whole_system::Sys;
-use whole_system::structures::{Structure, counts_bytes, health_bytes, trace_bytes};
+use system_state::Sys;
+use system_state::structures::{Structure, counts_bytes, health_bytes, trace_bytes};
 use xm_base::PartId;
 use xm_traces::{Ring, TraceEntry};
 
@@ -22,7 +22,7 @@ const TRACE_BYTES: usize = 24;
 /// Bytes of a health entry.
 const HEALTH_BYTES: usize = 20;
 
-/// Writes the logs of a partition at a place, and tells the place after their 2832 bytes.
+/// Writes the logs of a partition at a place, and returns the place after their 2832 bytes.
 pub(crate) fn put_logs(into: &mut [u8], at: usize, sys: &Sys, p: PartId) -> usize
     requires partition { p < length sys.now.machine.parts }
     requires room { at + 2832 ≤ length into.old }
@@ -35,7 +35,7 @@ pub(crate) fn put_logs(into: &mut [u8], at: usize, sys: &Sys, p: PartId) -> usiz
     put_log(into, at, &own.health, HEALTH_BYTES, health_bytes)
 }
 
-/// Writes a log at a place, whose entries have so many bytes each, and tells the place after the 64 that it may keep.
+/// Writes a log at a place, whose entries have this number of bytes each, and returns the place after the 64 that it may keep.
 fn put_log<T: Copy, F: Fn(&T) -> Structure>(
     into: &mut [u8],
     at: usize,

@@ -3,13 +3,13 @@
 ghost use Rattle.std.specs.Prelude.{◌≡◌, ◌+◌, ◌*◌, ◌<◌, ◌≤◌, ◌++◌, length, take};
 ghost use Rattle.std.specs.List.{flat_map};
 ghost use Rattle.machine_model.specs.Structures.{word};
-ghost use Rattle.whole_system.specs.State.{part_at};
+ghost use Rattle.system_state.specs.State.{part_at};
 
 use crate::fields::put_word;
-use whole_system::Sys;
+use system_state::Sys;
 use xm_base::PartId;
 
-/// Writes the numbered registers of a partition at a place, and tells the place after their 544 bytes.
+/// Writes the numbered registers of a partition at a place, and returns the place after their 544 bytes.
 pub(crate) fn put_registers(into: &mut [u8], at: usize, sys: &Sys, p: PartId) -> usize
     requires partition { p < length sys.now.machine.parts }
     requires room { at + 544 ≤ length into.old }
@@ -22,7 +22,7 @@ pub(crate) fn put_registers(into: &mut [u8], at: usize, sys: &Sys, p: PartId) ->
     put_words(into, at, &core.windows)
 }
 
-/// Writes words one after another at a place, and tells the place after them.
+/// Writes words one after another at a place, and returns the place after them.
 fn put_words(into: &mut [u8], at: usize, words: &[u32]) -> usize
     requires { at + 4 * length words.now ≤ length into.old }
     ensures text { take result into.new ≡ take at into.old ++ flat_map word words.now }

@@ -5,11 +5,11 @@ ghost use Rattle.virt_clocks.specs.Clocks.{timer_of};
 ghost use Rattle.machine_model.specs.CoreFile.{bits_of_flags, processor_bytes, standing_bytes, timer_bytes};
 ghost use Rattle.machine_model.specs.Structures.{double, flag};
 ghost use Rattle.machine_model.specs.View.{view_of};
-ghost use Rattle.whole_system.specs.State.{part_at};
+ghost use Rattle.system_state.specs.State.{part_at};
 
+use system_state::Sys;
+use system_state::structures::{Structure, state_number};
 use virt_clocks::{Clock, Timer};
-use whole_system::Sys;
-use whole_system::structures::{Structure, state_number};
 use xm_base::PartId;
 use xm_ports::Ports;
 
@@ -108,7 +108,7 @@ pub(crate) fn made_ports(sys: &Sys, p: PartId) -> u32
 fn port_bits(ports: &Ports) -> u32
     ensures { result ≡ bits_of_flags ports.now }
 {
-    // It tells that there are 32.
+    // Its contract says that there are 32.
     let _first = ports.is_made(0);
     let mut bits = 0;
     let mut port = PORTS;

@@ -6,7 +6,7 @@ ghost use Rattle.guest_memory.specs.Loading.{area_of};
 ghost use Rattle.machine_model.specs.CoreFile.{area_bytes, core_file};
 ghost use Rattle.machine_model.specs.Partition.{areas_of};
 ghost use Rattle.machine_model.specs.View.{part_of, view_of};
-ghost use Rattle.whole_system.specs.State.{memory_of, part_at};
+ghost use Rattle.system_state.specs.State.{memory_of, part_at};
 ghost use Rattle.core_files.specs.Length.{area_length, core_length_of, head_length};
 
 use crate::areas::put_areas;
@@ -14,15 +14,15 @@ use crate::fields::{put_count, put_structure, put_word};
 use crate::logs::{look_at_logs, put_logs};
 use crate::registers::{look_at_registers, put_registers};
 use crate::standing::{made_ports, processor, standing, timer};
+use system_state::Sys;
 use virt_clocks::Clock;
-use whole_system::Sys;
 use xm_base::PartId;
 use xm_conf::{Area, Conf};
 
 /// Bytes of a core file up to the number of areas, which is the last of them.
 const HEAD_BYTES: usize = 3471;
 
-/// Bytes that tell the start and the size of an area.
+/// Bytes that state the start and the size of an area.
 const AREA_HEAD_BYTES: usize = 8;
 
 /// How many bytes the core file of a partition has. No tick and no reset changes it.
@@ -71,7 +71,7 @@ pub fn core_into(sys: &Sys, p: PartId, into: &mut [u8])
     put_areas(into, at, areas, sys, p);
 }
 
-/// Writes all that stands before the areas and their number, and tells the place after it.
+/// Writes all that stands before the areas and their number, and returns the place after it.
 fn put_head(into: &mut [u8], sys: &Sys, p: PartId) -> usize
     requires partition { p < length sys.now.machine.parts }
     requires room { 3470 ≤ length into.old }

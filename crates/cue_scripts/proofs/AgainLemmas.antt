@@ -8,15 +8,15 @@ use Rattle.xm_base.specs.declared.partition.Mode.TheVariants as mode
 use Rattle.xm_base.specs.declared.partition.Order.{Order}
 use Rattle.xm_base.specs.declared.partition.Order.TheVariants as upon
 use Rattle.xm_conf.specs.Configuration.{Conf}
-use Rattle.sealed_files.specs.FieldLemmas.{wide8, wide16, wide32, Reads, bytes_again, listed_again, number_again}
-use Rattle.sealed_files.specs.Steps.{◌>>=◌}
+use Rattle.file_headers.specs.FieldLemmas.{wide8, wide16, wide32, Reads, bytes_again, listed_again, number_again}
+use Rattle.file_headers.specs.Steps.{◌>>=◌}
 use Rattle.machine_model.specs.Cue.{Away, Mine, CueSlot}
-use Rattle.machine_model.specs.Told.{AllHalted, AllReset, NoEvent, NotKept, OwnPuts, OwnSignals, OwnStill, OwnTakes, OwnTraffic, Sight, Unseen, WholeEvent, Words}
-use Rattle.sealed_files.specs.Fields.{field_bytes, listed_at}
+use Rattle.machine_model.specs.Emission.{AllHalted, AllReset, NoEvent, NotKept, OwnPuts, OwnSignals, OwnStill, OwnTakes, OwnTraffic, Sight, Unseen, WholeEvent, Words}
+use Rattle.file_headers.specs.Fields.{field_bytes, listed_at}
 use Rattle.cue_scripts.specs.Script.{CanHear, CanSee, IsOrder, gives_queue, is_length, is_shown, most_heard, signals}
 use Rattle.cue_scripts.specs.Spelling.{event_byte, order_text, sight_text, slot_byte, traffic_text}
 use Rattle.cue_scripts.specs.Reading.{event_at, event_of_byte, is_event, is_heard, is_sight, message_at, order_at, order_of_kind, put_message_at, reset_at, cue_sight_at, sight_of_kind, signal_at, cue_slot_at, slot_of_byte, take_at, traffic_at, traffic_of_kind, shown_words_at, script_field, script_short}
-use Rattle.file_texts.specs.declared.fault.ScriptFault.{ScriptFault}
+use Rattle.fault_messages.specs.declared.fault.ScriptFault.{ScriptFault}
 use Rattle.cue_scripts.proofs.FieldLemmas.{one_byte}
 use Rattle.cue_scripts.proofs.ScriptLemmas.{few_shown}
 use Rattle.cue_scripts.proofs.TakePartLemmas.{InOwn}
@@ -36,13 +36,13 @@ leads test more place n rest small passes stands =
 pub slot_again : (place : Place) (mine : CueSlot) (rest : List ℕ) → ahead place ≡ slot_byte mine ∷ rest → Reads (cue_slot_at place) mine rest
 unfolding cue_slot_at
 slot_again place Away rest stands =
-    let k = leads (λ byte. nat_le byte 2) (λ byte behind. Ok (slot_of_byte byte, behind)) place 0 rest (omega arith) refl stands in
+    let k = leads (λ byte. nat_le byte 2) (λ byte following. Ok (slot_of_byte byte, following)) place 0 rest (omega arith) refl stands in
     record { after = k.after; is = k.is; ahead = k.ahead }
 slot_again place (Mine false) rest stands =
-    let k = leads (λ byte. nat_le byte 2) (λ byte behind. Ok (slot_of_byte byte, behind)) place 1 rest (omega arith) refl stands in
+    let k = leads (λ byte. nat_le byte 2) (λ byte following. Ok (slot_of_byte byte, following)) place 1 rest (omega arith) refl stands in
     record { after = k.after; is = k.is; ahead = k.ahead }
 slot_again place (Mine true) rest stands =
-    let k = leads (λ byte. nat_le byte 2) (λ byte behind. Ok (slot_of_byte byte, behind)) place 2 rest (omega arith) refl stands in
+    let k = leads (λ byte. nat_le byte 2) (λ byte following. Ok (slot_of_byte byte, following)) place 2 rest (omega arith) refl stands in
     record { after = k.after; is = k.is; ahead = k.ahead }
 
 -- where a length is right there is one
@@ -116,16 +116,16 @@ order_again Away place (Some (upon.Reset mode.Warm status)) rest is none stands 
 pub event_again : (last : Bool) (place : Place) (whole : WholeEvent) (rest : List ℕ) → (whole ≡ AllHalted → last ≡ true) → ahead place ≡ event_byte whole ∷ rest → Reads (event_at last place) whole rest
 unfolding event_at
 event_again last place NoEvent rest halts stands =
-    let k = leads (is_event last) (λ byte behind. Ok (event_of_byte byte, behind)) place 0 rest (omega arith) refl stands in
+    let k = leads (is_event last) (λ byte following. Ok (event_of_byte byte, following)) place 0 rest (omega arith) refl stands in
     record { after = k.after; is = k.is; ahead = k.ahead }
 event_again last place (AllReset mode.Cold) rest halts stands =
-    let k = leads (is_event last) (λ byte behind. Ok (event_of_byte byte, behind)) place 1 rest (omega arith) refl stands in
+    let k = leads (is_event last) (λ byte following. Ok (event_of_byte byte, following)) place 1 rest (omega arith) refl stands in
     record { after = k.after; is = k.is; ahead = k.ahead }
 event_again last place (AllReset mode.Warm) rest halts stands =
-    let k = leads (is_event last) (λ byte behind. Ok (event_of_byte byte, behind)) place 2 rest (omega arith) refl stands in
+    let k = leads (is_event last) (λ byte following. Ok (event_of_byte byte, following)) place 2 rest (omega arith) refl stands in
     record { after = k.after; is = k.is; ahead = k.ahead }
 event_again true place AllHalted rest halts stands =
-    let k = leads (is_event true) (λ byte behind. Ok (event_of_byte byte, behind)) place 3 rest (omega arith) refl stands in
+    let k = leads (is_event true) (λ byte following. Ok (event_of_byte byte, following)) place 3 rest (omega arith) refl stands in
     record { after = k.after; is = k.is; ahead = k.ahead }
 event_again false place AllHalted rest halts stands =
     let never = halts refl in

@@ -5,20 +5,20 @@ use Rattle.std.proofs.Math.Dec.{eqb-suc-zero}
 use Rattle.std.proofs.lemmas.List.{append-nil}
 use Rattle.xm_base.specs.Cursor.{Place}
 use Rattle.xm_conf.specs.Configuration.{Conf}
-use Rattle.sealed_files.specs.Steps.{◌>>=◌}
+use Rattle.file_headers.specs.Steps.{◌>>=◌}
 use Rattle.cue_scripts.specs.Entries.{Entry, cue_count, plain_cue_of}
 use Rattle.cue_scripts.specs.Gives.{Fails}
 use Rattle.cue_scripts.specs.Reading.{ScriptRead, script_entries_at, script_entry_at}
 use Rattle.cue_scripts.specs.Values.{entry_value, entry_values}
 use Rattle.cue_scripts.specs.declared.cue.ScriptEntry.{ScriptEntry}
-use Rattle.file_texts.specs.declared.fault.ScriptFault.{ScriptFault}
-use Rattle.file_texts.specs.declared.fault.ScriptFault.TheVariants as fault
+use Rattle.fault_messages.specs.declared.fault.ScriptFault.{ScriptFault}
+use Rattle.fault_messages.specs.declared.fault.ScriptFault.TheVariants as fault
 
 -- what was read before, and what is still read
 abbrev pub with_front : {X : Type 0} → List X → ScriptRead (List X) → ScriptRead (List X)
 with_front front read = read >>= λ x. Ok (front ++ x.0, x.1)
 
--- of the whole so many cues are left, after these entries
+-- of the whole this many cues are left, after these entries
 pub record IsLeft (conf : Conf) (p cues : ℕ) (last : Option Bool) (place : Place) (front : List Entry) (whole : ScriptRead (List Entry)) : Type 0 where
   pub most : ℕ
   pub enough : cues ≤ most

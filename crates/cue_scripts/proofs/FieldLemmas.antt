@@ -5,12 +5,12 @@ use Rattle.std.proofs.lemmas.List.{take_at}
 use Rattle.std.proofs.lemmas.Nat.{from_be_bytes-to_be_bytes_8}
 use Rattle.xm_base.specs.Bytes.{AreBytes, spelled_8}
 use Rattle.xm_base.specs.Cursor.{Place, ahead}
-use Rattle.sealed_files.specs.FieldLemmas.{AreBytes-take, IsWide, Takes, wide8, listed_takes}
-use Rattle.sealed_files.specs.Steps.{◌>>=◌}
-use Rattle.sealed_files.specs.StepLemmas.{stepped}
-use Rattle.sealed_files.specs.Fields.{listed_at}
+use Rattle.file_headers.specs.FieldLemmas.{AreBytes-take, IsWide, Takes, wide8, listed_takes}
+use Rattle.file_headers.specs.Steps.{◌>>=◌}
+use Rattle.file_headers.specs.StepLemmas.{stepped}
+use Rattle.file_headers.specs.Fields.{listed_at}
 use Rattle.cue_scripts.specs.Reading.{script_field, script_short}
-use Rattle.file_texts.specs.declared.fault.ScriptFault.{ScriptFault}
+use Rattle.fault_messages.specs.declared.fault.ScriptFault.{ScriptFault}
 
 -- the bytes at the beginning are bytes
 pub AreBytes-front : (xs ys : List ℕ) → AreBytes (xs ++ ys) → AreBytes xs
@@ -34,11 +34,11 @@ one_byte n below =
 -- a byte that was read and tested, and what was read after it
 pub record Begins {A : Type 0} (test : ℕ → Bool) (more : ℕ → Place → Result A ScriptFault) (place : Place) (end : A) : Type 0 where
   pub kind : ℕ
-  pub behind : Place
+  pub following : Place
   pub small : kind < 256
   pub passes : test kind ≡ true
-  pub first : Takes place (kind ∷ []) behind
-  pub led : more kind behind ≡ Ok end
+  pub first : Takes place (kind ∷ []) following
+  pub led : more kind following ≡ Ok end
 
 -- what was read after a byte
 pub begins : {A : Type 0} (test : ℕ → Bool) (more : ℕ → Place → Result A ScriptFault) (place : Place) (end : A) → AreBytes (ahead place)
@@ -48,7 +48,7 @@ begins test more place end each e =
     let t = listed_takes script_short script_field w8 256 wide8 test place s.value.0 s.value.1 each s.is in
     record {
       kind = s.value.0;
-      behind = s.value.1;
+      following = s.value.1;
       small = t.1;
       passes = t.2;
       first = rw (one_byte s.value.0 t.1) at t.0;

@@ -7,17 +7,17 @@ use Rattle.std.proofs.lemmas.Bool.{eq-eqb}
 use Rattle.std.proofs.lemmas.List.{append-nil, length-append, length-replicate}
 use Rattle.xm_base.specs.Cursor.{ahead, left, cursor_start}
 use Rattle.xm_conf.specs.Configuration.{Conf}
-use Rattle.sealed_files.specs.FieldLemmas.{wide8, wide16, Reads, bytes_again, listed_again, number_again}
+use Rattle.file_headers.specs.FieldLemmas.{wide8, wide16, Reads, bytes_again, listed_again, number_again}
 use Rattle.xef_images.specs.ImageLemmas.{Decides-nat_le}
-use Rattle.sealed_files.specs.StepLemmas.{ok_is}
+use Rattle.file_headers.specs.StepLemmas.{ok_is}
 use Rattle.machine_model.specs.Cue.{Cue}
-use Rattle.sealed_files.specs.Heads.{magic_at, version_at}
+use Rattle.file_headers.specs.Heads.{magic_at, version_at}
 use Rattle.cue_scripts.specs.Entries.{Alike, AreLongest, Entry, Other, expanded, bare_cue, runs}
 use Rattle.cue_scripts.specs.Script.{HaltsLast, IsCue, IsScript}
 use Rattle.cue_scripts.specs.Gives.{Fails}
 use Rattle.cue_scripts.specs.Spelling.{IsSpelledScript, entry_text, script_head_text, script_text}
 use Rattle.cue_scripts.specs.Reading.{body_at, entries_of, partition_at, script_read, cue_count_at, script_field, script_short}
-use Rattle.file_texts.specs.declared.fault.ScriptFault.{ScriptFault}
+use Rattle.fault_messages.specs.declared.fault.ScriptFault.{ScriptFault}
 use Rattle.cue_scripts.proofs.EntriesLemmas.{fails_on}
 use Rattle.cue_scripts.proofs.FieldLemmas.{one_byte, wide64}
 use Rattle.cue_scripts.proofs.RunLemmas.{runs_expand, runs_longest}
@@ -29,7 +29,7 @@ pub body_again : (conf : Conf) (p total : ℕ) (entries : List Entry) (rest : Li
     → Reads (body_at conf p (cursor_start ((script_head_text p total ++ flat_map entry_text entries) ++ rest))) entries rest
 unfolding body_at magic_at version_at partition_at cue_count_at script_head_text
 body_again conf p total entries rest below few are =
-    let behind = flat_map entry_text entries ++ rest in
+    let following = flat_map entry_text entries ++ rest in
     let stands = append_assoc (script_head_text p total) (flat_map entry_text entries) rest in
     let a = bytes_again script_short 4 (cursor_start ((script_head_text p total ++ flat_map entry_text entries) ++ rest)) (codes "XMSC") (to_be_bytes w16 1 ++ (p ∷ (to_be_bytes w64 total ++ (flat_map entry_text entries ++ rest)))) refl stands in
     let b = number_again script_short w16 (2 ^ 16) wide16 a.after 1 (p ∷ (to_be_bytes w64 total ++ (flat_map entry_text entries ++ rest))) (omega arith) a.ahead in

@@ -8,18 +8,18 @@ use Rattle.std.proofs.lemmas.List.{append-nil, nil_from_length}
 use Rattle.xm_base.specs.Bytes.{AreBytes}
 use Rattle.xm_base.specs.Cursor.{Place, ahead, left, cursor_start}
 use Rattle.xm_conf.specs.Configuration.{Conf}
-use Rattle.sealed_files.specs.FieldLemmas.{Takes, takes_both, wide8, listed_takes}
+use Rattle.file_headers.specs.FieldLemmas.{Takes, takes_both, wide8, listed_takes}
 use Rattle.xef_images.specs.ImageLemmas.{Decides-nat_le}
-use Rattle.sealed_files.specs.StepLemmas.{stepped, ok_is, passed}
-use Rattle.sealed_files.specs.Steps.{◌>>=◌, unless}
+use Rattle.file_headers.specs.StepLemmas.{stepped, ok_is, passed}
+use Rattle.file_headers.specs.Steps.{◌>>=◌, unless}
 use Rattle.machine_model.specs.Cue.{Cue}
-use Rattle.sealed_files.specs.Fields.{listed_at}
-use Rattle.sealed_files.specs.HeadLemmas.{is_first, magic_takes, version_takes}
-use Rattle.sealed_files.specs.Heads.{magic_at, version_at}
+use Rattle.file_headers.specs.Fields.{listed_at}
+use Rattle.file_headers.specs.HeadLemmas.{is_first, magic_takes, version_takes}
+use Rattle.file_headers.specs.Heads.{magic_at, version_at}
 use Rattle.cue_scripts.specs.Entries.{Entry, expanded, runs}
 use Rattle.cue_scripts.specs.Spelling.{IsSpelledScript, entry_text, script_head_text, script_text}
 use Rattle.cue_scripts.specs.Reading.{body_at, script_entries_at, entries_of, partition_at, script_read, cue_count_at, script_field, script_short, script_version}
-use Rattle.file_texts.specs.declared.fault.ScriptFault.TheVariants.{Magic, Trailing}
+use Rattle.fault_messages.specs.declared.fault.ScriptFault.TheVariants.{Magic, Trailing}
 use Rattle.cue_scripts.proofs.FieldLemmas.{one_byte, wide64}
 use Rattle.cue_scripts.proofs.RunLemmas.{runs_again}
 use Rattle.cue_scripts.proofs.ScriptLemmas.{are_longest, are_script, have_cues}

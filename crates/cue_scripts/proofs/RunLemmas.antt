@@ -3,7 +3,7 @@ use Rattle.std.proofs.Common.{◌≡◌, ℕ, zero, suc, Bool, true, false, List
 use Rattle.std.specs.Prelude.{replicate, ◌&&◌, is_none, if◌then◌else◌}
 use Rattle.xm_base.specs.declared.partition.Order.{Order}
 use Rattle.machine_model.specs.Cue.{Away, Cue, Mine, CueSlot}
-use Rattle.machine_model.specs.Told.{AllHalted, AllReset, NoEvent, NotKept, OwnPuts, OwnSignals, OwnStill, OwnTakes, OwnTraffic, Sight, Unseen, WholeEvent, Words}
+use Rattle.machine_model.specs.Emission.{AllHalted, AllReset, NoEvent, NotKept, OwnPuts, OwnSignals, OwnStill, OwnTakes, OwnTraffic, Sight, Unseen, WholeEvent, Words}
 use Rattle.cue_scripts.specs.Entries.{Alike, AreLongest, Entry, Other, cue_before, expanded, is_bare, is_no_event, is_still, is_unseen, longer, bare_cue, plain_kind, running_in, runs}
 
 -- five parts with nothing but whose running slot it is

@@ -6,7 +6,7 @@ use Rattle.std.proofs.lemmas.Bool.{eqb-true}
 use Rattle.std.proofs.lemmas.List.{length-append}
 use Rattle.xm_conf.specs.Configuration.{Conf}
 use Rattle.machine_model.specs.Cue.{Cue, CueSlot}
-use Rattle.machine_model.specs.Told.{AllHalted, NotKept, OwnPuts, OwnSignals, OwnStill, OwnTakes, OwnTraffic, Sight, Unseen, Words}
+use Rattle.machine_model.specs.Emission.{AllHalted, NotKept, OwnPuts, OwnSignals, OwnStill, OwnTakes, OwnTraffic, Sight, Unseen, Words}
 use Rattle.cue_scripts.specs.Entries.{Alike, AreLongest, Entry, Other, cue_count, cues_of, expanded, plain_cue_of, bare_cue}
 use Rattle.cue_scripts.specs.Kept.{HasEntryRanges, HasSightRange, HasTrafficRange, AreKeptEntries}
 use Rattle.cue_scripts.specs.Script.{CanHear, CanSee, HaltsLast, IsCue, IsScript, is_shown, is_system_partition}
@@ -70,7 +70,7 @@ are_kept conf p cues entries few are = record {
   ranges = have_ranges conf p cues None entries are;
 }
 
--- others may tell a plain cue
+-- a plain cue may be received
 plain_cue : (conf : Conf) (p : ℕ) (own : Bool) → IsCue conf p (bare_cue own)
 unfolding bare_cue
 plain_cue conf p true = record { traffic = tt; order = tt; alone = (refl, refl); seen = tt }
@@ -81,7 +81,7 @@ plain_cues : (conf : Conf) (p : ℕ) (own : Bool) (count : ℕ) (later : List Cu
 plain_cues conf p own zero later each = each
 plain_cues conf p own (suc count) later each = (plain_cue conf p own, plain_cues conf p own count later each)
 
--- others may tell each cue
+-- each cue may be received
 pub are_cues : (conf : Conf) (p cues : ℕ) (last : Option Bool) (entries : List Entry) → AreEntries conf p cues last entries → AllByRecursion (IsCue conf p) (expanded entries)
 are_cues conf p cues last [] are = tt
 are_cues conf p cues last (Alike own count ∷ later) are = plain_cues conf p own count (expanded later) (are_cues conf p (cues - count) (Some own) later are.2)

@@ -11,19 +11,19 @@ use Rattle.std.proofs.lemmas.List.Concat.{flat_map-cons}
 use Rattle.xm_base.specs.Bytes.{AreBytes}
 use Rattle.xm_base.specs.Cursor.{Place, ahead}
 use Rattle.xm_conf.specs.Configuration.{Conf}
-use Rattle.sealed_files.specs.FieldLemmas.{Takes, takes_both, wide32, listed_takes}
+use Rattle.file_headers.specs.FieldLemmas.{Takes, takes_both, wide32, listed_takes}
 use Rattle.xef_images.specs.ImageLemmas.{Decides-nat_le}
-use Rattle.sealed_files.specs.StepLemmas.{stepped, ok_is, passed}
-use Rattle.sealed_files.specs.Steps.{◌>>=◌, unless}
+use Rattle.file_headers.specs.StepLemmas.{stepped, ok_is, passed}
+use Rattle.file_headers.specs.Steps.{◌>>=◌, unless}
 use Rattle.machine_model.specs.Cue.{Away, Cue, Mine, CueSlot}
-use Rattle.machine_model.specs.Told.{AllHalted, OwnStill, OwnTraffic}
+use Rattle.machine_model.specs.Emission.{AllHalted, OwnStill, OwnTraffic}
 use Rattle.xm_base.specs.declared.partition.Order.{Order}
-use Rattle.sealed_files.specs.Fields.{listed_at}
+use Rattle.file_headers.specs.Fields.{listed_at}
 use Rattle.cue_scripts.specs.Entries.{Alike, Entry, Other, cue_count, plain_cue_of, plain_kind}
 use Rattle.cue_scripts.specs.Script.{HearsNothing, IsCue, is_system_partition}
 use Rattle.cue_scripts.specs.Spelling.{alike_byte, cue_text, entry_text, event_byte, order_text, sight_text, slot_byte, traffic_text}
 use Rattle.cue_scripts.specs.Reading.{alike_at, cue_at, script_entries_at, script_entry_at, entry_of_kind, event_at, is_entry_kind, order_at, other_at, cue_sight_at, cue_slot_at, traffic_at, script_field, script_short}
-use Rattle.file_texts.specs.declared.fault.ScriptFault.TheVariants.{Field}
+use Rattle.fault_messages.specs.declared.fault.ScriptFault.TheVariants.{Field}
 use Rattle.cue_scripts.proofs.FieldLemmas.{begins}
 use Rattle.cue_scripts.proofs.TakeLemmas.{is_this, slot_takes, two}
 use Rattle.cue_scripts.proofs.TakePartLemmas.{InOwn, event_takes, order_takes, sight_takes, traffic_takes}
@@ -33,7 +33,7 @@ alone : (mine : CueSlot) (traffic : OwnTraffic) (order : Option Order) → InOwn
 alone Away traffic order still none = tt
 alone (Mine first) traffic order still none = (still, none)
 
--- a cue that is read stands there, and others may tell it
+-- a cue that is read stands there, and may be received
 pub cue_takes : (conf : Conf) (p : ℕ) (last : Bool) (place : Place) (cue : Cue) (after : Place) → AreBytes (ahead place) → cue_at conf p last place ≡ Ok (cue, after)
     → Takes place (cue_text cue) after × IsCue conf p cue × (cue.whole ≡ AllHalted → last ≡ true)
 unfolding cue_at cue_text
@@ -56,9 +56,9 @@ cue_takes conf p last place cue after each e =
     let P : Cue × Place → Type 0 = λ x. Takes place (cue_text x.0) x.1 × IsCue conf p x.0 × (x.0.whole ≡ AllHalted → last ≡ true) in
     let tail = takes_both o.value.1 (event_byte whole ∷ []) w.value.1 (sight_text s.value.0) s.value.1 fourth.0 fifth.0 in
     let heard = takes_both m.value.1 (traffic_text traffic) t.value.1 (order_text order) o.value.1 second.0 third.0 in
-    let told = takes_both m.value.1 (traffic_text traffic ++ order_text order) o.value.1 (event_byte whole ∷ sight_text s.value.0) s.value.1 heard tail in
+    let both_taken = takes_both m.value.1 (traffic_text traffic ++ order_text order) o.value.1 (event_byte whole ∷ sight_text s.value.0) s.value.1 heard tail in
     subst P {x = made} (ok_is made (cue, after) s.led) (
-      takes_both place (slot_byte mine ∷ []) m.value.1 ((traffic_text traffic ++ order_text order) ++ (event_byte whole ∷ sight_text s.value.0)) s.value.1 first told,
+      takes_both place (slot_byte mine ∷ []) m.value.1 ((traffic_text traffic ++ order_text order) ++ (event_byte whole ∷ sight_text s.value.0)) s.value.1 first both_taken,
       record {
         traffic = second.1;
         order = third.1;
@@ -68,7 +68,7 @@ cue_takes conf p last place cue after each e =
       fourth.1,
     )
 
--- what an entry that is read keeps to, where so many cues are left
+-- what an entry that is read keeps to, where this many cues are left
 abbrev pub IsEntry : Conf → ℕ → ℕ → Option Bool → Entry → Type 0
 IsEntry conf p cues last (Alike own count) = (last ≢ Some own) × (1 ≤ count) × (count ≤ cues)
 IsEntry conf p cues last (Other cue) = (plain_kind cue ≡ None) × IsCue conf p cue × (cue.whole ≡ AllHalted → cues ≡ 1)
@@ -90,16 +90,16 @@ differs (Some false) true passes same = absurd cc
 differs (Some false) false passes same = absurd cc
 
 -- cues that are alike, read after their kind, stand there
-alike_takes : (conf : Conf) (p cues : ℕ) (last : Option Bool) (own : Bool) (place behind : Place) (entry : Entry) (after : Place) → last ≢ Some own → Takes place (alike_byte own ∷ []) behind
-    → alike_at own cues behind ≡ Ok (entry, after) → Takes place (entry_text entry) after × IsEntry conf p cues last entry
+alike_takes : (conf : Conf) (p cues : ℕ) (last : Option Bool) (own : Bool) (place following : Place) (entry : Entry) (after : Place) → last ≢ Some own → Takes place (alike_byte own ∷ []) following
+    → alike_at own cues following ≡ Ok (entry, after) → Takes place (entry_text entry) after × IsEntry conf p cues last entry
 unfolding alike_at entry_text
-alike_takes conf p cues last own place behind entry after other kind e =
-    let c = stepped (listed_at script_short script_field w32 (λ count. nat_le 1 count && nat_le count cues) behind) (λ count. Ok (Alike own count.0, count.1)) (entry, after) e in
-    let t = listed_takes script_short script_field w32 (2 ^ 32) wide32 (λ count. nat_le 1 count && nat_le count cues) behind c.value.0 c.value.1 kind.rest c.is in
+alike_takes conf p cues last own place following entry after other kind e =
+    let c = stepped (listed_at script_short script_field w32 (λ count. nat_le 1 count && nat_le count cues) following) (λ count. Ok (Alike own count.0, count.1)) (entry, after) e in
+    let t = listed_takes script_short script_field w32 (2 ^ 32) wide32 (λ count. nat_le 1 count && nat_le count cues) following c.value.0 c.value.1 kind.rest c.is in
     let sizes = (Decides-and _ _ (Decides-nat_le 1 c.value.0) (Decides-nat_le c.value.0 cues)).0 t.2 in
     let P : Entry × Place → Type 0 = λ x. Takes place (entry_text x.0) x.1 × IsEntry conf p cues last x.0 in
     subst P {x = (Alike own c.value.0, c.value.1)} (ok_is (Alike own c.value.0, c.value.1) (entry, after) c.led) (
-      takes_both place (alike_byte own ∷ []) behind (to_be_bytes w32 c.value.0) c.value.1 kind t.0,
+      takes_both place (alike_byte own ∷ []) following (to_be_bytes w32 c.value.0) c.value.1 kind t.0,
       (other, sizes.0, sizes.1),
     )
 
@@ -109,16 +109,16 @@ none_is None e = refl
 none_is (Some x) e = absurd cc
 
 -- another cue, read after its kind, stands there
-other_takes : (conf : Conf) (p cues : ℕ) (last : Option Bool) (at : ℕ) (place behind : Place) (entry : Entry) (after : Place) → Takes place (2 ∷ []) behind
-    → other_at conf p (cues == 1) at behind ≡ Ok (entry, after) → Takes place (entry_text entry) after × IsEntry conf p cues last entry
+other_takes : (conf : Conf) (p cues : ℕ) (last : Option Bool) (at : ℕ) (place following : Place) (entry : Entry) (after : Place) → Takes place (2 ∷ []) following
+    → other_at conf p (cues == 1) at following ≡ Ok (entry, after) → Takes place (entry_text entry) after × IsEntry conf p cues last entry
 unfolding other_at entry_text
-other_takes conf p cues last at place behind entry after kind e =
-    let c = stepped (cue_at conf p (cues == 1) behind) (λ cue. unless (is_none (plain_kind cue.0)) (Field at) (Other cue.0, cue.1)) (entry, after) e in
-    let t = cue_takes conf p (cues == 1) behind c.value.0 c.value.1 kind.rest c.is in
+other_takes conf p cues last at place following entry after kind e =
+    let c = stepped (cue_at conf p (cues == 1) following) (λ cue. unless (is_none (plain_kind cue.0)) (Field at) (Other cue.0, cue.1)) (entry, after) e in
+    let t = cue_takes conf p (cues == 1) following c.value.0 c.value.1 kind.rest c.is in
     let q = passed (is_none (plain_kind c.value.0)) (Field at) (Other c.value.0, c.value.1) (entry, after) c.led in
     let P : Entry × Place → Type 0 = λ x. Takes place (entry_text x.0) x.1 × IsEntry conf p cues last x.0 in
     subst P {x = (Other c.value.0, c.value.1)} q.is (
-      takes_both place (2 ∷ []) behind (cue_text c.value.0) c.value.1 kind t.0,
+      takes_both place (2 ∷ []) following (cue_text c.value.0) c.value.1 kind t.0,
       (none_is (plain_kind c.value.0) q.true, t.1, λ halts. eqb-true cues 1 (t.2 halts)),
     )
 
@@ -129,19 +129,19 @@ unfolding script_entry_at
 entry_takes conf p cues last place entry after each e =
     let k = begins (is_entry_kind last) (entry_of_kind conf p cues place.at) place (entry, after) each e in
     let n = k.kind in
-    at n k.behind k.passes k.first (n == 0) (n == 1) refl refl k.led
+    at n k.following k.passes k.first (n == 0) (n == 1) refl refl k.led
   where
-    at : (n : ℕ) (behind : Place) → is_entry_kind last n ≡ true → Takes place (n ∷ []) behind → (b0 b1 : Bool) → (n == 0) ≡ b0 → (n == 1) ≡ b1
-        → (if b0 then alike_at false cues behind else if b1 then alike_at true cues behind else other_at conf p (cues == 1) place.at behind) ≡ Ok (entry, after)
+    at : (n : ℕ) (following : Place) → is_entry_kind last n ≡ true → Takes place (n ∷ []) following → (b0 b1 : Bool) → (n == 0) ≡ b0 → (n == 1) ≡ b1
+        → (if b0 then alike_at false cues following else if b1 then alike_at true cues following else other_at conf p (cues == 1) place.at following) ≡ Ok (entry, after)
         → Takes place (entry_text entry) after × IsEntry conf p cues last entry
-    at n behind passes first true b1 f0 f1 led =
-        alike_takes conf p cues last false place behind entry after (differs last false (rw (is_this n 0 f0) at passes)) (rw (is_this n 0 f0) at first) led
-    at n behind passes first false true f0 f1 led =
-        alike_takes conf p cues last true place behind entry after (differs last true (rw (is_this n 1 f1) at passes)) (rw (is_this n 1 f1) at first) led
-    at n behind passes first false false f0 f1 led =
-        other_takes conf p cues last place.at place behind entry after (rw (two n (few_kinds last n passes) f0 f1) at first) led
+    at n following passes first true b1 f0 f1 led =
+        alike_takes conf p cues last false place following entry after (differs last false (rw (is_this n 0 f0) at passes)) (rw (is_this n 0 f0) at first) led
+    at n following passes first false true f0 f1 led =
+        alike_takes conf p cues last true place following entry after (differs last true (rw (is_this n 1 f1) at passes)) (rw (is_this n 1 f1) at first) led
+    at n following passes first false false f0 f1 led =
+        other_takes conf p cues last place.at place following entry after (rw (two n (few_kinds last n passes) f0 f1) at first) led
 
--- entries that stand one after the other, with so many cues
+-- entries that stand one after the other, with this many cues
 abbrev pub AreEntries : Conf → ℕ → ℕ → Option Bool → List Entry → Type 0
 AreEntries conf p cues last [] = cues ≡ 0
 AreEntries conf p cues last (entry ∷ later) = IsEntry conf p cues last entry × (1 ≤ cues) × AreEntries conf p (cues - cue_count entry) (plain_cue_of entry) later

@@ -1,9 +1,9 @@
 -- The entries of a script: cues that are alike stand together, so that four thousand million of them take five bytes.
 use Rattle.std.specs.Prelude.{◌≡◌, ◌≢◌, ℕ, suc, ◌≤◌, Bool, true, false, ◌&&◌, if◌then◌else◌, List, [], ◌∷◌, ◌++◌, replicate, Option, Some, None, is_none}
 use Rattle.machine_model.specs.Cue.{Away, Cue, Mine, CueSlot}
-use Rattle.machine_model.specs.Told.{AllHalted, AllReset, NoEvent, NotKept, OwnPuts, OwnSignals, OwnStill, OwnTakes, OwnTraffic, Sight, Unseen, WholeEvent, Words}
+use Rattle.machine_model.specs.Emission.{AllHalted, AllReset, NoEvent, NotKept, OwnPuts, OwnSignals, OwnStill, OwnTakes, OwnTraffic, Sight, Unseen, WholeEvent, Words}
 
--- an entry: so many cues with nothing but whose slot it is, which began before where it is the partition's own; or one other cue
+-- an entry: this many cues with nothing but whose slot it is, which began before where it is the partition's own; or one other cue
 pub data Entry : Type 0 where
   Alike : (own : Bool) (count : ℕ) → Entry
   Other : (cue : Cue) → Entry

@@ -2,17 +2,17 @@
 use Rattle.std.specs.Prelude.{◌<◌, ◌≤◌, ◌^◌, List, length, None}
 use Rattle.std.specs.List.{AllByRecursion}
 use Rattle.machine_model.specs.Cue.{Cue}
-use Rattle.machine_model.specs.Told.{NotKept, OwnPuts, OwnSignals, OwnStill, OwnTakes, OwnTraffic, Sight, Unseen, Words}
+use Rattle.machine_model.specs.Emission.{NotKept, OwnPuts, OwnSignals, OwnStill, OwnTakes, OwnTraffic, Sight, Unseen, Words}
 use Rattle.cue_scripts.specs.Entries.{Alike, AreLongest, Entry, Other, expanded}
 
--- two bytes can tell the length of a message
+-- two bytes can hold the length of a message
 abbrev pub HasTrafficRange : OwnTraffic → Type 0
 HasTrafficRange OwnStill = Unit {0}
 HasTrafficRange (OwnPuts name bytes) = length bytes < 2 ^ 16
 HasTrafficRange (OwnTakes name) = Unit {0}
 HasTrafficRange (OwnSignals number) = Unit {0}
 
--- a byte can tell how many bytes were shown
+-- a byte can count the bytes that were shown
 abbrev pub HasSightRange : Sight → Type 0
 HasSightRange Unseen = Unit {0}
 HasSightRange NotKept = Unit {0}

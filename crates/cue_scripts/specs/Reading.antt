@@ -7,16 +7,16 @@ use Rattle.xm_base.specs.declared.partition.Mode.TheVariants as mode
 use Rattle.xm_base.specs.declared.partition.Order.{Order}
 use Rattle.xm_base.specs.declared.partition.Order.TheVariants as order
 use Rattle.xm_conf.specs.Configuration.{Conf}
-use Rattle.sealed_files.specs.Fields.{field_bytes, listed_at, number_at}
-use Rattle.sealed_files.specs.Heads.{magic_at, version_at}
-use Rattle.sealed_files.specs.Steps.{◌>>=◌, unless}
+use Rattle.file_headers.specs.Fields.{field_bytes, listed_at, number_at}
+use Rattle.file_headers.specs.Heads.{magic_at, version_at}
+use Rattle.file_headers.specs.Steps.{◌>>=◌, unless}
 use Rattle.machine_model.specs.Cue.{Away, Cue, Mine, CueSlot}
-use Rattle.machine_model.specs.Told.{AllHalted, AllReset, NoEvent, NotKept, OwnPuts, OwnSignals, OwnStill, OwnTakes, OwnTraffic, Sight, Unseen, WholeEvent, Words}
+use Rattle.machine_model.specs.Emission.{AllHalted, AllReset, NoEvent, NotKept, OwnPuts, OwnSignals, OwnStill, OwnTakes, OwnTraffic, Sight, Unseen, WholeEvent, Words}
 use Rattle.cue_scripts.specs.Entries.{Alike, Entry, Other, cue_count, expanded, is_away, plain_cue_of, plain_kind}
 use Rattle.cue_scripts.specs.Script.{gives_queue, is_length, is_shown, is_system_partition, most_heard, signals}
 use Rattle.cue_scripts.specs.Spelling.{alike_byte}
-use Rattle.file_texts.specs.declared.fault.ScriptFault.{ScriptFault}
-use Rattle.file_texts.specs.declared.fault.ScriptFault.TheVariants as fault
+use Rattle.fault_messages.specs.declared.fault.ScriptFault.{ScriptFault}
+use Rattle.fault_messages.specs.declared.fault.ScriptFault.TheVariants as fault
 
 -- a value with the place after it, or a fault
 abbrev pub ScriptRead : Type 0 → Type 0
@@ -174,7 +174,7 @@ other_at conf p last at place = do
   cue ← cue_at conf p last place
   unless (is_none (plain_kind cue.0)) (fault.Field at) (Other cue.0, cue.1)
 
--- an entry of plain cues, where so many cues are left
+-- an entry of plain cues, where this many cues are left
 unfoldable pub alike_at : Bool → ℕ → Place → ScriptRead Entry
 alike_at own cues place = do
   count ← listed_at script_short script_field w32 (λ count. nat_le 1 count && nat_le count cues) place
@@ -192,13 +192,13 @@ entry_of_kind conf p cues at kind place =
     else if kind == 1 then alike_at true cues place
     else other_at conf p (cues == 1) at place
 
--- an entry, where so many cues are left
+-- an entry, where this many cues are left
 unfoldable pub script_entry_at : Conf → ℕ → ℕ → Option Bool → Place → ScriptRead Entry
 script_entry_at conf p cues last place = do
   kind ← listed_at script_short script_field w8 (is_entry_kind last) place
   entry_of_kind conf p cues place.at kind.0 kind.1
 
--- entries until no cues are left, and at most so many
+-- entries until no cues are left, and at most this many
 unfoldable pub script_entries_at : Conf → ℕ → ℕ → ℕ → Option Bool → Place → ScriptRead (List Entry)
 script_entries_at conf p zero cues last place = Ok ([], place)
 script_entries_at conf p (suc most) cues last place =

@@ -1,4 +1,4 @@
--- What others may tell a partition, cue by cue.
+-- What a partition may receive from others, cue by cue.
 use Rattle.std.specs.Prelude.{◌≡◌, ℕ, ◌<◌, ◌≤◌, ◌^◌, ◌==◌, ◌&&◌, Bool, true, false, if◌then◌else◌, nat_le, nat_lt, List, [], ◌∷◌, length, slice_get, Option, Some, None}
 use Rattle.std.specs.List.{AllByRecursion, list_any}
 use Rattle.xm_base.specs.Bytes.{AreBytes}
@@ -8,7 +8,7 @@ use Rattle.xm_conf.specs.Configuration.{Chan, Conf}
 use Rattle.xm_conf.specs.declared.channel.ChanKind.{ChanKind}
 use Rattle.xm_conf.specs.declared.channel.ChanKind.TheVariants as kind
 use Rattle.machine_model.specs.Cue.{Away, Cue, Mine, CueSlot}
-use Rattle.machine_model.specs.Told.{AllHalted, NotKept, OwnPuts, OwnSignals, OwnStill, OwnTakes, OwnTraffic, Sight, Unseen, Words}
+use Rattle.machine_model.specs.Emission.{AllHalted, NotKept, OwnPuts, OwnSignals, OwnStill, OwnTakes, OwnTraffic, Sight, Unseen, Words}
 use Rattle.machine_model.specs.View.{named, part_of}
 use Rattle.cue_scripts.specs.Entries.{is_away}
 
@@ -52,7 +52,7 @@ signals conf p number = nat_lt number 8 && list_any (λ link. link.dest == p && 
 unfoldable pub is_system_partition : Conf → ℕ → Bool
 is_system_partition conf p = (part_of conf p).system
 
--- whether a message may have so many bytes, where it may have some at most
+-- whether a message may have this many bytes, where it may have some at most
 abbrev pub is_length : Option ℕ → ℕ → Bool
 is_length None count = false
 is_length (Some most) count = nat_le 1 count && nat_le count most
@@ -85,7 +85,7 @@ abbrev pub HearsNothing : CueSlot → OwnTraffic → Option Order → Type 0
 HearsNothing Away traffic order = Unit {0}
 HearsNothing (Mine first) traffic order = (traffic ≡ OwnStill) × (order ≡ None)
 
--- whether a structure that an observing call writes has so many bytes
+-- whether a structure that an observing call writes has this many bytes
 abbrev pub is_shown : ℕ → Bool
 is_shown count = if count == 4 then true else if count == 8 then true else if count == 20 then true else count == 24
 
@@ -95,7 +95,7 @@ CanSee system mine Unseen = Unit {0}
 CanSee system mine NotKept = (is_away mine ≡ false) × (system ≡ true)
 CanSee system mine (Words bytes) = (is_away mine ≡ false) × (system ≡ true) × (is_shown (length bytes) ≡ true) × AreBytes bytes
 
--- what partition p may be told in a tick
+-- what partition p may receive in a tick
 pub record IsCue (conf : Conf) (p : ℕ) (cue : Cue) : Type 0 where
   pub traffic : CanHear conf p cue.traffic
   pub order : IsOrder cue.order
@@ -107,7 +107,7 @@ abbrev pub HaltsLast : List Cue → Type 0
 HaltsLast [] = Unit {0}
 HaltsLast (cue ∷ later) = (cue.whole ≡ AllHalted → later ≡ []) × HaltsLast later
 
--- what partition p may be told in a run: a cue for each tick, and no halt of the whole system before the last
+-- what partition p may receive in a run: a cue for each tick, and no halt of the whole system before the last
 pub record IsScript (conf : Conf) (p : ℕ) (cues : List Cue) : Type 0 where
   pub few : length cues ≤ 4000000000
   pub each : AllByRecursion (IsCue conf p) cues

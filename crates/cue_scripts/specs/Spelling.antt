@@ -8,7 +8,7 @@ use Rattle.xm_base.specs.declared.partition.Order.{Order}
 use Rattle.xm_base.specs.declared.partition.Order.TheVariants as order
 use Rattle.xm_conf.specs.Configuration.{Conf}
 use Rattle.machine_model.specs.Cue.{Away, Cue, Mine, CueSlot}
-use Rattle.machine_model.specs.Told.{AllHalted, AllReset, NoEvent, NotKept, OwnPuts, OwnSignals, OwnStill, OwnTakes, OwnTraffic, Sight, Unseen, WholeEvent, Words}
+use Rattle.machine_model.specs.Emission.{AllHalted, AllReset, NoEvent, NotKept, OwnPuts, OwnSignals, OwnStill, OwnTakes, OwnTraffic, Sight, Unseen, WholeEvent, Words}
 use Rattle.cue_scripts.specs.Entries.{Alike, Entry, Other, runs}
 use Rattle.cue_scripts.specs.Script.{IsScript}
 
@@ -66,7 +66,7 @@ unfoldable pub entry_text : Entry → List ℕ
 entry_text (Alike own count) = alike_byte own ∷ to_be_bytes w32 count
 entry_text (Other cue) = 2 ∷ cue_text cue
 
--- the head of a script for partition p of so many cues: its name, version 1, p and the number of cues
+-- the head of a script for partition p of this many cues: its name, version 1, p and the number of cues
 unfoldable pub script_head_text : ℕ → ℕ → List ℕ
 script_head_text p count = codes "XMSC" ++ to_be_bytes w16 1 ++ p ∷ to_be_bytes w64 count
 
@@ -74,7 +74,7 @@ script_head_text p count = codes "XMSC" ++ to_be_bytes w16 1 ++ p ∷ to_be_byte
 unfoldable pub script_text : ℕ → List Cue → List ℕ
 script_text p cues = script_head_text p (length cues) ++ flat_map entry_text (runs cues)
 
--- the bytes are the script of cues that partition p may be told
+-- the bytes are the script of cues that partition p may receive
 pub record IsSpelledScript (conf : Conf) (p : ℕ) (bytes : List ℕ) (cues : List Cue) : Type 0 where
   pub script : IsScript conf p cues
   pub text : bytes ≡ script_text p cues

@@ -5,8 +5,8 @@ use Rattle.xm_base.specs.declared.limits.TheConstants.{FILE_BYTES}
 use Rattle.machine_model.specs.Cue.{Cue}
 use Rattle.cue_scripts.specs.Entries.{Alike, Entry, Other, is_same, plain_cue_of, plain_kind, runs}
 use Rattle.cue_scripts.specs.Spelling.{entry_text}
-use Rattle.file_texts.specs.declared.fault.ScriptFault.{ScriptFault}
-use Rattle.file_texts.specs.declared.fault.ScriptFault.TheVariants as fault
+use Rattle.fault_messages.specs.declared.fault.ScriptFault.{ScriptFault}
+use Rattle.fault_messages.specs.declared.fault.ScriptFault.TheVariants as fault
 
 -- what is written of a script: the text of the entries that are whole, as far as a file may have it, and how long that text is; which plain
 -- cue is repeated last, so that there may be more of it, and how often; and how many cues there are
@@ -70,7 +70,7 @@ abbrev pub IsThere : Option Bool → ℕ → Type 0
 IsThere None count = count ≡ 0
 IsThere (Some own) count = 1 ≤ count
 
--- what is written is not too long for its number of cues, with room for so many more
+-- what is written is not too long for its number of cues, with room for this many more
 pub record IsWithin (more : ℕ) (w : Written) : Type 0 where
   pub size : w.size + 70000 * (w.count + more) ≤ 70000 * w.cues
   pub count : IsThere w.own w.count
@@ -94,7 +94,7 @@ pub record IsWritten (cues : List Cue) (w : Written) : Type 0 where
   pub last : last_own None (runs cues) ≡ w.own
   pub count : w.cues ≡ length cues
 
--- a text is a file, unless there was no memory, or it is too long for one
+-- a text is a file, unless memory runs out, or it is too long for one
 abbrev pub IsScriptFile : {X : Type 0} → (X → List ℕ) → List ℕ → Result X ScriptFault → Type 0
 IsScriptFile view text (Ok file) = (view file ≡ text) × (length text ≤ FILE_BYTES)
 IsScriptFile view text (Err fault.Memory) = Unit {0}

@@ -1,4 +1,4 @@
-//! What a partition is told in a tick, as a script keeps it.
+//! What a partition receives in a tick, as a script keeps it.
 
 ghost use Rattle.std.specs.Prelude.{◌≡◌, IfOk};
 ghost use Rattle.cue_scripts.specs.Entries.{Other, cue_count, is_no_event, is_still, is_unseen, plain_cue_of, plain_kind, running_in};
@@ -54,7 +54,7 @@ pub enum ScriptSight {
     Words(Vec<u8>),
 }
 
-/// All that one partition is told of the others in a tick.
+/// All that one partition receives from the others in a tick.
 #[derive(Debug, Drop)]
 pub struct ScriptCue {
     pub mine: CueSlot,
@@ -68,7 +68,7 @@ pub struct ScriptCue {
 /// An entry of a script.
 #[derive(Debug, Drop)]
 pub enum ScriptEntry {
-    /// So many cues with nothing but whose slot it is: the partition's own, which began before, or not.
+    /// This many cues with nothing but whose slot it is: the partition's own, which began before, or not.
     Alike { own: bool, count: u32 },
     /// A cue with nothing but that a slot of the partition's own begins.
     First,

@@ -1,4 +1,4 @@
-//! The script of a partition: all that others told it in a run, in a file of one spelling, both ways.
+//! The script of a partition: all that it receives from the others in a run, in a file of one spelling, both ways.
 #![tactic(auto)]
 
 mod channels;
@@ -14,7 +14,7 @@ mod writing;
 
 pub use channels::name_of;
 pub use cue::{CueSlot, ScriptCue, ScriptEntry, ScriptSight, ScriptTraffic, WholeEvent};
-pub use file_texts::ScriptFault;
+pub use fault_messages::ScriptFault;
 pub use law::{none_is_prefix, read_is_written, written_is_read};
 pub use reading::read_script;
 pub use script::Script;

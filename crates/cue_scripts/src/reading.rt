@@ -4,14 +4,14 @@ ghost use Rattle.std.specs.Prelude.{◌≡◌, ◌==◌, ◌<◌, ◌≤◌, IfO
 ghost use Rattle.std.specs.Int.{w8};
 ghost use Rattle.machine_model.specs.Cue.{Cue};
 ghost use Rattle.cue_scripts.specs.Entries.{cue_count, plain_kind};
-ghost use Rattle.sealed_files.specs.Fields.{listed_at};
-ghost use Rattle.sealed_files.specs.Gives.{Gives, GivesAt};
-ghost use Rattle.sealed_files.specs.Heads.{magic_at, version_at};
+ghost use Rattle.file_headers.specs.Fields.{listed_at};
+ghost use Rattle.file_headers.specs.Gives.{Gives, GivesAt};
+ghost use Rattle.file_headers.specs.Heads.{magic_at, version_at};
 ghost use Rattle.cue_scripts.specs.Gives.{Fails};
 ghost use Rattle.cue_scripts.specs.Reading as reading;
 ghost use Rattle.cue_scripts.specs.Script.{is_length, is_shown, most_heard};
 ghost use Rattle.cue_scripts.specs.Spelling.{IsSpelledScript, alike_byte};
-ghost use Rattle.file_texts.specs.declared.fault.ScriptFault.TheVariants as fault;
+ghost use Rattle.fault_messages.specs.declared.fault.ScriptFault.TheVariants as fault;
 ghost use Rattle.cue_scripts.specs.Values.{script_cue_value, entry_value, entry_values, event_value, script_sight_value, slot_value, script_traffic_value};
 
 use crate::channels::{gives_queue, is_system, most_heard, signals};
@@ -20,13 +20,13 @@ use crate::cue::{
 };
 use crate::script::Script;
 use crate::writing::{ALIKE, MAGIC, OTHER, OWN_ALIKE, VERSION};
-use file_texts::ScriptFault;
+use fault_messages::ScriptFault;
 use std::alloc::Global;
 use xm_base::{Cursor, Mode, Order, PartId, TICKS};
 use xm_conf::Conf;
 
 /// The name of the format.
-#[tactic(auto, unfolding(sealed_files::specs::Heads::magic_at))]
+#[tactic(auto, unfolding(file_headers::specs::Heads::magic_at))]
 fn magic(cursor: &mut Cursor<'_>) -> Result<(), ScriptFault>
     ensures { Gives Fails (λ _. cursor.new) result (magic_at reading.script_short fault.Magic (codes "XMSC") cursor.old) }
 {
@@ -37,7 +37,7 @@ fn magic(cursor: &mut Cursor<'_>) -> Result<(), ScriptFault>
 }
 
 /// The version.
-#[tactic(auto, unfolding(sealed_files::specs::Heads::version_at))]
+#[tactic(auto, unfolding(file_headers::specs::Heads::version_at))]
 fn version(cursor: &mut Cursor<'_>) -> Result<u16, ScriptFault>
     ensures { GivesAt Fails (λ found. found) result cursor.new (version_at reading.script_short reading.script_version 1 cursor.old) }
 {
@@ -114,7 +114,7 @@ fn heard_kind(most: u8, mine: CueSlot, cursor: &mut Cursor<'_>) -> Result<u8, Sc
     }
 }
 
-/// Whether a message may have so many bytes, where it may have some at most.
+/// Whether a message may have this many bytes, where it may have some at most.
 fn is_length(most: Option<u16>, count: u16) -> bool
     ensures { result ≡ is_length most count }
 {
@@ -148,7 +148,7 @@ fn message(
 
 /// A message that was put into a channel of which the partition is a destination.
 #[tactic(auto, unfolding(crate::specs::Reading::put_message_at))]
-fn put(
+fn read_put(
     alloc: Global,
     conf: &Conf,
     p: PartId,
@@ -208,7 +208,7 @@ fn traffic_of_kind(
 {
     match kind {
         0 => Ok(ScriptTraffic::Nothing),
-        1 => put(alloc, conf, p, cursor),
+        1 => read_put(alloc, conf, p, cursor),
         2 => take(conf, p, cursor),
         _ => signal(conf, p, cursor),
     }
@@ -296,7 +296,7 @@ fn event(last: bool, cursor: &mut Cursor<'_>) -> Result<WholeEvent, ScriptFault>
     }
 }
 
-/// Whether a structure that an observing call writes has so many bytes.
+/// Whether a structure that an observing call writes has this many bytes.
 fn is_shown(count: u8) -> bool
     ensures { result ≡ is_shown count }
 {
@@ -410,7 +410,7 @@ fn other(
     Ok(entry_of(alloc, cue)?)
 }
 
-/// An entry of plain cues, where so many cues are left.
+/// An entry of plain cues, where this many cues are left.
 #[tactic(auto, unfolding(crate::specs::Reading::alike_at))]
 fn alike(own: bool, cues: u32, cursor: &mut Cursor<'_>) -> Result<ScriptEntry, ScriptFault>
     ensures value { GivesAt Fails (λ entry. entry_value entry) result cursor.new (reading.alike_at own cues cursor.old) }
@@ -465,7 +465,7 @@ fn entry_of_kind(
     }
 }
 
-/// An entry, where so many cues are left.
+/// An entry, where this many cues are left.
 #[tactic(auto, unfolding(crate::specs::Reading::script_entry_at))]
 fn entry(
     alloc: Global,
@@ -488,7 +488,7 @@ fn entry(
     entry_of_kind(alloc, conf, p, cues, at, kind, cursor)
 }
 
-/// Entries with so many cues.
+/// Entries with this many cues.
 fn entries(
     alloc: Global,
     conf: &Conf,
@@ -558,7 +558,7 @@ pub fn read_script(
     requires { p < length conf.now.parts }
     // What is read are the cues that the bytes spell.
     ensures found { IfOk result (IsSpelledScript conf.now p bytes.now) }
-    // What is spelled is read, unless there is no memory.
+    // What is spelled is read, unless memory runs out.
     ensures only { (cues : List Cue) → IsSpelledScript conf.now p bytes.now cues → Gives Fails (λ found. found) result (Ok cues) }
     // A fault is the first one.
     ensures exact { Gives Fails (λ found. found) result (reading.script_read conf.now p bytes.now) }

@@ -1,4 +1,4 @@
-//! A script: what a partition is told, tick by tick.
+//! A script: what a partition receives, tick by tick.
 
 ghost use Rattle.std.specs.Prelude.{◌≡◌, ◌≤◌, length, sum_by};
 ghost use Rattle.cue_scripts.specs.Entries.{cue_count, expanded};
@@ -8,7 +8,7 @@ ghost use Rattle.cue_scripts.specs.Values.{entry_value, entry_values};
 use crate::cue::ScriptEntry;
 use std::marker::Model;
 
-/// What a partition is told, tick by tick. Cues that are alike are kept as one.
+/// What a partition receives, tick by tick. Equal cues are kept as one.
 #[derive(Debug, Drop)]
 pub struct Script {
     pub(crate) entries: Vec<ScriptEntry>,

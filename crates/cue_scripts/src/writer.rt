@@ -11,7 +11,7 @@ ghost use Rattle.cue_scripts.specs.Written.{IsScriptFile, IsWithin, IsWritten, e
 use crate::cue::{ScriptCue, plain_kind};
 use crate::sizes::other_length;
 use crate::writing::{put_alike, put_head, put_other};
-use file_texts::ScriptFault;
+use fault_messages::ScriptFault;
 use std::alloc::Global;
 use std::marker::Model;
 use xm_base::{FILE_BYTES, Memory, PartId, TICKS};
@@ -77,7 +77,7 @@ impl ScriptWriter {
         self.cues += 1;
         match plain_kind(cue) {
             Some(own) => self.repeat(own),
-            None => self.put(cue),
+            None => self.append_cue(cue),
         }
     }
 
@@ -114,7 +114,7 @@ impl ScriptWriter {
 
     // Puts another cue.
     #[tactic(auto, unfolding(crate::specs::Written::with_script_entry))]
-    fn put(&mut self, cue: &ScriptCue) -> Result<(), Memory>
+    fn append_cue(&mut self, cue: &ScriptCue) -> Result<(), Memory>
         requires ranges { HasCueRanges (script_cue_value cue.now) }
         requires within { IsWithin 1 self.old }
         ensures { OnOk result (self.new ≡ with_script_entry (Other (script_cue_value cue.now)) (entry_closed self.old)) }

@@ -9,7 +9,7 @@ ghost use Rattle.cue_scripts.specs.Values.{script_cue_value, entry_value, event_
 
 use crate::cue::{CueSlot, ScriptCue, ScriptEntry, ScriptSight, ScriptTraffic, WholeEvent};
 use crate::script::Script;
-use sealed_files::{put_double, put_half, put_word};
+use file_headers::{put_double, put_half, put_word};
 use std::alloc::Global;
 use xm_base::{Memory, Mode, Order, PartId};
 

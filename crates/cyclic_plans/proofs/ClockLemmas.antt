@@ -20,7 +20,7 @@ runs_in moment number slot runs = record { part = refl; covers = runs; first = f
     first : IsTrue (slot.start == moment) ↔ (slot.start ≡ moment)
     first = (λ is. grind (arith, nat_tests), λ is. grind (arith, nat_tests))
 
--- what is told to run is a slot that runs
+-- what is found to run is a slot that runs
 pub here_covers : (conf : Conf) (clock : CyclicClock) (now : ℕ) → IfSome (here conf clock now) (IsHere (moment clock now) (slots_of conf clock.plan))
 unfolding here slot_at
 here_covers conf clock now = at (moment clock now) (slots_of conf clock.plan) (slot_from (moment clock now) 0 (slots_of conf clock.plan)) (slot_from-found (moment clock now) 0 (slots_of conf clock.plan))
@@ -33,7 +33,7 @@ here_covers conf clock now = at (moment clock now) (slots_of conf clock.plan) (s
         let is = subst (λ (k : ℕ). slice_get slots k ≡ Some found.1) place there.1 in
         rw is (runs_in m found.0 found.1 there.2)
 
--- nothing is told to run in gaps, and there alone
+-- nothing is found to run in gaps, and there alone
 pub here_gap : (conf : Conf) (clock : CyclicClock) (now : ℕ) → IsNone (here conf clock now) ↔ IsGap (moment clock now) (slots_of conf clock.plan)
 unfolding here slot_at
 here_gap conf clock now = at (moment clock now) (slots_of conf clock.plan) (slot_from (moment clock now) 0 (slots_of conf clock.plan)) refl

@@ -39,13 +39,13 @@ slot_from moment number (slot ∷ rest) = if covers moment slot then Some (numbe
 abbrev pub here_in : ℕ → ℕ × Slot → Here
 here_in moment found = record { slot = found.0; part = found.1.part; first = found.1.start == moment }
 
--- what runs at a moment is told of this slot
+-- what runs at a moment is this slot
 pub record RunsIn (moment : ℕ) (here : Here) (slot : Slot) : Type 0 where
   pub part : here.part ≡ slot.part
   pub covers : Covers moment slot
   pub first : IsTrue here.first ↔ (slot.start ≡ moment)
 
--- what runs at a moment is told of one of the slots
+-- what runs at a moment is one of the slots
 abbrev pub IsHere : ℕ → List Slot → Here → Type 0
 IsHere moment slots here = IsSomeAnd (slice_get slots here.slot) (RunsIn moment here)
 

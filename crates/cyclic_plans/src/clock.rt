@@ -78,7 +78,7 @@ impl PlanClock {
         self.asked = Some(plan);
     }
 
-    /// Ends a tick by a switch to the maintenance plan, plan 1, in place of `advance`.
+    /// Ends a tick by a switch to the maintenance plan, plan 1, instead of `advance`.
     #[tactic(auto, unfolding(crate::specs::PlanClock::in_maintenance))]
     pub fn to_maintenance(&mut self, now: u64)
         requires { now < 2 ^ 64 - 1 }

@@ -51,7 +51,7 @@ fn ended(rt: &impl Abort, conf: &Conf, clock: &mut PlanClock, now: u64) -> Optio
     clock.advance(conf, now)
 }
 
-// Ends so many ticks, none of which enters a plan.
+// Ends this many ticks, none of which enters a plan.
 fn quiet(rt: &impl Abort, conf: &Conf, clock: &mut PlanClock, ticks: Range<u64>) {
     for now in ticks {
         assert_eq!(rt; ended(rt, conf, clock, now), None, "{now}");

@@ -1,2 +1,2 @@
 pub mod PackingLemmas
-pub mod TellingLemmas
+pub mod PrintingLemmas

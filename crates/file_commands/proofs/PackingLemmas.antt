@@ -4,13 +4,13 @@ use Rattle.std.proofs.lemmas.List.{append_assoc, append-nil, map-append}
 use Rattle.xm_base.specs.declared.limits.TheConstants.{FILE_BYTES}
 use Rattle.xm_outside.specs.Files.{Files, ReadsFile}
 use Rattle.xm_container.specs.declared.image.Image.{Image as Given}
-use Rattle.xm_words.specs.Words.{PartFile, Pack}
+use Rattle.command_line.specs.Words.{PartFile, Pack}
 use Rattle.file_commands.specs.Denial.{Denial}
-use Rattle.file_commands.specs.Ending.{Ending, Finished, Misused, Unread, Denied, Unwritten, Unsaved, Unheard, Starved}
+use Rattle.file_commands.specs.Ending.{Ending, Done, Usage, ReadFault, Refused, WriteFaultReport, WriteFaultFile, UartFault, NoMemory}
 use Rattle.file_commands.specs.Outcome.{Outcome, content, first_long, outcome_of, packed_to, unless_long, outcome_of_contents}
 use Rattle.file_commands.specs.Packing.{container_of, images_of, limited, file_names}
 use Rattle.file_commands.specs.Read.{HasRead}
-use Rattle.file_commands.specs.Work.{Outside, AreNotRead, Comes, IsNotRead, IsStarved, ReadsFiles, after_store_call, called_for}
+use Rattle.file_commands.specs.Work.{Outside, AreNotRead, Comes, IsNotRead, IsOutOfMemory, ReadsFiles, after_store_call, called_for}
 use Rattle.file_commands.specs.OutputLemmas.{called_for-is}
 
 -- Files are read.
@@ -23,11 +23,11 @@ pub read_begun : (all contents : List (List ℕ)) (before : Outside) → content
 read_begun all contents before none = subst (λ (got : List (List ℕ)). HasRead all all got before before) (sym none) (has_none all before)
 
 -- one file more was read
-reads_more : (told : Option Files) (first contents : List (List ℕ)) (file bytes : List ℕ) → ReadsFiles told first contents → ReadsFile told file FILE_BYTES bytes → ReadsFiles told (first ++ file ∷ []) (contents ++ bytes ∷ [])
-reads_more told [] [] file bytes read more = (more, tt)
-reads_more told [] (other ∷ contents) file bytes read more = absurd read
-reads_more told (name ∷ first) [] file bytes read more = absurd read
-reads_more told (name ∷ first) (other ∷ contents) file bytes read more = (read.0, reads_more told first contents file bytes read.1 more)
+reads_more : (known : Option Files) (first contents : List (List ℕ)) (file bytes : List ℕ) → ReadsFiles known first contents → ReadsFile known file FILE_BYTES bytes → ReadsFiles known (first ++ file ∷ []) (contents ++ bytes ∷ [])
+reads_more known [] [] file bytes read more = (more, tt)
+reads_more known [] (other ∷ contents) file bytes read more = absurd read
+reads_more known (name ∷ first) [] file bytes read more = absurd read
+reads_more known (name ∷ first) (other ∷ contents) file bytes read more = (read.0, reads_more known first contents file bytes read.1 more)
 
 -- a call for one file more
 called_for-more : (first : List (List ℕ)) (file : List ℕ) (before : Outside) → called_for (first ++ file ∷ []) before ≡ after_store_call (called_for first before)
@@ -35,8 +35,8 @@ called_for-more [] file before = refl
 called_for-more (name ∷ first) file before = called_for-more first file (after_store_call before)
 
 -- the files after the one that is read next
-behind : (all first rest : List (List ℕ)) (file : List ℕ) → all ≡ first ++ file ∷ rest → all ≡ (first ++ file ∷ []) ++ rest
-behind all first rest file named = named ∙ sym (append_assoc first (file ∷ []) rest)
+following : (all first rest : List (List ℕ)) (file : List ℕ) → all ≡ first ++ file ∷ rest → all ≡ (first ++ file ∷ []) ++ rest
+following all first rest file named = named ∙ sym (append_assoc first (file ∷ []) rest)
 
 -- the next file was read
 pub has_more : (all rest contents : List (List ℕ)) (file bytes : List ℕ) (before now next : Outside) → HasRead all (file ∷ rest) contents before now → ReadsFile now.files file FILE_BYTES bytes → next ≡ after_store_call now
@@ -45,8 +45,8 @@ has_more all rest contents file bytes before now next had read is =
     let files : now.files ≡ before.files = ap (λ (x : Outside). x.files) (had.outside ∙ called_for-is had.first before) in
     record {
       first = had.first ++ file ∷ [];
-      named = behind all had.first rest file had.named;
-      read = reads_more before.files had.first contents file bytes had.read (subst (λ (told : Option Files). ReadsFile told file FILE_BYTES bytes) files read);
+      named = following all had.first rest file had.named;
+      read = reads_more before.files had.first contents file bytes had.read (subst (λ (known : Option Files). ReadsFile known file FILE_BYTES bytes) files read);
       outside = is ∙ ap after_store_call had.outside ∙ sym (called_for-more had.first file before);
     }
 
@@ -59,26 +59,26 @@ has_next all rest names contents read file bytes before now next had reads is sa
 
 -- the next file was not read
 pub not_more : (e : Ending) (all rest contents : List (List ℕ)) (file : List ℕ) (before now after : Outside) → HasRead all (file ∷ rest) contents before now → IsNotRead e file now after → AreNotRead e all before after
-not_more Finished all rest contents file before now after had not_read = absurd not_read
-not_more Misused all rest contents file before now after had not_read = absurd not_read
-not_more (Unread other) all rest contents file before now after had not_read =
-    let here = subst (λ (n : Outside). IsNotRead (Unread other) file n after) had.outside not_read in
-    let cause = subst (λ (n : Outside). IsNotRead (Unread other) file n after) (had.outside ∙ called_for-is had.first before) not_read in
+not_more Done all rest contents file before now after had not_read = absurd not_read
+not_more Usage all rest contents file before now after had not_read = absurd not_read
+not_more (ReadFault other) all rest contents file before now after had not_read =
+    let here = subst (λ (n : Outside). IsNotRead (ReadFault other) file n after) had.outside not_read in
+    let cause = subst (λ (n : Outside). IsNotRead (ReadFault other) file n after) (had.outside ∙ called_for-is had.first before) not_read in
     record { first = had.first; rest = rest; named = rw here.0 had.named; contents = contents; read = had.read; cause = rw here.0 cause.1; outside = here.2 }
-not_more (Denied other text) all rest contents file before now after had not_read = absurd not_read
-not_more Unwritten all rest contents file before now after had not_read = absurd not_read
-not_more (Unsaved other) all rest contents file before now after had not_read = absurd not_read
-not_more (Unheard place) all rest contents file before now after had not_read = absurd not_read
-not_more Starved all rest contents file before now after had not_read = record {
+not_more (Refused other text) all rest contents file before now after had not_read = absurd not_read
+not_more WriteFaultReport all rest contents file before now after had not_read = absurd not_read
+not_more (WriteFaultFile other) all rest contents file before now after had not_read = absurd not_read
+not_more (UartFault place) all rest contents file before now after had not_read = absurd not_read
+not_more NoMemory all rest contents file before now after had not_read = record {
   first = had.first ++ file ∷ [];
   rest = rest;
-  named = behind all had.first rest file had.named;
+  named = following all had.first rest file had.named;
   outside = not_read ∙ ap after_store_call had.outside ∙ sym (called_for-more had.first file before);
 }
 
--- there was no memory for what was read
-pub starved_there : (all rest contents : List (List ℕ)) (before now : Outside) → HasRead all rest contents before now → IsStarved all before now
-starved_there all rest contents before now had = record { first = had.first; rest = rest; named = had.named; outside = had.outside }
+-- memory ran out for what was read
+pub memory_there : (all rest contents : List (List ℕ)) (before now : Outside) → HasRead all rest contents before now → IsOutOfMemory all before now
+memory_there all rest contents before now had = record { first = had.first; rest = rest; named = had.named; outside = had.outside }
 
 -- all were read
 pub has_all : (all contents : List (List ℕ)) (before now : Outside) → HasRead all [] contents before now → ReadsFiles before.files all contents × (now ≡ called_for all before)
@@ -113,7 +113,7 @@ no_more_contents read files contents none = ap (λ (c : List (List ℕ)). after_
 
 -- What is packed.
 
--- what a command comes to that packs
+-- the outcome of a command that packs
 outcome-pack : (configuration output : List ℕ) (images : List PartFile) (contents : List (List ℕ)) → outcome_of (Pack configuration output images) contents
     ≡ packed_to output (limited (first_long (configuration ∷ file_names images) contents) (container_of configuration (content 0 contents) images (drop 1 contents)))
 unfolding outcome_of
@@ -123,7 +123,7 @@ outcome-pack configuration output images contents = at (first_long (configuratio
     at None = refl
     at (Some file) = refl
 
--- what is done with what is packed is what the command comes to, seen from another state that is the same
+-- what is done with the outcome of packing is what the command does, seen from another state that is the same
 pub comes_packed : (e : Ending) (configuration output : List ℕ) (images : List PartFile) (contents : List (List ℕ)) (mid other after : Outside) → mid ≡ other
     → Comes e (packed_to output (limited (first_long (configuration ∷ file_names images) contents) (container_of configuration (content 0 contents) images (drop 1 contents)))) mid after
     → Comes e (outcome_of (Pack configuration output images) contents) other after

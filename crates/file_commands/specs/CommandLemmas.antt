@@ -1,4 +1,4 @@
--- What a command comes to, and what is done in all once its files are read.
+-- The outcome of a command, and what is done in all once its files are read.
 use Rattle.std.proofs.Common.{◌≡◌, ℕ, ◌<◌, ◌≤◌, true, false, nat_lt, List, [], ◌∷◌, length, codes, Option, None, Result, refl, sym, ap, subst, arith, Some}
 use Rattle.std.proofs.lemmas.Bool.Decides.{nat_tests}
 use Rattle.std.proofs.lemmas.List.{append-nil}
@@ -6,17 +6,17 @@ use Rattle.xm_base.specs.declared.limits.TheConstants.{FILE_BYTES}
 use Rattle.xm_outside.specs.Causes.{Rose}
 use Rattle.xm_outside.specs.Files.{Files, ReadsFile}
 use Rattle.xm_outside.specs.Growth.{grown-nothing, GrewByPrefix}
-use Rattle.xm_words.specs.Words.{Command}
-use Rattle.file_commands.specs.Ending.{Ending, Finished, Misused, Unread, Denied, Unwritten, Unsaved, Unheard, Starved}
+use Rattle.command_line.specs.Words.{Command}
+use Rattle.file_commands.specs.Ending.{Ending, Done, Usage, ReadFault, Refused, WriteFaultReport, WriteFaultFile, UartFault, NoMemory}
 use Rattle.file_commands.specs.Outcome.{Outcome, first_long, inputs_of, file_made, outcome_of, output_of, command_refused, text_reported, unless_long, outcome_of_contents}
-use Rattle.file_maker.specs.Makes.{IsUnmade}
+use Rattle.builders.specs.Makes.{IsUnmade}
 use Rattle.file_commands.specs.Makes.{IsUnmadeOf}
-use Rattle.file_maker.specs.declared.unmade.Unmade.{Unmade}
-use Rattle.file_maker.specs.declared.unmade.Unmade.TheVariants as unmade
+use Rattle.builders.specs.declared.unmade.Unmade.{Unmade}
+use Rattle.builders.specs.declared.unmade.Unmade.TheVariants as unmade
 use Rattle.file_commands.specs.OutputLemmas.{called_for-is, no_output, output-named}
 use Rattle.file_commands.specs.Work.{Outside, AreNotRead, Comes, Does, IsDone, IsNotRead, ReadsFiles, Reports, after_store_call, called_for, outside}
 
--- What one file comes to.
+-- The outcome of one file.
 
 -- a file that is too long
 pub one-long : (command : Command) (file bytes : List ℕ) → inputs_of command ≡ file ∷ [] → FILE_BYTES < length bytes → outcome_of command (bytes ∷ []) ≡ command_refused file (codes "too-long")
@@ -48,11 +48,11 @@ pub no-writes : (command : Command) (contents : List (List ℕ)) → output_of c
 no-writes command contents none = no_output _ (λ output is. (let named = output-named command contents output is in let no : ⊥ = cc in no))
 
 -- a command that is refused does nothing
-pub refused_comes : (file text : List ℕ) (before : Outside) → Comes (Denied file text) (command_refused file text) before before
+pub refused_comes : (file text : List ℕ) (before : Outside) → Comes (Refused file text) (command_refused file text) before before
 refused_comes file text before = (refl, sym (ap (λ (g : Option (List ℕ)). record before { got = g }) (grown-nothing before.got)))
 
 -- and its report has got nothing
-pub refused_reports : (file text : List ℕ) (had : Option (List ℕ)) (faults : ℕ) → Reports (Denied file text) (command_refused file text) had faults had faults
+pub refused_reports : (file text : List ℕ) (had : Option (List ℕ)) (faults : ℕ) → Reports (Refused file text) (command_refused file text) had faults had faults
 refused_reports file text had faults = (refl, sym (grown-nothing had), refl)
 
 -- where nothing was made, nothing is done
@@ -60,7 +60,7 @@ pub unmade_comes : (e : Ending) (input output : List ℕ) (why : Unmade) (m : Re
 unmade_comes e input output (unmade.Refused text) m before ends is = rw (ends, is) (refused_comes input _ before)
 unmade_comes e input output unmade.Memory m before ends is = rw ends refl
 
--- and nothing is told
+-- and nothing is printed
 pub unmade_reports : (e : Ending) (file : List ℕ) (why : Unmade) (m : Result (List ℕ) (List ℕ)) (had : Option (List ℕ)) (faults : ℕ) → IsUnmadeOf e file why → IsUnmade why m → Reports e (text_reported file m) had faults had faults
 unmade_reports e file (unmade.Refused text) m had faults ends is = rw (ends, is) (refused_reports file _ had faults)
 unmade_reports e file unmade.Memory m had faults ends is = rw ends (refl, refl)
@@ -69,11 +69,11 @@ unmade_reports e file unmade.Memory m had faults ends is = rw ends (refl, refl)
 
 -- a command whose files were read did all of its work, by what was read
 pub does_by : (e : Ending) (command : Command) (contents : List (List ℕ)) (before after : Outside) → ReadsFiles before.files (inputs_of command) contents → Comes e (outcome_of command contents) (called_for (inputs_of command) before) after → Does e contents command before after
-does_by Finished command contents before after read comes = record { read = read; denied = comes.0; outside = comes.1 }
-does_by Misused command contents before after read comes = absurd comes
-does_by (Unread other) command contents before after read comes = absurd comes
-does_by (Denied other text) command contents before after read comes = record { read = read; denied = comes.0; outside = comes.1 }
-does_by Unwritten command contents before after read comes =
+does_by Done command contents before after read comes = record { read = read; denied = comes.0; outside = comes.1 }
+does_by Usage command contents before after read comes = absurd comes
+does_by (ReadFault other) command contents before after read comes = absurd comes
+does_by (Refused other text) command contents before after read comes = record { read = read; denied = comes.0; outside = comes.1 }
+does_by WriteFaultReport command contents before after read comes =
     let same = called_for-is (inputs_of command) before in
     record {
       read = read;
@@ -81,9 +81,9 @@ does_by Unwritten command contents before after read comes =
       front = subst (λ (g : Option (List ℕ)). GrewByPrefix g (outcome_of command contents).report after.got) (ap (λ (x : Outside). x.got) same) comes.1;
       outside = comes.2;
     }
-does_by (Unsaved other) command contents before after read comes = record { read = read; lost = comes }
-does_by (Unheard place) command contents before after read comes = record { carried = record { read = read; denied = comes.1; outside = comes.2 }; run = comes.0 }
-does_by Starved command contents before after read comes = record { first = inputs_of command; rest = []; named = sym (append-nil (inputs_of command)); outside = comes }
+does_by (WriteFaultFile other) command contents before after read comes = record { read = read; lost = comes }
+does_by (UartFault place) command contents before after read comes = record { carried = record { read = read; denied = comes.1; outside = comes.2 }; run = comes.0 }
+does_by NoMemory command contents before after read comes = record { first = inputs_of command; rest = []; named = sym (append-nil (inputs_of command)); outside = comes }
 
 pub done_by : (e : Ending) (command : Command) (contents : List (List ℕ)) (before after : Outside) → ReadsFiles before.files (inputs_of command) contents → Comes e (outcome_of command contents) (called_for (inputs_of command) before) after → IsDone e command before after
 done_by e command contents before after read comes = record { contents = contents; does = does_by e command contents before after read comes }
@@ -94,14 +94,14 @@ done_by_one e command file bytes before after one read comes = done_by e command
 
 -- a command whose files were not all read ends so, whatever their contents
 pub not_all_read_does : (e : Ending) (contents : List (List ℕ)) (command : Command) (before after : Outside) → AreNotRead e (inputs_of command) before after → Does e contents command before after
-not_all_read_does Finished contents command before after not_read = absurd not_read
-not_all_read_does Misused contents command before after not_read = absurd not_read
-not_all_read_does (Unread other) contents command before after not_read = not_read
-not_all_read_does (Denied other text) contents command before after not_read = absurd not_read
-not_all_read_does Unwritten contents command before after not_read = absurd not_read
-not_all_read_does (Unsaved other) contents command before after not_read = absurd not_read
-not_all_read_does (Unheard place) contents command before after not_read = absurd not_read
-not_all_read_does Starved contents command before after not_read = not_read
+not_all_read_does Done contents command before after not_read = absurd not_read
+not_all_read_does Usage contents command before after not_read = absurd not_read
+not_all_read_does (ReadFault other) contents command before after not_read = not_read
+not_all_read_does (Refused other text) contents command before after not_read = absurd not_read
+not_all_read_does WriteFaultReport contents command before after not_read = absurd not_read
+not_all_read_does (WriteFaultFile other) contents command before after not_read = absurd not_read
+not_all_read_does (UartFault place) contents command before after not_read = absurd not_read
+not_all_read_does NoMemory contents command before after not_read = not_read
 
 pub not_all_read_done : (e : Ending) (command : Command) (before after : Outside) → AreNotRead e (inputs_of command) before after → IsDone e command before after
 not_all_read_done e command before after not_read = record { contents = []; does = not_all_read_does e [] command before after not_read }
@@ -112,9 +112,9 @@ comes_from e outcome mid other after same comes = subst (λ (m : Outside). Comes
 
 -- where one file was not read, not all files of a list with that one alone were
 pub not_all_of_one : (e : Ending) (file : List ℕ) (before after : Outside) → IsNotRead e file before after → AreNotRead e (file ∷ []) before after
-not_all_of_one Finished file before after not_read = absurd not_read
-not_all_of_one Misused file before after not_read = absurd not_read
-not_all_of_one (Unread other) file before after not_read = record {
+not_all_of_one Done file before after not_read = absurd not_read
+not_all_of_one Usage file before after not_read = absurd not_read
+not_all_of_one (ReadFault other) file before after not_read = record {
   first = [];
   rest = [];
   named = rw not_read.0 refl;
@@ -123,11 +123,11 @@ not_all_of_one (Unread other) file before after not_read = record {
   cause = rw not_read.0 not_read.1;
   outside = not_read.2;
 }
-not_all_of_one (Denied other text) file before after not_read = absurd not_read
-not_all_of_one Unwritten file before after not_read = absurd not_read
-not_all_of_one (Unsaved other) file before after not_read = absurd not_read
-not_all_of_one (Unheard place) file before after not_read = absurd not_read
-not_all_of_one Starved file before after not_read = record { first = file ∷ []; rest = []; named = refl; outside = not_read }
+not_all_of_one (Refused other text) file before after not_read = absurd not_read
+not_all_of_one WriteFaultReport file before after not_read = absurd not_read
+not_all_of_one (WriteFaultFile other) file before after not_read = absurd not_read
+not_all_of_one (UartFault place) file before after not_read = absurd not_read
+not_all_of_one NoMemory file before after not_read = record { first = file ∷ []; rest = []; named = refl; outside = not_read }
 
 -- a command whose one file was not read ends so
 pub not_read_done : (e : Ending) (command : Command) (file : List ℕ) (before after : Outside) → inputs_of command ≡ file ∷ [] → IsNotRead e file before after → IsDone e command before after
@@ -137,11 +137,11 @@ not_read_done e command file before after one not_read =
 -- a report is all that is done, where no file is written
 pub comes_by_report : (e : Ending) (outcome : Outcome) (files : Option Files) (reads writes calls : ℕ) (had got : Option (List ℕ)) (faults now : ℕ) → outcome.output ≡ None → outcome.later ≡ [] → Reports e outcome had faults got now
     → Comes e outcome (outside files reads writes calls had faults) (outside files reads writes calls got now)
-comes_by_report Finished outcome files reads writes calls had got faults now none last r = (r.0, rw (none, last, r.1, r.2) refl)
-comes_by_report Misused outcome files reads writes calls had got faults now none last r = absurd r
-comes_by_report (Unread file) outcome files reads writes calls had got faults now none last r = absurd r
-comes_by_report (Denied file text) outcome files reads writes calls had got faults now none last r = (r.0, rw (none, last, r.1, r.2) refl)
-comes_by_report Unwritten outcome files reads writes calls had got faults now none last r = (r.0, r.1, rw none refl)
-comes_by_report (Unsaved file) outcome files reads writes calls had got faults now none last r = absurd r
-comes_by_report (Unheard place) outcome files reads writes calls had got faults now none last r = absurd r
-comes_by_report Starved outcome files reads writes calls had got faults now none last r = rw (r.0, r.1) refl
+comes_by_report Done outcome files reads writes calls had got faults now none last r = (r.0, rw (none, last, r.1, r.2) refl)
+comes_by_report Usage outcome files reads writes calls had got faults now none last r = absurd r
+comes_by_report (ReadFault file) outcome files reads writes calls had got faults now none last r = absurd r
+comes_by_report (Refused file text) outcome files reads writes calls had got faults now none last r = (r.0, rw (none, last, r.1, r.2) refl)
+comes_by_report WriteFaultReport outcome files reads writes calls had got faults now none last r = (r.0, r.1, rw none refl)
+comes_by_report (WriteFaultFile file) outcome files reads writes calls had got faults now none last r = absurd r
+comes_by_report (UartFault place) outcome files reads writes calls had got faults now none last r = absurd r
+comes_by_report NoMemory outcome files reads writes calls had got faults now none last r = rw (r.0, r.1) refl

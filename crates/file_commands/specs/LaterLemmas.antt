@@ -3,23 +3,23 @@ use Rattle.std.proofs.Common.{◌≡◌, ℕ, ◌≤◌, ◌⊎◌, inl, inr, �
 use Rattle.std.proofs.lemmas.List.{length-map, map-append}
 use Rattle.xm_base.specs.declared.limits.TheConstants.{IMAGE_BYTES, TICKS}
 use Rattle.xm_container.specs.Reading.{unpacked}
-use Rattle.file_texts.specs.declared.fault.BoxFault.{BoxFault}
+use Rattle.fault_messages.specs.declared.fault.BoxFault.{BoxFault}
 use Rattle.loaded_system.specs.Bare.{bare_system}
 use Rattle.loaded_system.specs.System.{System}
 use Rattle.machine_model.specs.Machine.{Machine}
 use Rattle.machine_model.specs.View.{System as Booted}
-use Rattle.whole_system.specs.State.{with_inputs}
-use Rattle.xm_words.specs.Words.{Command, PartFile, RunOption, Bare, Parse, Upgrade, BuildImage, ReadImage, Pack, ListContainer, CheckContainer, MakePlan, CheckPlan, TellGroups, Generate, Run, Replay, ReplayFiles, cores_in, replay_core, replay_input, scripts_in, span_in}
-use Rattle.file_maker.specs.Ready.{Replay as Readied, Unready, replay_of}
+use Rattle.system_state.specs.State.{with_inputs}
+use Rattle.command_line.specs.Words.{Command, PartFile, RunOption, Bare, Parse, Upgrade, BuildImage, ReadImage, Pack, ListContainer, CheckContainer, MakePlan, CheckPlan, ListGroups, Generate, Run, Replay, ReplayFiles, cores_in, replay_core, replay_input, scripts_in, span_in}
+use Rattle.builders.specs.Ready.{Replay as Readied, Unready, replay_of}
 use Rattle.file_commands.specs.Denial.{Denial}
 use Rattle.file_commands.specs.Ending.{length_text, ticks_text}
-use Rattle.file_maker.specs.Grouping.{groups_of}
-use Rattle.file_maker.specs.Imaging.{container_lines_of, container_verdict_of, image_lines_of, xef_of}
+use Rattle.builders.specs.Grouping.{groups_of}
+use Rattle.builders.specs.Imaging.{container_lines_of, container_verdict_of, image_lines_of, xef_of}
 use Rattle.file_commands.specs.Inputs.{no_inputs}
 use Rattle.file_commands.specs.Outcome.{Output, bare_outcome, content, core_outputs, first_long, input_bytes, inputs_of, later_of, file_made, name_if_any, outcome_of, output_of, packed_to, played, outcome_of_run, ran_for, ran_scripted, ran_with, ran_within, command_refused, replay_outcome_by, replay_outcome, replay_output, run_by, run_outcome, script_before, script_denial, script_output, scripts_for, ticks_asked, text_reported, unless_denied, unless_long, outcome_of_contents}
 use Rattle.file_commands.specs.Packing.{container_of, file_names}
-use Rattle.file_maker.specs.Parsing.{upgraded_of, xmc_of}
-use Rattle.file_maker.specs.Planning.{plan_lines_of, verdicts_of}
+use Rattle.builders.specs.Parsing.{upgraded_of, xmc_of}
+use Rattle.builders.specs.Planning.{plan_lines_of, verdicts_of}
 use Rattle.file_commands.specs.Work.{file_in}
 use Rattle.file_commands.specs.OutputLemmas.{output-named}
 
@@ -118,9 +118,9 @@ packed-later : (file : List ℕ) (packed : Result (List ℕ) Denial) → (packed
 packed-later file (Ok bytes) = refl
 packed-later file (Err refusal) = refl
 
-told-later : (file : List ℕ) (text : Result (List ℕ) (List ℕ)) → (text_reported file text).later ≡ []
-told-later file (Ok text) = refl
-told-later file (Err text) = refl
+reported-later : (file : List ℕ) (text : Result (List ℕ) (List ℕ)) → (text_reported file text).later ≡ []
+reported-later file (Ok text) = refl
+reported-later file (Err text) = refl
 
 -- the core file of a replay
 replay_output-files : (replay : Readied) (core : Option (List ℕ)) → output_names (map (replay_output replay) (name_if_any core)) ≡ name_if_any core
@@ -131,9 +131,9 @@ played-later : (core : Option (List ℕ)) (replay : Readied) → AreNamed (name_
 unfolding played
 played-later core replay = inl (replay_output-files replay core)
 
-replay-later : (container : List ℕ) (part : ℕ) (script : List ℕ) (further : ReplayFiles) (bytes told input : List ℕ) → AreNamed (name_if_any (replay_core further)) (replay_outcome container part script further bytes told input).later
+replay-later : (container : List ℕ) (part : ℕ) (script : List ℕ) (further : ReplayFiles) (bytes received input : List ℕ) → AreNamed (name_if_any (replay_core further)) (replay_outcome container part script further bytes received input).later
 unfolding replay_outcome
-replay-later container part script further bytes told input = at (replay_of bytes part told input)
+replay-later container part script further bytes received input = at (replay_of bytes part received input)
   where
     at : (made_of : Result Readied Unready) → AreNamed (name_if_any (replay_core further)) (replay_outcome_by container part script further made_of).later
     at (Ok replay) = played-later (replay_core further) replay
@@ -150,13 +150,13 @@ later-named command contents = at command (first_long (inputs_of command) conten
     at (Parse description out) None = inr (made-later description out (xmc_of (content 0 contents)))
     at (Upgrade configuration out) None = inr (made-later configuration out (upgraded_of (content 0 contents)))
     at (BuildImage program out) None = inr (made-later program out (xef_of (content 0 contents)))
-    at (ReadImage image) None = inr (told-later image (image_lines_of (content 0 contents)))
+    at (ReadImage image) None = inr (reported-later image (image_lines_of (content 0 contents)))
     at (Pack configuration out images) None = inr (packed-later out (container_of configuration (content 0 contents) images (drop 1 contents)))
-    at (ListContainer container) None = inr (told-later container (container_lines_of (content 0 contents)))
-    at (CheckContainer container) None = inr (told-later container (container_verdict_of (content 0 contents)))
-    at (MakePlan description) None = inr (told-later description (plan_lines_of (content 0 contents)))
-    at (CheckPlan description) None = inr (told-later description (verdicts_of (content 0 contents)))
-    at (TellGroups description) None = inr (told-later description (groups_of (content 0 contents)))
+    at (ListContainer container) None = inr (reported-later container (container_lines_of (content 0 contents)))
+    at (CheckContainer container) None = inr (reported-later container (container_verdict_of (content 0 contents)))
+    at (MakePlan description) None = inr (reported-later description (plan_lines_of (content 0 contents)))
+    at (CheckPlan description) None = inr (reported-later description (verdicts_of (content 0 contents)))
+    at (ListGroups description) None = inr (reported-later description (groups_of (content 0 contents)))
     at (Generate number) None = inr refl
     at (Run container options) None = run-later container options (content 0 contents) (drop 1 contents)
     at (Replay container part script further) None = replay-later container part script further (content 0 contents) (content 1 contents) (input_bytes (replay_input further) (content 2 contents))

@@ -9,6 +9,6 @@ pub mod OutputLemmas
 pub mod Packing
 pub mod Read
 pub mod Status
-pub mod Telling
-pub mod Told
+pub mod Printout
+pub mod EndingValues
 pub mod Work

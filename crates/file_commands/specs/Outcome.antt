@@ -1,4 +1,4 @@
--- What the contents of the files that a command reads come to.
+-- The outcome of the contents of the files that a command reads.
 use Rattle.std.specs.Prelude.{ℕ, ◌*◌, ◌==◌, if◌then◌else◌, nat_lt, ◌||◌, List, [], ◌∷◌, ◌++◌, length, drop, codes, map, slice_index_or, Option, Some, None, Result, Ok, Err}
 use Rattle.xm_base.specs.declared.limits.TheConstants.{FILE_BYTES, IMAGE_BYTES, TICKS}
 use Rattle.xm_report.specs.Report.{texts}
@@ -9,42 +9,42 @@ use Rattle.machine_model.specs.Cue.{Cue, script}
 use Rattle.machine_model.specs.Lines.{report}
 use Rattle.machine_model.specs.Machine.{Machine, run, start}
 use Rattle.machine_model.specs.View.{System as Booted, view_of}
-use Rattle.generated_system.specs.Told.{generated_text}
-use Rattle.whole_system.specs.State.{part_at, with_inputs}
+use Rattle.generated_system.specs.Reported.{generated_text}
+use Rattle.system_state.specs.State.{part_at, with_inputs}
 use Rattle.cue_scripts.specs.Spelling.{script_text}
-use Rattle.file_texts.specs.Texts.{script_fault_text}
-use Rattle.file_texts.specs.declared.fault.ScriptFault.TheVariants as script_fault
-use Rattle.told_scripts.specs.Replayed.{replay_lines, replayed}
+use Rattle.fault_messages.specs.Texts.{script_fault_text}
+use Rattle.fault_messages.specs.declared.fault.ScriptFault.TheVariants as script_fault
+use Rattle.recording_model.specs.Replayed.{replay_lines, replayed}
 use Rattle.loaded_system.specs.Bare.{bare_system}
 use Rattle.loaded_system.specs.System.{System}
 use Rattle.xm_container.specs.Reading.{unpacked}
-use Rattle.file_texts.specs.Texts.{box_fault_text}
-use Rattle.file_texts.specs.declared.fault.BoxFault.{BoxFault}
-use Rattle.xm_words.specs.Words.{Command, PartFile, RunOption, Bare, Parse, Upgrade, BuildImage, ReadImage, Pack, ListContainer, CheckContainer, MakePlan, CheckPlan, TellGroups, Generate, Run, Replay, ReplayFiles, cores_in, inputs_in, replay_core, replay_input, span_in, scripts_in}
-use Rattle.xm_words.specs.declared.commands.Span.{Span}
-use Rattle.xm_words.specs.declared.commands.Span.TheVariants.{Frames, Ticks}
+use Rattle.fault_messages.specs.Texts.{box_fault_text}
+use Rattle.fault_messages.specs.declared.fault.BoxFault.{BoxFault}
+use Rattle.command_line.specs.Words.{Command, PartFile, RunOption, Bare, Parse, Upgrade, BuildImage, ReadImage, Pack, ListContainer, CheckContainer, MakePlan, CheckPlan, ListGroups, Generate, Run, Replay, ReplayFiles, cores_in, inputs_in, replay_core, replay_input, span_in, scripts_in}
+use Rattle.command_line.specs.declared.commands.Span.{Span}
+use Rattle.command_line.specs.declared.commands.Span.TheVariants.{Frames, Ticks}
 use Rattle.file_commands.specs.Denial.{Denial}
 use Rattle.file_commands.specs.Ending.{input_text, length_text, partition_text, ticks_text}
-use Rattle.file_maker.specs.Grouping.{groups_of}
-use Rattle.file_maker.specs.Imaging.{container_lines_of, container_verdict_of, image_lines_of, xef_of}
+use Rattle.builders.specs.Grouping.{groups_of}
+use Rattle.builders.specs.Imaging.{container_lines_of, container_verdict_of, image_lines_of, xef_of}
 use Rattle.file_commands.specs.Inputs.{inputs_for, no_inputs}
 use Rattle.file_commands.specs.Packing.{container_of, denial, file_names}
-use Rattle.file_maker.specs.Parsing.{upgraded_of, xmc_of}
-use Rattle.file_maker.specs.Planning.{plan_lines_of, verdicts_of}
-use Rattle.file_maker.specs.Ready.{NoContainer, NoPartition, NoScript, OddInput, Replay as Readied, Unready, replay_of}
-use Rattle.file_maker.specs.Success.{ok_text}
+use Rattle.builders.specs.Parsing.{upgraded_of, xmc_of}
+use Rattle.builders.specs.Planning.{plan_lines_of, verdicts_of}
+use Rattle.builders.specs.Ready.{NoContainer, NoPartition, NoScript, OddInput, Replay as Readied, Unready, replay_of}
+use Rattle.builders.specs.Success.{ok_text}
 
 -- a file that is written
 pub record Output : Type 0 where
   pub file : List ℕ
   pub bytes : List ℕ
 
--- a run: the system, with the input words of its partitions, and for how many ticks; or one partition of the system alone, with all that it is told
+-- a run: the system, with the input words of its partitions, and its number of ticks; or one partition of the system alone, with all that it receives
 pub data Running : Type 0 where
   Together : (system : Booted) (ticks : ℕ) → Running
   Apart : (system : Booted) (p : ℕ) (cues : List Cue) → Running
 
--- what a command comes to: its refusal, if there is one, the file that it writes first, what goes to the report, the files that it writes after
+-- the outcome of a command: its refusal, if there is one, the file that it writes first, what goes to the report, the files that it writes after
 -- the report, in their order, and the run whose report that is
 pub record Outcome : Type 0 where
   pub denial : Option Denial
@@ -78,7 +78,7 @@ inputs_of (ListContainer container) = container ∷ []
 inputs_of (CheckContainer container) = container ∷ []
 inputs_of (MakePlan description) = description ∷ []
 inputs_of (CheckPlan description) = description ∷ []
-inputs_of (TellGroups description) = description ∷ []
+inputs_of (ListGroups description) = description ∷ []
 inputs_of (Generate number) = []
 inputs_of (Run container options) = container ∷ file_names (inputs_in options)
 inputs_of (Replay container part script further) = container ∷ script ∷ name_if_any (replay_input further)
@@ -95,7 +95,7 @@ output_of (ListContainer container) = None
 output_of (CheckContainer container) = None
 output_of (MakePlan description) = None
 output_of (CheckPlan description) = None
-output_of (TellGroups description) = None
+output_of (ListGroups description) = None
 output_of (Generate number) = None
 output_of (Run container options) = None
 output_of (Replay container part script further) = None
@@ -112,7 +112,7 @@ later_of (ListContainer container) = []
 later_of (CheckContainer container) = []
 later_of (MakePlan description) = []
 later_of (CheckPlan description) = []
-later_of (TellGroups description) = []
+later_of (ListGroups description) = []
 later_of (Generate number) = []
 later_of (Run container options) = file_names (cores_in options) ++ file_names (scripts_in options)
 later_of (Replay container part script further) = name_if_any (replay_core further)
@@ -125,7 +125,7 @@ core_output g named = record { file = named.file; bytes = core_file (view_of g.s
 unfoldable pub core_outputs : Machine → List PartFile → List Output
 core_outputs g cores = map (core_output g) cores
 
--- the script of a partition: all that it is told in so many ticks from the boot of its system on
+-- the script of a partition: all that it receives in this many ticks from the boot of its system on
 abbrev pub script_bytes : Booted → ℕ → ℕ → List ℕ
 script_bytes system ticks p = script_text p (script (start system) p ticks)
 
@@ -155,7 +155,7 @@ scripts_for system ticks [] = Ok []
 scripts_for system ticks (named ∷ scripts) =
     unless_denied (script_denial system ticks named) (script_before (script_output system ticks named) (scripts_for system ticks scripts))
 
--- what a run of so many ticks comes to, of a system whose partitions have these input words, with these core files, and with scripts after them
+-- the outcome of a run of this many ticks, of a system whose partitions have these input words, with these core files, and with scripts after them
 unfoldable pub outcome_of_run : ℕ → List PartFile → List Output → System → List (List ℕ) → Outcome
 outcome_of_run ticks cores scripts system inputs = record {
   denial = None;
@@ -165,7 +165,7 @@ outcome_of_run ticks cores scripts system inputs = record {
   run = Some (Together (with_inputs system inputs) ticks);
 }
 
--- what a raw image comes to, run for so many ticks without input words
+-- the outcome of a raw image, run for this many ticks without input words
 unfoldable pub bare_outcome : List ℕ → ℕ → List ℕ → Outcome
 bare_outcome file ticks image =
     if (length image == 0) || nat_lt IMAGE_BYTES (length image) then command_refused file (length_text (length image))
@@ -176,34 +176,34 @@ abbrev pub ticks_asked : Span → Conf → ℕ
 ticks_asked (Frames count) conf = count * frame_of conf 0
 ticks_asked (Ticks count) conf = count
 
--- what a run comes to with scripts, or the refusal of one of them
+-- the outcome of a run with scripts, or the refusal of one of them
 abbrev pub ran_scripted : ℕ → List PartFile → System → List (List ℕ) → Result (List Output) Denial → Outcome
 ran_scripted ticks cores system inputs (Ok scripts) = outcome_of_run ticks cores scripts system inputs
 ran_scripted ticks cores system inputs (Err refusal) = refused_by refusal
 
--- what a run comes to, of a container's system with these input words: it is refused where it asks for more ticks than a run may have, and
+-- the outcome of a run, of a container's system with these input words: it is refused where it asks for more ticks than a run may have, and
 -- where a script of it is too long
 abbrev pub ran_for : List ℕ → ℕ → List RunOption → System → List (List ℕ) → Outcome
 ran_for file asked options system inputs =
     if nat_lt TICKS asked then command_refused file (ticks_text asked)
     else ran_scripted asked (cores_in options) system inputs (scripts_for (with_inputs system inputs) asked (scripts_in options))
 
--- what a run comes to, by the ticks that its options ask for
+-- the outcome of a run, by the ticks that its options ask for
 unfoldable pub ran_within : List ℕ → List RunOption → System → List (List ℕ) → Outcome
 ran_within file options system inputs = ran_for file (ticks_asked (span_in options) system.conf) options system inputs
 
--- what a run comes to, of a container's system with input words, or the refusal of an input's file
+-- the outcome of a run, of a container's system with input words, or the refusal of an input's file
 abbrev pub ran_with : List ℕ → List RunOption → System → Result (List (List ℕ)) Denial → Outcome
 ran_with file options system (Ok inputs) = ran_within file options system inputs
 ran_with file options system (Err refusal) = refused_by refusal
 
--- what a container comes to that is run with options and inputs with these contents, or the refusal of its file
+-- the outcome of a container that is run with options and inputs with these contents, or the refusal of its file
 abbrev pub run_by : List ℕ → List RunOption → List (List ℕ) → Result System BoxFault → Outcome
 run_by file options contents (Ok system) =
     ran_with file options system (inputs_for (length system.conf.parts) options contents)
 run_by file options contents (Err fault) = command_refused file (box_fault_text fault)
 
--- what the container of a file with these bytes comes to, run with options and inputs with these contents
+-- the outcome of the container of a file with these bytes, run with options and inputs with these contents
 unfoldable pub run_outcome : List ℕ → List RunOption → List ℕ → List (List ℕ) → Outcome
 run_outcome file options bytes contents = run_by file options contents (unpacked bytes)
 
@@ -211,7 +211,7 @@ run_outcome file options bytes contents = run_by file options contents (unpacked
 abbrev pub replay_output : Readied → List ℕ → Output
 replay_output replay file = record { file = file; bytes = core_file (view_of replay.system replay.p) (replayed (view_of replay.system replay.p) replay.cues).state }
 
--- what a replay comes to that may begin: the partition's lines and that of its end, and its core file after them, where a file is named for it
+-- the outcome of a replay that may begin: the partition's lines and that of its end, and its core file after them, where a file is named for it
 unfoldable pub played : Option (List ℕ) → Readied → Outcome
 played core replay = record {
   denial = None;
@@ -238,34 +238,34 @@ unready_denial container part script further NoPartition = denial container (par
 unready_denial container part script further (NoScript text) = denial script text
 unready_denial container part script further (OddInput count) = denial (input_name (replay_input further)) (input_text count)
 
--- what a replay comes to, or its refusal
+-- the outcome of a replay, or its refusal
 abbrev pub replay_outcome_by : List ℕ → ℕ → List ℕ → ReplayFiles → Result Readied Unready → Outcome
 replay_outcome_by container part script further (Ok replay) = played (replay_core further) replay
 replay_outcome_by container part script further (Err why) = refused_by (unready_denial container part script further why)
 
--- what a container, a script and input words with these contents come to, by which a partition is replayed
+-- the outcome of a container, a script and input words with these contents, by which a partition is replayed
 unfoldable pub replay_outcome : List ℕ → ℕ → List ℕ → ReplayFiles → List ℕ → List ℕ → List ℕ → Outcome
-replay_outcome container part script further bytes told input = replay_outcome_by container part script further (replay_of bytes part told input)
+replay_outcome container part script further bytes received input = replay_outcome_by container part script further (replay_of bytes part received input)
 
 -- what is printed of a file that was made
 abbrev pub made_text : ℕ → List ℕ
 made_text length = ok_text (codes "length=") length
 
--- what a file comes to out of which another is made: that file, or a refusal
+-- the outcome of a file out of which another is made: that file, or a refusal
 abbrev pub file_made : List ℕ → List ℕ → Result (List ℕ) (List ℕ) → Outcome
 file_made input output (Ok bytes) = record { denial = None; output = Some (record { file = output; bytes = bytes }); report = made_text (length bytes); later = []; run = None }
 file_made input output (Err text) = command_refused input text
 
--- what files come to that are packed: their container, or the refusal of one of them
+-- the outcome of files that are packed: their container, or the refusal of one of them
 abbrev pub packed_to : List ℕ → Result (List ℕ) Denial → Outcome
 packed_to output (Ok bytes) = record { denial = None; output = Some (record { file = output; bytes = bytes }); report = made_text (length bytes); later = []; run = None }
 packed_to output (Err denial) = refused_by denial
 
--- what a command comes to that prints a text, and does nothing else
+-- the outcome of a command that prints a text, and does nothing else
 abbrev pub outcome_of_print : List ℕ → Outcome
 outcome_of_print text = record { denial = None; output = None; report = text; later = []; run = None }
 
--- what a file comes to that is told: its text, or a refusal
+-- the outcome of a file that is printed: its text, or a refusal
 abbrev pub text_reported : List ℕ → Result (List ℕ) (List ℕ) → Outcome
 text_reported file (Ok text) = outcome_of_print text
 text_reported file (Err text) = command_refused file text
@@ -274,7 +274,7 @@ text_reported file (Err text) = command_refused file text
 abbrev pub content : ℕ → List (List ℕ) → List ℕ
 content n contents = slice_index_or contents n []
 
--- what the contents of the files come to, where none of them is too long
+-- the outcome of the contents of the files, where none of them is too long
 abbrev pub outcome_of_contents : Command → List (List ℕ) → Outcome
 outcome_of_contents (Bare image ticks) contents = bare_outcome image ticks (content 0 contents)
 outcome_of_contents (Parse description output) contents = file_made description output (xmc_of (content 0 contents))
@@ -286,7 +286,7 @@ outcome_of_contents (ListContainer container) contents = text_reported container
 outcome_of_contents (CheckContainer container) contents = text_reported container (container_verdict_of (content 0 contents))
 outcome_of_contents (MakePlan description) contents = text_reported description (plan_lines_of (content 0 contents))
 outcome_of_contents (CheckPlan description) contents = text_reported description (verdicts_of (content 0 contents))
-outcome_of_contents (TellGroups description) contents = text_reported description (groups_of (content 0 contents))
+outcome_of_contents (ListGroups description) contents = text_reported description (groups_of (content 0 contents))
 outcome_of_contents (Generate number) contents = outcome_of_print (generated_text number)
 outcome_of_contents (Run container options) contents = run_outcome container options (content 0 contents) (drop 1 contents)
 outcome_of_contents (Replay container part script further) contents = replay_outcome container part script further (content 0 contents) (content 1 contents) (input_bytes (replay_input further) (content 2 contents))
@@ -302,6 +302,6 @@ abbrev pub unless_long : Option (List ℕ) → Outcome → Outcome
 unless_long None outcome = outcome
 unless_long (Some file) outcome = command_refused file (codes "too-long")
 
--- what the contents of the files that a command reads come to
+-- the outcome of the contents of the files that a command reads
 unfoldable pub outcome_of : Command → List (List ℕ) → Outcome
 outcome_of command contents = unless_long (first_long (inputs_of command) contents) (outcome_of_contents command contents)

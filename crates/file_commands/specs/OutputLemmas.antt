@@ -1,27 +1,27 @@
 -- The calls of the store for files, and the file that a command writes before its report: it is the one that its words name.
 use Rattle.std.proofs.Common.{◌≡◌, ℕ, Bool, true, false, nat_lt, ◌==◌, ◌||◌, if◌then◌else◌, List, [], ◌∷◌, length, drop, Option, Some, None, Result, Ok, Err, refl, ap}
 use Rattle.xm_base.specs.declared.limits.TheConstants.{IMAGE_BYTES, TICKS}
-use Rattle.xm_words.specs.Words.{Command, PartFile, RunOption, Bare, Parse, Upgrade, BuildImage, ReadImage, Pack, ListContainer, CheckContainer, MakePlan, CheckPlan, TellGroups, Generate, Run, Replay, ReplayFiles, cores_in, replay_core, replay_input, scripts_in, span_in}
+use Rattle.command_line.specs.Words.{Command, PartFile, RunOption, Bare, Parse, Upgrade, BuildImage, ReadImage, Pack, ListContainer, CheckContainer, MakePlan, CheckPlan, ListGroups, Generate, Run, Replay, ReplayFiles, cores_in, replay_core, replay_input, scripts_in, span_in}
 use Rattle.xm_container.specs.Reading.{unpacked}
-use Rattle.file_texts.specs.declared.fault.BoxFault.{BoxFault}
+use Rattle.fault_messages.specs.declared.fault.BoxFault.{BoxFault}
 use Rattle.loaded_system.specs.Bare.{bare_system}
 use Rattle.loaded_system.specs.System.{System}
-use Rattle.whole_system.specs.State.{with_inputs}
+use Rattle.system_state.specs.State.{with_inputs}
 use Rattle.file_commands.specs.Ending.{length_text, ticks_text}
-use Rattle.file_maker.specs.Grouping.{groups_of}
-use Rattle.file_maker.specs.Imaging.{container_lines_of, container_verdict_of, image_lines_of, xef_of}
+use Rattle.builders.specs.Grouping.{groups_of}
+use Rattle.builders.specs.Imaging.{container_lines_of, container_verdict_of, image_lines_of, xef_of}
 use Rattle.file_commands.specs.Inputs.{no_inputs}
 use Rattle.file_commands.specs.Packing.{container_of}
-use Rattle.file_maker.specs.Parsing.{upgraded_of, xmc_of}
-use Rattle.file_maker.specs.Planning.{plan_lines_of, verdicts_of}
-use Rattle.file_maker.specs.Ready.{Replay as Readied, Unready, replay_of}
+use Rattle.builders.specs.Parsing.{upgraded_of, xmc_of}
+use Rattle.builders.specs.Planning.{plan_lines_of, verdicts_of}
+use Rattle.builders.specs.Ready.{Replay as Readied, Unready, replay_of}
 use Rattle.file_commands.specs.Denial.{Denial}
 use Rattle.file_commands.specs.Outcome.{Output, bare_outcome, content, first_long, input_bytes, file_made, packed_to, played, outcome_of_run, ran_for, ran_scripted, ran_with, ran_within, command_refused, replay_outcome_by, replay_outcome, run_by, run_outcome, text_reported, inputs_of, outcome_of, output_of, scripts_for, ticks_asked, unless_long, outcome_of_contents}
 use Rattle.file_commands.specs.Work.{counted_by, Outside, after_store_call, called_for}
 
 -- Calls.
 
--- the outside after so many calls of the store
+-- the outside after this many calls of the store
 abbrev pub with_calls : ℕ → Outside → Outside
 with_calls calls before = record before { calls = calls }
 
@@ -42,10 +42,10 @@ packed-output : (file : List ℕ) (packed : Result (List ℕ) Denial) (output : 
 packed-output file (Ok bytes) output e = (let same : record { file = file; bytes = bytes } ≡ output = cc in ap (λ (o : Output). Some o.file) same)
 packed-output file (Err refusal) output e = absurd (cc)
 
--- what is told writes no file
-told-output : (file : List ℕ) (text : Result (List ℕ) (List ℕ)) (output : Output) → (text_reported file text).output ≡ Some output → ⊥
-told-output file (Ok text) output e = cc
-told-output file (Err text) output e = cc
+-- what is printed writes no file
+reported-output : (file : List ℕ) (text : Result (List ℕ) (List ℕ)) (output : Output) → (text_reported file text).output ≡ Some output → ⊥
+reported-output file (Ok text) output e = cc
+reported-output file (Err text) output e = cc
 
 -- a run of a system writes no file
 ran-output : (ticks : ℕ) (cores : List PartFile) (scripts : List Output) (system : System) (inputs : List (List ℕ)) (output : Output) → (outcome_of_run ticks cores scripts system inputs).output ≡ Some output → ⊥
@@ -97,9 +97,9 @@ played-output : (core : Option (List ℕ)) (replay : Readied) (output : Output) 
 unfolding played
 played-output core replay output e = cc
 
-replay-output : (container : List ℕ) (part : ℕ) (script : List ℕ) (further : ReplayFiles) (bytes told input : List ℕ) (output : Output) → (replay_outcome container part script further bytes told input).output ≡ Some output → ⊥
+replay-output : (container : List ℕ) (part : ℕ) (script : List ℕ) (further : ReplayFiles) (bytes received input : List ℕ) (output : Output) → (replay_outcome container part script further bytes received input).output ≡ Some output → ⊥
 unfolding replay_outcome
-replay-output container part script further bytes told input output e = at (replay_of bytes part told input) e
+replay-output container part script further bytes received input output e = at (replay_of bytes part received input) e
   where
     at : (made_of : Result Readied Unready) → (replay_outcome_by container part script further made_of).output ≡ Some output → ⊥
     at (Ok replay) e = played-output (replay_core further) replay output e
@@ -116,13 +116,13 @@ output-named command contents output is = at command (first_long (inputs_of comm
     at (Parse description out) None e = made-output description out (xmc_of (content 0 contents)) output e
     at (Upgrade configuration out) None e = made-output configuration out (upgraded_of (content 0 contents)) output e
     at (BuildImage program out) None e = made-output program out (xef_of (content 0 contents)) output e
-    at (ReadImage image) None e = absurd (told-output image (image_lines_of (content 0 contents)) output e)
+    at (ReadImage image) None e = absurd (reported-output image (image_lines_of (content 0 contents)) output e)
     at (Pack configuration out images) None e = packed-output out (container_of configuration (content 0 contents) images (drop 1 contents)) output e
-    at (ListContainer container) None e = absurd (told-output container (container_lines_of (content 0 contents)) output e)
-    at (CheckContainer container) None e = absurd (told-output container (container_verdict_of (content 0 contents)) output e)
-    at (MakePlan description) None e = absurd (told-output description (plan_lines_of (content 0 contents)) output e)
-    at (CheckPlan description) None e = absurd (told-output description (verdicts_of (content 0 contents)) output e)
-    at (TellGroups description) None e = absurd (told-output description (groups_of (content 0 contents)) output e)
+    at (ListContainer container) None e = absurd (reported-output container (container_lines_of (content 0 contents)) output e)
+    at (CheckContainer container) None e = absurd (reported-output container (container_verdict_of (content 0 contents)) output e)
+    at (MakePlan description) None e = absurd (reported-output description (plan_lines_of (content 0 contents)) output e)
+    at (CheckPlan description) None e = absurd (reported-output description (verdicts_of (content 0 contents)) output e)
+    at (ListGroups description) None e = absurd (reported-output description (groups_of (content 0 contents)) output e)
     at (Generate number) None e = absurd (cc)
     at (Run container options) None e = absurd (run-output container options (content 0 contents) (drop 1 contents) output e)
     at (Replay container part script further) None e = absurd (replay-output container part script further (content 0 contents) (content 1 contents) (input_bytes (replay_input further) (content 2 contents)) output e)

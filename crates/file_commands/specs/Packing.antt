@@ -1,18 +1,18 @@
--- What a configuration and the images of its partitions come to, by the bytes of their files.
+-- The outcome of a configuration and the images of its partitions, by the bytes of their files.
 use Rattle.std.specs.Prelude.{ℕ, List, [], ◌∷◌, map, codes, Option, Some, None, Result, Ok, Err}
 use Rattle.xm_conf.specs.Configuration.{Conf}
 use Rattle.bin_config.specs.Reading.{read_of}
-use Rattle.file_texts.specs.Texts.{xmc_fault_text}
-use Rattle.file_texts.specs.declared.fault.XmcFault.{XmcFault}
+use Rattle.fault_messages.specs.Texts.{xmc_fault_text}
+use Rattle.fault_messages.specs.declared.fault.XmcFault.{XmcFault}
 use Rattle.xef_images.specs.Image.{Image}
 use Rattle.xef_images.specs.Reading.{xef}
-use Rattle.file_texts.specs.Texts.{xef_fault_text}
-use Rattle.file_texts.specs.declared.fault.XefFault.{XefFault}
+use Rattle.fault_messages.specs.Texts.{xef_fault_text}
+use Rattle.fault_messages.specs.declared.fault.XefFault.{XefFault}
 use Rattle.xm_container.specs.Pack.{packed}
-use Rattle.file_texts.specs.Texts.{pack_fault_text}
-use Rattle.file_texts.specs.declared.fault.PackFault.{PackFault}
+use Rattle.fault_messages.specs.Texts.{pack_fault_text}
+use Rattle.fault_messages.specs.declared.fault.PackFault.{PackFault}
 use Rattle.xm_container.specs.declared.image.Image.{Image as Given}
-use Rattle.xm_words.specs.Words.{PartFile}
+use Rattle.command_line.specs.Words.{PartFile}
 use Rattle.file_commands.specs.Denial.{Denial}
 
 -- the names of files for partitions

@@ -1,6 +1,6 @@
 -- Files that are read one after another.
 use Rattle.std.specs.Prelude.{◌≡◌, ℕ, List, ◌++◌, Result, Ok, Err}
-use Rattle.file_commands.specs.Told.{ending_of}
+use Rattle.file_commands.specs.EndingValues.{ending_of}
 use Rattle.file_commands.specs.Work.{Outside, AreNotRead, ReadsFiles, called_for}
 use Rattle.file_commands.specs.declared.ending.Ending as code
 

@@ -3,8 +3,8 @@
 ghost use Rattle.std.specs.Prelude.{◌≡◌, ◌≤◌, [], ◌++◌, codes, decimal, length};
 ghost use Rattle.xm_outside.specs.Causes.{HasCause};
 ghost use Rattle.xm_outside.specs.Growth.{Writes};
-ghost use Rattle.file_commands.specs.Ending.{Finished, behind_file, complaint};
-ghost use Rattle.file_commands.specs.Told.{ending_of, refusal_text};
+ghost use Rattle.file_commands.specs.Ending.{Done, after_file, complaint};
+ghost use Rattle.file_commands.specs.EndingValues.{ending_of, refusal_text};
 
 use crate::ending::{Ending, Refusal};
 use xm_outside::{Failed, Sink, write_all};
@@ -15,24 +15,24 @@ use xm_report::Pen;
 pub fn complain<E: Sink>(err: &mut E, ending: &Ending<'_>) -> Result<(), Failed>
     ensures line { Writes result (E.got err.old) (complaint (ending_of ending.now)) (E.got err.new) }
     ensures cause { HasCause result (E.faults err.old) (E.faults err.new) }
-    ensures silent { ending_of ending.now ≡ Finished → err.new ≡ err.old }
+    ensures silent { ending_of ending.now ≡ Done → err.new ≡ err.old }
 {
     match ending {
-        Ending::Finished => Ok(()),
-        Ending::Misused => write_all(err, b"xm_run: usage\n"),
-        Ending::Unread { file } => name_file(err, file, b": cannot read\n"),
-        Ending::Denied { file, why } => deny(err, file, why),
-        Ending::Unwritten => write_all(err, b"xm_run: report: cannot write\n"),
-        Ending::Unsaved { file } => name_file(err, file, b": cannot write\n"),
-        Ending::Unheard { place } => name_uart(err, *place),
-        Ending::Starved => write_all(err, b"xm_run: no memory\n"),
+        Ending::Done => Ok(()),
+        Ending::Usage => write_all(err, b"xm_run: usage\n"),
+        Ending::ReadFault { file } => name_file(err, file, b": cannot read\n"),
+        Ending::Refused { file, why } => deny(err, file, why),
+        Ending::WriteFaultReport => write_all(err, b"xm_run: report: cannot write\n"),
+        Ending::WriteFaultFile { file } => name_file(err, file, b": cannot write\n"),
+        Ending::UartFault { place } => name_uart(err, *place),
+        Ending::NoMemory => write_all(err, b"xm_run: no memory\n"),
     }
 }
 
 // Writes the line of a file that is refused.
 #[tactic(auto, unfolding(crate::specs::Ending::length_text, crate::specs::Ending::ticks_text, crate::specs::Ending::partition_text, crate::specs::Ending::input_text))]
 fn deny<E: Sink>(err: &mut E, file: &str, why: &Refusal) -> Result<(), Failed>
-    ensures line { Writes result (E.got err.old) (codes "xm_run: " ++ file.now ++ behind_file (refusal_text why.now)) (E.got err.new) }
+    ensures line { Writes result (E.got err.old) (codes "xm_run: " ++ file.now ++ after_file (refusal_text why.now)) (E.got err.new) }
     ensures cause { HasCause result (E.faults err.old) (E.faults err.new) }
 {
     match why {
@@ -41,31 +41,36 @@ fn deny<E: Sink>(err: &mut E, file: &str, why: &Refusal) -> Result<(), Failed>
         Refusal::Ticks { asked } => name_number(err, file, b": ticks asked=", *asked),
         Refusal::Partition { id } => name_number(err, file, b": partition id=", u64::from(*id)),
         Refusal::Input { found } => { name_number(err, file, b": input length=", *found as u64) }
-        Refusal::Told { text } => tell(err, file, text),
+        Refusal::Fault { text } => name_text(err, file, text),
     }
 }
 
 // Writes the line of a file of which a text says why it is refused.
-fn tell<E: Sink>(err: &mut E, file: &str, text: &str) -> Result<(), Failed>
-    ensures line { Writes result (E.got err.old) (codes "xm_run: " ++ file.now ++ behind_file text.now) (E.got err.new) }
+fn name_text<E: Sink>(err: &mut E, file: &str, text: &str) -> Result<(), Failed>
+    ensures line { Writes result (E.got err.old) (codes "xm_run: " ++ file.now ++ after_file text.now) (E.got err.new) }
     ensures cause { HasCause result (E.faults err.old) (E.faults err.new) }
 {
-    tell_line(err, b"xm_run: ", file.as_bytes(), text.as_bytes())
+    name_text_line(err, b"xm_run: ", file.as_bytes(), text.as_bytes())
 }
 
 // Writes the program's name, the file's and the text.
 #[tactic(auto, using(xm_outside::specs::Growth::writes_then))]
-fn tell_line<E: Sink>(err: &mut E, program: &[u8], file: &[u8], text: &[u8]) -> Result<(), Failed>
-    ensures line { Writes result (E.got err.old) (program.now ++ file.now ++ behind_file text.now) (E.got err.new) }
+fn name_text_line<E: Sink>(
+    err: &mut E,
+    program: &[u8],
+    file: &[u8],
+    text: &[u8],
+) -> Result<(), Failed>
+    ensures line { Writes result (E.got err.old) (program.now ++ file.now ++ after_file text.now) (E.got err.new) }
     ensures cause { HasCause result (E.faults err.old) (E.faults err.new) }
 {
     write_two(err, program, file)?;
-    tell_behind(err, text)
+    text_after_file(err, text)
 }
 
 // Writes what stands after the file's name.
-fn tell_behind<E: Sink>(err: &mut E, text: &[u8]) -> Result<(), Failed>
-    ensures line { Writes result (E.got err.old) (behind_file text.now) (E.got err.new) }
+fn text_after_file<E: Sink>(err: &mut E, text: &[u8]) -> Result<(), Failed>
+    ensures line { Writes result (E.got err.old) (after_file text.now) (E.got err.new) }
     ensures cause { HasCause result (E.faults err.old) (E.faults err.new) }
 {
     write_three(err, b": ", text, b"\n")

@@ -1,20 +1,20 @@
-//! What was made is written or told.
+//! What was made is written or printed.
 
 ghost use Rattle.std.specs.Prelude.{ℕ, List, length, Ok, Result};
 ghost use Rattle.xm_outside.specs.Causes.{HasCause};
 ghost use Rattle.xm_outside.specs.Growth.{Writes};
 ghost use Rattle.file_commands.specs.Denial.{Denial};
-ghost use Rattle.file_maker.specs.Makes.{Makes};
+ghost use Rattle.builders.specs.Makes.{Makes};
 ghost use Rattle.file_commands.specs.Makes.{IsUnmadeOf};
 ghost use Rattle.file_commands.specs.Outcome.{file_made, made_text, packed_to, outcome_of_print, text_reported};
-ghost use Rattle.file_commands.specs.Told.{MakesOr, vector_bytes, ending_of};
+ghost use Rattle.file_commands.specs.EndingValues.{MakesOr, vector_bytes, ending_of};
 ghost use Rattle.file_commands.specs.Work.{Comes, Reports, outside};
 
 use crate::ending::{Ending, Refusal};
-use file_maker::{Unmade, ok_line};
+use builders::{Unmade, ok_line};
 use xm_outside::{Failed, Sink, Store, write_all};
 
-/// Writes a file that was made out of another, and tells its length; or tells why it was not made.
+/// Writes a file that was made out of another, and prints its length; or says why it was not made.
 pub(crate) fn deliver<'a, S: Store, O: Sink>(
     input: &'a str,
     output: &'a str,
@@ -32,8 +32,8 @@ pub(crate) fn deliver<'a, S: Store, O: Sink>(
     }
 }
 
-/// Writes a container, and tells its length; or ends as it was refused.
-pub(crate) fn put<'a, S: Store, O: Sink>(
+/// Writes a container, and prints its length; or ends as it was refused.
+pub(crate) fn write_container<'a, S: Store, O: Sink>(
     output: &'a str,
     container: Result<Vec<u8>, Ending<'a>>,
     files: &mut S,
@@ -54,15 +54,15 @@ pub fn unmade<'a>(input: &'a str, why: Unmade) -> Ending<'a>
     ensures { IsUnmadeOf (ending_of result) input.now why }
 {
     match why {
-        Unmade::Refused { text } => Ending::Denied {
+        Unmade::Refused { text } => Ending::Refused {
             file: input,
-            why: Refusal::Told { text },
+            why: Refusal::Fault { text },
         },
-        Unmade::Memory => Ending::Starved,
+        Unmade::Memory => Ending::NoMemory,
     }
 }
 
-// Writes a file that was made, and tells its length.
+// Writes a file that was made, and prints its length.
 fn save<'a, S: Store, O: Sink>(
     output: &'a str,
     bytes: &[u8],
@@ -74,16 +74,16 @@ fn save<'a, S: Store, O: Sink>(
         (outside (S.files files.new) (S.read_faults files.new) (S.write_faults files.new) (S.calls files.new) (O.got out.new) (O.faults out.new)) }
 {
     match files.write(output, bytes) {
-        Ok(()) => match tell_length(bytes, out) {
-            Ok(()) => Ending::Finished,
-            Err(Failed) => Ending::Unwritten,
+        Ok(()) => match print_length(bytes, out) {
+            Ok(()) => Ending::Done,
+            Err(Failed) => Ending::WriteFaultReport,
         },
-        Err(Failed) => Ending::Unsaved { file: output },
+        Err(Failed) => Ending::WriteFaultFile { file: output },
     }
 }
 
-/// Writes the text that tells a file to the report; or tells why there is none.
-pub(crate) fn tell_made<'a, O: Sink>(
+/// Writes what is printed of a file to the report; or says why there is nothing.
+pub(crate) fn print_made<'a, O: Sink>(
     file: &'a str,
     text: Result<Vec<u8>, Unmade>,
     out: &mut O,
@@ -101,13 +101,13 @@ pub fn report<'a, O: Sink>(text: &[u8], out: &mut O) -> Ending<'a>
     ensures { Reports (ending_of result) (outcome_of_print text.now) (O.got out.old) (O.faults out.old) (O.got out.new) (O.faults out.new) }
 {
     match write_all(out, text) {
-        Ok(()) => Ending::Finished,
-        Err(Failed) => Ending::Unwritten,
+        Ok(()) => Ending::Done,
+        Err(Failed) => Ending::WriteFaultReport,
     }
 }
 
-// Tells how many bytes were made.
-fn tell_length<O: Sink>(bytes: &[u8], out: &mut O) -> Result<(), Failed>
+// Prints how many bytes were made.
+fn print_length<O: Sink>(bytes: &[u8], out: &mut O) -> Result<(), Failed>
     ensures text { Writes result (O.got out.old) (made_text (length bytes.now)) (O.got out.new) }
     ensures cause { HasCause result (O.faults out.old) (O.faults out.new) }
 {

@@ -2,7 +2,7 @@
 
 ghost use Rattle.std.specs.Prelude.{◌≡◌};
 ghost use Rattle.file_commands.specs.Ending.{status_of};
-ghost use Rattle.file_commands.specs.Told.{ending_of};
+ghost use Rattle.file_commands.specs.EndingValues.{ending_of};
 
 use crate::status::Status;
 use xm_base::PartId;
@@ -14,35 +14,35 @@ pub enum Refusal {
     TooLong,
     /// An image has no bytes, or too many.
     Length { found: usize },
-    /// A run would have so many ticks, too many.
+    /// A run would have this many ticks, too many.
     Ticks { asked: u64 },
     /// An input is for a partition that the system does not have.
     Partition { id: PartId },
     /// An input's length is no multiple of 4.
     Input { found: usize },
     /// What it should be it is not, as this text says.
-    Told { text: String },
+    Fault { text: String },
 }
 
 /// How a call ends.
 #[derive(Debug, Drop)]
 pub enum Ending<'a> {
     /// The command was carried out.
-    Finished,
+    Done,
     /// The words spell no command.
-    Misused,
+    Usage,
     /// The file was not read.
-    Unread { file: &'a str },
+    ReadFault { file: &'a str },
     /// The file is refused.
-    Denied { file: &'a str, why: Refusal },
+    Refused { file: &'a str, why: Refusal },
     /// The report was not written whole.
-    Unwritten,
+    WriteFaultReport,
     /// The file was not written.
-    Unsaved { file: &'a str },
+    WriteFaultFile { file: &'a str },
     /// The command was carried out, but the UART at this place did not take what was said to it. It is the lowest such place.
-    Unheard { place: u8 },
-    /// There was no memory.
-    Starved,
+    UartFault { place: u8 },
+    /// Memory ran out.
+    NoMemory,
 }
 
 /// The status of a call that ends so.
@@ -50,12 +50,12 @@ pub fn status_of(ending: &Ending<'_>) -> Status
     ensures { result ≡ status_of (ending_of ending.now) }
 {
     match ending {
-        Ending::Finished => Status::Done,
-        Ending::Misused => Status::Usage,
-        Ending::Unread { .. } => Status::ReadFault,
-        Ending::Denied { .. } => Status::Refused,
-        Ending::Unwritten | Ending::Unsaved { .. } => Status::WriteFault,
-        Ending::Unheard { .. } => Status::UartFault,
-        Ending::Starved => Status::NoMemory,
+        Ending::Done => Status::Done,
+        Ending::Usage => Status::Usage,
+        Ending::ReadFault { .. } => Status::ReadFault,
+        Ending::Refused { .. } => Status::Refused,
+        Ending::WriteFaultReport | Ending::WriteFaultFile { .. } => Status::WriteFault,
+        Ending::UartFault { .. } => Status::UartFault,
+        Ending::NoMemory => Status::NoMemory,
     }
 }

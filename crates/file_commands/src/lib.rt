@@ -1,4 +1,4 @@
-//! The commands that make or tell files, and what all commands share: how files are read, how a call ends, and its line and status.
+//! The commands that make or print files, and what all commands share: how files are read, how a call ends, and its line and status.
 #![tactic(auto)]
 
 mod complaint;
@@ -7,9 +7,9 @@ mod ending;
 mod imaging;
 mod packing;
 mod parsing;
+mod printing;
 mod reading;
 mod status;
-mod telling;
 mod upgrading;
 
 pub use complaint::complain;
@@ -18,9 +18,9 @@ pub use ending::{Ending, Refusal, status_of};
 pub use imaging::build_image;
 pub use packing::pack_files;
 pub use parsing::parse;
+pub use printing::print_file;
 pub use reading::{
     first_long, first_long_of_three, read_file, read_files, read_three, split_contents,
 };
 pub use status::Status;
-pub use telling::tell;
 pub use upgrading::upgrade;

@@ -3,26 +3,26 @@
 ghost use Rattle.std.specs.Prelude.{◌≡◌, ◌∷◌, drop, map};
 ghost use Rattle.xef_images.specs.Reading.{xef};
 ghost use Rattle.xm_container.specs.Pack.{packed};
-ghost use Rattle.file_texts.specs.Texts.{pack_fault_text};
-ghost use Rattle.file_maker.specs.Makes.{IsRefusalText};
+ghost use Rattle.fault_messages.specs.Texts.{pack_fault_text};
+ghost use Rattle.builders.specs.Makes.{IsRefusalText};
 ghost use Rattle.file_commands.specs.Outcome.{content, first_long};
 ghost use Rattle.file_commands.specs.Packing.{container_by, container_of, container_with, image_by, images_of, limited, file_names};
-ghost use Rattle.file_commands.specs.Told.{MakesOr, vector_bytes, ending_of};
+ghost use Rattle.file_commands.specs.EndingValues.{MakesOr, vector_bytes, ending_of};
 ghost use Rattle.file_commands.specs.Work.{IsDone, outside};
-ghost use Rattle.xm_words.specs.Seen.{seen_file, seen_files};
-ghost use Rattle.xm_words.specs.Words.{Pack};
+ghost use Rattle.command_line.specs.Seen.{seen_file, seen_files};
+ghost use Rattle.command_line.specs.Words.{Pack};
 
-use crate::delivery::{put, unmade};
+use crate::delivery::{unmade, write_container};
 use crate::ending::{Ending, Refusal};
 use crate::reading::{first_long, read_files, split_contents};
 use bin_config::read_xmc;
-use file_maker::{Unmade, no_configuration, no_image};
+use builders::{Unmade, no_configuration, no_image};
+use command_line::{PartFile, PartFiles};
 use std::alloc::Global;
 use xef_images::{Xef, read_xef};
 use xm_conf::Conf;
 use xm_container::{Image, PackFault, pack};
 use xm_outside::{Sink, Store};
-use xm_words::{PartFile, PartFiles};
 
 /// Reads a configuration and the images of its partitions, and writes their container.
 pub fn pack_files<'a, S: Store, O: Sink>(
@@ -40,7 +40,7 @@ pub fn pack_files<'a, S: Store, O: Sink>(
     match read_files(alloc, configuration, images, files) {
         Ok(contents) => {
             let container = container(alloc, configuration, images, &contents);
-            put(output, container, files, out)
+            write_container(output, container, files, out)
         }
         Err(ending) => ending,
     }
@@ -58,7 +58,7 @@ fn container<'a>(
         (container_of configuration.now (content 0 (map vector_bytes contents.now)) (seen_files images.entry) (drop 1 (map vector_bytes contents.now)))) }
 {
     match first_long(configuration, images, contents) {
-        Some(file) => Err(Ending::Denied {
+        Some(file) => Err(Ending::Refused {
             file,
             why: Refusal::TooLong,
         }),
@@ -140,7 +140,7 @@ fn read_images<'a>(
             xef,
         };
         if read.push(image).is_err() {
-            return Err(Ending::Starved);
+            return Err(Ending::NoMemory);
         }
         rest = others;
     }

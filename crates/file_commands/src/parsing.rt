@@ -2,14 +2,14 @@
 
 ghost use Rattle.std.specs.Prelude.{[], ◌∷◌, Err, Ok};
 ghost use Rattle.file_commands.specs.Outcome.{outcome_of};
-ghost use Rattle.file_commands.specs.Told.{ending_of};
+ghost use Rattle.file_commands.specs.EndingValues.{ending_of};
 ghost use Rattle.file_commands.specs.Work.{Comes, IsDone, outside};
-ghost use Rattle.xm_words.specs.Words.{Parse};
+ghost use Rattle.command_line.specs.Words.{Parse};
 
 use crate::delivery::deliver;
 use crate::ending::{Ending, Refusal};
 use crate::reading::read_file;
-use file_maker::make_xmc;
+use builders::make_xmc;
 use std::alloc::Global;
 use xm_base::FILE_BYTES;
 use xm_outside::{Sink, Store};
@@ -46,7 +46,7 @@ fn parse_text<'a, S: Store, O: Sink>(
         (outside (S.files files.new) (S.read_faults files.new) (S.write_faults files.new) (S.calls files.new) (O.got out.new) (O.faults out.new)) }
 {
     if text.len() > FILE_BYTES {
-        return Ending::Denied {
+        return Ending::Refused {
             file: description,
             why: Refusal::TooLong,
         };

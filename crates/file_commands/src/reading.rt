@@ -3,16 +3,16 @@
 ghost use Rattle.std.specs.Prelude.{◌≡◌, ◌∷◌, [], ℕ, List, None, Option, drop, map, option_copied};
 ghost use Rattle.file_commands.specs.Outcome.{content, first_long, name_if_any};
 ghost use Rattle.file_commands.specs.Packing.{file_names};
-ghost use Rattle.file_commands.specs.Told.{AreFilesRead, IsFileRead, vector_bytes};
+ghost use Rattle.file_commands.specs.EndingValues.{AreFilesRead, IsFileRead, vector_bytes};
 ghost use Rattle.file_commands.specs.Read.{HasRead, HasReadNext};
 ghost use Rattle.file_commands.specs.Work.{Outside, outside};
-ghost use Rattle.xm_words.specs.Seen.{seen_files};
+ghost use Rattle.command_line.specs.Seen.{seen_files};
 
 use crate::ending::Ending;
+use command_line::PartFiles;
 use std::alloc::Global;
 use xm_base::FILE_BYTES;
 use xm_outside::{Store, StoreFault};
-use xm_words::PartFiles;
 
 /// The bytes of a file, or its first ones where it is too long; or how the call ends without them.
 pub fn read_file<'a, S: Store>(
@@ -26,9 +26,9 @@ pub fn read_file<'a, S: Store>(
 {
     match files.read(alloc, file, FILE_BYTES) {
         Ok(bytes) => Ok(bytes),
-        Err(StoreFault::Memory) => Err(Ending::Starved),
-        Err(StoreFault::Failed) => Err(Ending::Unread { file }),
-        Err(StoreFault::Absent) => Err(Ending::Unread { file }),
+        Err(StoreFault::Memory) => Err(Ending::NoMemory),
+        Err(StoreFault::Failed) => Err(Ending::ReadFault { file }),
+        Err(StoreFault::Absent) => Err(Ending::ReadFault { file }),
     }
 }
 
@@ -52,7 +52,7 @@ pub fn read_files<'a, S: Store>(
             Err(ending) => return Err(ending),
         };
         if contents.push(bytes).is_err() {
-            return Err(Ending::Starved);
+            return Err(Ending::NoMemory);
         }
         match rest.split_first() {
             Some((next, more)) => {
@@ -125,7 +125,7 @@ fn read_next<'a, S: Store>(
         Err(ending) => return Err(ending),
     };
     if contents.push(bytes).is_err() {
-        return Err(Ending::Starved);
+        return Err(Ending::NoMemory);
     }
     Ok(())
 }

@@ -1,4 +1,4 @@
-//! How a call ends, as the system is told it.
+//! How a call ends, as the exit status.
 
 ghost use Rattle.file_commands.specs.Status.{IsCodeOf};
 
@@ -17,7 +17,7 @@ pub enum Status {
     WriteFault,
     /// A UART of the board did not take what a partition wrote to it.
     UartFault,
-    /// There was no memory.
+    /// Memory ran out.
     NoMemory,
 }
 

@@ -5,7 +5,7 @@ use Rattle.xm_conf.specs.Configuration.{Conf}
 use Rattle.xm_ports.specs.Channels.{ChannelTable, HasQueue, Shape, shapes_of}
 use Rattle.machine_model.specs.Machine.{Machine}
 use Rattle.machine_model.specs.Structures.{flag}
-use Rattle.tick_pieces.specs.Machine.{IsCounted}
+use Rattle.tick_steps.specs.Machine.{IsCounted}
 use Rattle.generated_system.specs.Generated.{all_chans, chan_of, generated_conf, conf_with}
 use Rattle.generated_runs.specs.Short.{AreShort}
 

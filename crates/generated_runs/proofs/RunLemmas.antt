@@ -1,4 +1,4 @@
--- The machine of a generated system starts with the system's channels and keeps them, its run reaches its end, and two lines tell of it.
+-- The machine of a generated system starts with the system's channels and keeps them, its run reaches its end, and two lines report it.
 use Rattle.std.proofs.Common.{◌≡◌, ℕ, false, List, [], length, Result, Ok, Err, refl, sym, ap, ◌∙◌, arith}
 use Rattle.std.specs.Prelude.{replicate}
 use Rattle.bin_config.specs.declared.version.Version.TheVariants.{Two}
@@ -7,16 +7,16 @@ use Rattle.machine_model.specs.Facts.{BootsComplete, RunsKeepNumbers}
 use Rattle.machine_model.specs.Lines.{report}
 use Rattle.machine_model.specs.Machine.{Machine, run, start}
 use Rattle.machine_model.specs.View.{System}
-use Rattle.whole_system.specs.State.{with_inputs}
+use Rattle.system_state.specs.State.{with_inputs}
 use Rattle.xm_conf.specs.Configuration.{Conf}
 use Rattle.xm_container.specs.Box.{box_text}
 use Rattle.xm_container.specs.Reading.{unpacked}
-use Rattle.file_texts.specs.declared.fault.BoxFault.{BoxFault}
+use Rattle.fault_messages.specs.declared.fault.BoxFault.{BoxFault}
 use Rattle.xm_machine.specs.Outcome.{report_of}
 use Rattle.xm_outside.specs.Causes.{Rose}
 use Rattle.xm_report.specs.Report.{ReportLine}
 use Rattle.generated_system.specs.Generated.{all_chans, all_parts, generated_conf, conf_with, generated}
-use Rattle.generated_system.specs.Told.{generated_text, run_length, told_of, told_of_run, without_inputs}
+use Rattle.generated_system.specs.Reported.{generated_text, run_length, reported_of, reported_of_run, without_inputs}
 
 -- an output that takes all never fails
 pub never_rose : Rose 0 0 → ⊥
@@ -72,14 +72,14 @@ reports_same : (system : System) (ticks : ℕ) → report_of (start system) tick
 unfolding report_of report start
 reports_same system ticks = refl
 
--- what is reported of the machine that has run is told of the number
-pub told_so : (number container told : ℕ) (system : loaded_system.System) (inputs : List (List ℕ)) (g : Machine) → system ≡ generated number → inputs ≡ replicate 16 []
+-- what is reported of the machine that has run is the report of the number
+pub reported_so : (number container reported : ℕ) (system : loaded_system.System) (inputs : List (List ℕ)) (g : Machine) → system ≡ generated number → inputs ≡ replicate 16 []
     → container ≡ length (box_text Two (generated number)) → g ≡ run (start (with_inputs system inputs)) run_length
-    → told ≡ length (report_of (start (with_inputs system inputs)) run_length) → told_of number container told g ≡ generated_text number
-unfolding generated_text told_of_run
-told_so number container told system inputs g is words long ran counted =
+    → reported ≡ length (report_of (start (with_inputs system inputs)) run_length) → reported_of number container reported g ≡ generated_text number
+unfolding generated_text reported_of_run
+reported_so number container reported system inputs g is words long ran counted =
     let booted : with_inputs system inputs ≡ without_inputs (generated number) = ap (λ (s : loaded_system.System). with_inputs s inputs) is ∙ ap (with_inputs (generated number)) words in
     let state : g ≡ run (start (without_inputs (generated number))) run_length = ran ∙ ap (λ (b : System). run (start b) run_length) booted in
-    let lines : told ≡ length (report (without_inputs (generated number)) run_length) =
+    let lines : reported ≡ length (report (without_inputs (generated number)) run_length) =
     counted ∙ ap (λ (l : List ReportLine). length l) (reports_same (with_inputs system inputs) run_length) ∙ ap (λ (b : System). length (report b run_length)) booted in
     rw (long, lines, state) refl

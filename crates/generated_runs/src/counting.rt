@@ -1,12 +1,12 @@
 //! What is counted at the end of a run.
 
 ghost use Rattle.std.specs.Prelude.{◌≡◌, ◌<◌, ◌≤◌, ℕ, length};
-ghost use Rattle.generated_system.specs.Told.{exec_in, waiting_in};
+ghost use Rattle.generated_system.specs.Reported.{exec_in, waiting_in};
 ghost use Rattle.generated_runs.specs.Short.{AreShort};
-ghost use Rattle.slot_runs.specs.Passes.{part_at};
+ghost use Rattle.span_model.specs.Passes.{part_at};
 ghost use Rattle.xm_ports.specs.Channels.{HasQueue, content_at, messages_of};
 
-use whole_system::Sys;
+use system_state::Sys;
 use xm_base::PartId;
 use xm_machine::Machine;
 use xm_ports::Channels;
@@ -24,7 +24,7 @@ pub(crate) fn exec_in(machine: &Machine) -> u64
 }
 
 // The sum of the partitions' clocks.
-#[tactic(auto, unfolding(generated_system::specs::Told::exec_in))]
+#[tactic(auto, unfolding(generated_system::specs::Reported::exec_in))]
 fn exec_of(sys: &Sys) -> u64
     requires { AreShort sys.now.machine }
     ensures { result ≡ exec_in sys.now.machine }
@@ -45,7 +45,7 @@ fn exec_at(sys: &Sys, p: PartId) -> u64
 }
 
 /// How many messages wait in all channels, each of which is a queue.
-#[tactic(auto, unfolding(generated_system::specs::Told::waiting_in))]
+#[tactic(auto, unfolding(generated_system::specs::Reported::waiting_in))]
 pub(crate) fn waiting_in(channels: &Channels) -> u64
     requires queues { (c : ℕ) → c < 8 → HasQueue c channels.now }
     requires count { length channels.now.contents ≡ 8 }
@@ -64,7 +64,7 @@ fn waiting_at(channels: &Channels, chan: u8) -> u64
     ensures value { result ≡ length (messages_of (content_at chan channels.now)) }
     ensures few { result ≤ 64 }
 {
-    // The first message tells that no more wait than the channel may hold.
+    // The contract of the first message says that no more wait than the channel may hold.
     channels.first(chan);
     channels.count(chan) as u64
 }

@@ -1,4 +1,4 @@
-//! A system is generated out of a number and run, and two lines tell of its run.
+//! A system is generated from a number and run, and its run is reported in two lines.
 #![tactic(auto)]
 
 mod counting;

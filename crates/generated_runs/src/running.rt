@@ -2,7 +2,7 @@
 
 ghost use Rattle.std.specs.Prelude.{◌≡◌, false, IfOk, Ok, length};
 ghost use Rattle.bin_config.specs.declared.version.Version.TheVariants.{Two};
-ghost use Rattle.generated_system.specs.Told.{generated_text, run_length, told_of};
+ghost use Rattle.generated_system.specs.Reported.{generated_text, run_length, reported_of};
 ghost use Rattle.generated_system.specs.Generated.{generated_conf, generated};
 ghost use Rattle.xm_container.specs.Box.{box_text};
 ghost use Rattle.xm_container.specs.Reading.{unpacked};
@@ -25,7 +25,7 @@ const PARTS: u8 = 16;
 /// How many ticks its run has: 1000 frames.
 const RUN_TICKS: u64 = 16_000_000;
 
-/// Generates a system out of a number, packs it, unpacks the container, runs it, and tells of the run in two lines.
+/// Generates a system from a number, packs it, unpacks the container, runs it, and reports the run in two lines.
 pub fn run_lines(alloc: Global, number: u32) -> Result<Vec<u8>, Memory>
     ensures text { IfOk result (λ text. text.items ≡ generated_text number) }
 {
@@ -60,8 +60,8 @@ fn run_frames(machine: &mut Machine) -> Ran
     ran
 }
 
-// The two lines of a machine that has run and whose report has so many lines.
-#[tactic(auto, unfolding(generated_system::specs::Told::told_of))]
+// The two lines of a machine that has run and whose report has this many lines.
+#[tactic(auto, unfolding(generated_system::specs::Reported::reported_of))]
 fn lines_of(
     alloc: Global,
     number: u32,
@@ -71,7 +71,7 @@ fn lines_of(
 ) -> Result<Vec<u8>, Memory>
     requires conf { machine.now.state.system.conf ≡ generated_conf number }
     requires channels { length machine.now.state.channels ≡ 8 }
-    ensures { IfOk result (λ text. text.items ≡ told_of number (length container.now) lines machine.now.state) }
+    ensures { IfOk result (λ text. text.items ≡ reported_of number (length container.now) lines machine.now.state) }
 {
     let ticks = machine.done();
     let exec = exec_in(machine);

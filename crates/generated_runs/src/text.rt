@@ -1,7 +1,7 @@
-//! The two lines that tell of a run.
+//! The two lines that report a run.
 
 ghost use Rattle.std.specs.Prelude.{◌≡◌, ◌++◌, IfOk};
-ghost use Rattle.generated_system.specs.Told.{came_line, made_line};
+ghost use Rattle.generated_system.specs.Reported.{came_line, made_line};
 
 use std::alloc::Global;
 use xm_base::Memory;
@@ -28,7 +28,7 @@ pub(crate) fn two_lines(
 }
 
 // The line of what was made and run.
-#[tactic(auto, unfolding(generated_system::specs::Told::made_line))]
+#[tactic(auto, unfolding(generated_system::specs::Reported::made_line))]
 fn made_line(number: u32, container: usize, ticks: u64) -> Pen
     ensures { result ≡ made_line number container ticks }
 {
@@ -41,7 +41,7 @@ fn made_line(number: u32, container: usize, ticks: u64) -> Pen
 }
 
 // The line of what came of it.
-#[tactic(auto, unfolding(generated_system::specs::Told::came_line))]
+#[tactic(auto, unfolding(generated_system::specs::Reported::came_line))]
 fn came_line(exec: u64, lines: u64, waiting: u64) -> Pen
     ensures { result ≡ came_line exec lines waiting }
 {

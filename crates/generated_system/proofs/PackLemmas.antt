@@ -9,8 +9,8 @@ use Rattle.loaded_system.specs.Inside.{first_outside, has_segment, is_inside}
 use Rattle.xm_container.specs.Box.{box_length, box_text, fields_text, sealed_text}
 use Rattle.xm_container.specs.Numbers.{extra, has_id, missing}
 use Rattle.xm_container.specs.Pack.{Packs, partition_numbers, in_order, packed, sealed, system_of}
-use Rattle.file_texts.specs.declared.fault.PackFault.{PackFault}
-use Rattle.file_texts.specs.declared.fault.PackFault.TheVariants as variant
+use Rattle.fault_messages.specs.declared.fault.PackFault.{PackFault}
+use Rattle.fault_messages.specs.declared.fault.PackFault.TheVariants as variant
 use Rattle.xm_container.specs.declared.image.Image.{Image}
 use Rattle.generated_system.specs.Generated.{all_images, all_parts, area_start, image_bytes, generated_conf, conf_with, first_word, generated, generated_image, generated_part, program_of, receiving_code, sending_code}
 use Rattle.generated_system.specs.Given.{all_given, generated_given}
@@ -68,7 +68,7 @@ packed_is number conf images conf_is images_are = ap (λ c. packed c images) con
 pub system_so : (number : ℕ) (conf : Conf) (images : List Image) → conf ≡ generated_conf number → images ≡ all_given → system_of conf images ≡ generated number
 system_so number conf images conf_is images_are = ap (λ c. system_of c images) conf_is ∙ ap (system_of (generated_conf number)) images_are ∙ system_is number
 
--- where packing comes to a container, only memory can be out
+-- where packing gives a container, only memory can run out
 pub only_memory : {A : Type 0} (result : Result (Vec ℕ A) PackFault) (fault : PackFault) (expected : Result (List ℕ) PackFault) (text : List ℕ) → result ≡ Err fault → Packs result expected → expected ≡ Ok text
     → fault ≡ variant.Memory
 only_memory {A} result fault expected text is packs comes =

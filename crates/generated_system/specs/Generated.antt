@@ -12,7 +12,7 @@ use Rattle.xef_images.specs.Image.{Image}
 use Rattle.loaded_system.specs.Bare.{default_table}
 use Rattle.loaded_system.specs.System.{System}
 
--- so many things, each by its number
+-- this many things, each by its number
 abbrev pub numbered : {X : Type 0} → (ℕ → X) → ℕ → List X
 numbered f count = map f (range_with_len 0 count)
 

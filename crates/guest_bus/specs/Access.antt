@@ -14,7 +14,7 @@ width_of Two = w16
 width_of Four = w32
 width_of Eight = w64
 
--- what refuses an access of so many bytes: first its alignment, then a byte that is not allowed
+-- what refuses an access of this many bytes: first its alignment, then a byte that is not allowed
 abbrev pub access_fault : (ℕ → Bool) → ℕ → ℕ → Option BusFault
 access_fault allowed address count =
     if address % count == 0 then (if all_from allowed address count then None else Some Outside) else Some Unaligned

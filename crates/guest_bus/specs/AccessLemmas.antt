@@ -9,7 +9,7 @@ use Rattle.guest_bus.specs.Words.{bytes_of}
 use Rattle.guest_bus.specs.declared.bus.BusFault.{BusFault}
 use Rattle.guest_bus.specs.declared.bus.Size.{Size}
 
--- so many bytes of a number
+-- this many bytes of a number
 pub length-bytes_high_first : (count value : ℕ) → length (bytes_high_first count value) ≡ count
 length-bytes_high_first zero value = refl
 length-bytes_high_first (suc count) value = ap suc (length-bytes_high_first count value)

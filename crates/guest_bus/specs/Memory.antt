@@ -15,7 +15,7 @@ pub record Area : Type 0 where
 abbrev pub Memory : Type 0
 Memory = FinMap nat_cmp ℕ
 
--- how a memory is told from another
+-- how a memory is distinguished from another
 abbrev pub memory_code : Coded Memory
 memory_code = code coded_ℕ coded_ℕ
 
@@ -41,7 +41,7 @@ is_readable areas address = list_any (holds_address address) areas
 abbrev pub is_writable : List Area → ℕ → Bool
 is_writable areas address = list_any (λ area. holds_address address area && not area.read_only) areas
 
--- each of so many addresses from one on passes
+-- each of this many addresses from one on passes
 abbrev pub all_from : (ℕ → Bool) → ℕ → ℕ → Bool
 all_from allowed address zero = true
 all_from allowed address (suc count) = allowed address && all_from allowed (suc address) count
@@ -50,7 +50,7 @@ all_from allowed address (suc count) = allowed address && all_from allowed (suc 
 abbrev pub byte_at : Memory → ℕ → ℕ
 byte_at memory address = unwrap_or (get memory address) 0
 
--- so many bytes from an address on
+-- this many bytes from an address on
 abbrev pub bytes_at : Memory → ℕ → ℕ → List ℕ
 bytes_at memory address zero = []
 bytes_at memory address (suc count) = byte_at memory address ∷ bytes_at memory (suc address) count

@@ -135,7 +135,7 @@ with_bytes-sets a (b ∷ new) bs i q e h =
     let fits : suc i + length new ≤ length (set bs i b) = simp length-set (omega arith) in
     rw (insert-memory_of a bs i q b e (omega arith)) (with_bytes-sets a new (set bs i b) (suc i) (suc q) (omega arith) fits)
 
--- that is to put them in place of a part of the list
+-- that is to put them instead of a part of the list
 pub with_bytes-memory_of : (a : ℕ) (new bs : List ℕ) (i q : ℕ) → q ≡ a + i → i + length new ≤ length bs → with_bytes (memory_of_bytes a bs) q new ≡ memory_of_bytes a (take i bs ++ new ++ drop (i + length new) bs)
 with_bytes-memory_of a new bs i q e h = with_bytes-sets a new bs i q e h ∙ ap (memory_of_bytes a) (sets-eq new bs i h)
 

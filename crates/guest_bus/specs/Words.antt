@@ -19,12 +19,12 @@ unfoldable pub bytes_of : List ℕ → List ℕ
 bytes_of [] = []
 bytes_of (word ∷ words) = to_be_bytes w32 word ++ bytes_of words
 
--- so many words from an address on
+-- this many words from an address on
 unfoldable pub words_at : Memory → ℕ → ℕ → List ℕ
 words_at memory address zero = []
 words_at memory address (suc count) = from_be_bytes w32 (bytes_at memory address 4) ∷ words_at memory (address + 4) count
 
--- each of so many bytes from an address on is allowed
+-- each of this many bytes from an address on is allowed
 unfoldable pub allows : (ℕ → Bool) → ℕ → ℕ → Bool
 allows allowed address count = all_from allowed address count
 

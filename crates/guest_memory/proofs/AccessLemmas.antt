@@ -47,7 +47,7 @@ follow_at place (x ∷ xs) (suc k) entry follow is =
 lies_at : (entries : List Entry) (place : Place) (entry : Entry) (q n : ℕ) → Follow 0 entries → slice_get entries place.area ≡ Some entry → StandsInEntry q n place entry → place.byte + entry.start ≡ areas_size (take place.area (listed entries)) + q
 lies_at entries place entry q n follow is here = let e = follow_at 0 entries place.area entry follow is in omega (arith, here.byte, e)
 
--- so many bytes that stand in one area
+-- this many bytes that stand in one area
 pub bytes_stand : (entries : List Entry) (bytes : List ℕ) (place : Place) (q n : ℕ) → IsSpace entries bytes → StandsInArea q n place entries → bytes_at (memory_in (listed entries) bytes) q n ≡ take n (drop place.byte bytes)
 bytes_stand entries bytes place q n space stands = by_entry entries place q n stands (λ entry is here.
     bytes_at-memory_in (listed entries) place.area q n place.byte (area_in entry) bytes space.placed.apart (listed_at entries place.area entry is) space.whole here.from here.fits (lies_at entries place entry q n space.follow is here))

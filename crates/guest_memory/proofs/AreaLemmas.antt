@@ -24,7 +24,7 @@ covers_at area q from under = grind (arith, nat_tests)
 -- of two areas that are apart the one does not have an address of the other
 pub not_both : (a b : Area) (q : ℕ) → AreasApart a b → holds_address q b ≡ true → (q < a.start) ⊎ (a.start + a.size ≤ q)
 not_both a b q (inl before) holds = let is = covers-within b q holds in inr (omega (arith, is))
-not_both a b q (inr behind) holds = let is = covers-within b q holds in inl (omega (arith, is))
+not_both a b q (inr following) holds = let is = covers-within b q holds in inl (omega (arith, is))
 
 -- all but the first of areas that are apart are so
 pub apart_tail : (a : Area) (areas : List Area) → AllPairs AreasApart (a ∷ areas) → AllPairs AreasApart areas
@@ -59,7 +59,7 @@ none_writable (a ∷ areas) q none =
 -- apart from the other side
 apart_back : (a b : Area) → AreasApart a b → AreasApart b a
 apart_back a b (inl before) = inr before
-apart_back a b (inr behind) = inl behind
+apart_back a b (inr following) = inl following
 
 -- an address in one area is not in an area that is apart from it
 covers_apart : (a b : Area) (q : ℕ) → AreasApart a b → holds_address q b ≡ true → holds_address q a ≡ false

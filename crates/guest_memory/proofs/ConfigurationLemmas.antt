@@ -26,9 +26,9 @@ pairs_head : {X : Type 0} (R : X → X → Type 0) (x : X) (xs : List X) → All
 pairs_head R x xs pairs = λ k d below. pairs 0 (suc k) d (omega arith) (omega (arith, below))
 
 -- pairs of a list's end
-pairs_behind : {X : Type 0} (R : X → X → Type 0) (xs ys : List X) → AllPairs R (xs ++ ys) → AllPairs R ys
-pairs_behind R [] ys pairs = pairs
-pairs_behind R (x ∷ xs) ys pairs = pairs_behind R xs ys (pairs_tail R x (xs ++ ys) pairs)
+pairs_after : {X : Type 0} (R : X → X → Type 0) (xs ys : List X) → AllPairs R (xs ++ ys) → AllPairs R ys
+pairs_after R [] ys pairs = pairs
+pairs_after R (x ∷ xs) ys pairs = pairs_after R xs ys (pairs_tail R x (xs ++ ys) pairs)
 
 -- what holds of a list holds of its prefix
 all_front : {X : Type 0} (P : X → Type 0) (xs ys : List X) → All P (xs ++ ys) → All P xs
@@ -40,19 +40,19 @@ pairs_front : {X : Type 0} (R : X → X → Type 0) (xs ys : List X) → AllPair
 pairs_front R [] ys pairs = λ i j d before below. absurd (omega (arith, below))
 pairs_front R (x ∷ xs) ys pairs = AllPairs-cons R x xs (all_front (R x) xs ys (pairs_head R x (xs ++ ys) pairs)) (pairs_front R xs ys (pairs_tail R x (xs ++ ys) pairs))
 
--- two stretches of memory that are told with their items are apart
-abbrev pub TellsApart : (Item × Region) → (Item × Region) → Type 0
-TellsApart a b = rules.Apart a.1 b.1
+-- two stretches of memory that are distinguished by their items are apart
+abbrev pub Distinguishes : (Item × Region) → (Item × Region) → Type 0
+Distinguishes a b = rules.Apart a.1 b.1
 
 -- an area that is apart from later stretches is apart from their areas
-apart_later : (p n : ℕ) (item : Item) (a : configured.Area) (areas : List configured.Area) → All (TellsApart (item, stretch a)) (each_from (area_stretch p) n areas) → All (AreasApart (area_of a)) (map area_of areas)
+apart_later : (p n : ℕ) (item : Item) (a : configured.Area) (areas : List configured.Area) → All (Distinguishes (item, stretch a)) (each_from (area_stretch p) n areas) → All (AreasApart (area_of a)) (map area_of areas)
 apart_later p n item a [] all = All-nil (AreasApart (area_of a))
 apart_later p n item a (b ∷ areas) all =
     All-cons (AreasApart (area_of a)) (area_of b) (map area_of areas) (all 0 (item, stretch b) (omega arith))
     (apart_later p (n + 1) item a areas (λ k d below. all (suc k) d (omega (arith, below))))
 
 -- the areas of one partition are apart
-part_apart : (p n : ℕ) (item : Item) (areas : List configured.Area) → AllPairs TellsApart (each_from (area_stretch p) n areas) → AllPairs AreasApart (map area_of areas)
+part_apart : (p n : ℕ) (item : Item) (areas : List configured.Area) → AllPairs Distinguishes (each_from (area_stretch p) n areas) → AllPairs AreasApart (map area_of areas)
 part_apart p n item [] pairs = λ i j d before below. absurd (omega (arith, below))
 part_apart p n item (a ∷ areas) pairs =
     AllPairs-cons AreasApart (area_of a) (map area_of areas)
@@ -78,24 +78,24 @@ areas_placed regions (area ∷ areas) each sized inside =
 
 -- and the areas of all partitions
 parts_placed : (regions : List Region) (n : ℕ) (item : Item) (parts : List Part) → All IsRegion regions → All (λ part. All (λ area. IsSized area.start area.size) part.areas) parts
-    → All (λ part. All (λ area. Any (LiesIn area) regions) part.areas) parts → AllPairs TellsApart (each_from part_stretches n parts) → All ArePlaced (map memory_areas parts)
+    → All (λ part. All (λ area. Any (LiesIn area) regions) part.areas) parts → AllPairs Distinguishes (each_from part_stretches n parts) → All ArePlaced (map memory_areas parts)
 unfolding memory_areas part_stretches
 parts_placed regions n item [] each sized inside pairs = All-nil ArePlaced
 parts_placed regions n item (part ∷ parts) each sized inside pairs =
     All-cons ArePlaced (map area_of part.areas) (map memory_areas parts)
     (record {
       each = areas_placed regions part.areas each (sized 0 part (omega arith)) (inside 0 part (omega arith));
-      apart = part_apart n 0 item part.areas (pairs_front TellsApart (part_stretches n part) (each_from part_stretches (n + 1) parts) pairs);
+      apart = part_apart n 0 item part.areas (pairs_front Distinguishes (part_stretches n part) (each_from part_stretches (n + 1) parts) pairs);
     })
     (parts_placed regions (n + 1) item parts each (λ k d below. sized (suc k) d (omega (arith, below))) (λ k d below. inside (suc k) d (omega (arith, below)))
-    (pairs_behind TellsApart (part_stretches n part) (each_from part_stretches (n + 1) parts) pairs))
+    (pairs_after Distinguishes (part_stretches n part) (each_from part_stretches (n + 1) parts) pairs))
 
 -- the areas of a configuration that meets the rules
 pub fits_placed : (conf : Conf) (item : Item) → Fits (described conf) → All ArePlaced (map memory_areas conf.parts)
 unfolding described stretches
 fits_placed conf item fits =
     parts_placed conf.regions 0 item conf.parts fits.regions_sized fits.areas_sized fits.areas_inside
-    (pairs_behind TellsApart (whole_stretch (hypervisor conf.hv_size conf.regions)) (each_from part_stretches 0 conf.parts) fits.areas_apart)
+    (pairs_after Distinguishes (whole_stretch (hypervisor conf.hv_size conf.regions)) (each_from part_stretches 0 conf.parts) fits.areas_apart)
 
 -- the bytes of areas, by the rules
 areas_sized : (areas : List configured.Area) → areas_size (map area_of areas) ≡ sum_by (λ area. area.size) areas
@@ -108,7 +108,7 @@ unfolding memory_areas part_size
 parts_sized [] = refl
 parts_sized (part ∷ parts) = omega (arith, areas_sized part.areas, parts_sized parts, sum_by-cons part_size part parts)
 
--- they are fewer than a place can tell
+-- they are fewer than a place can count
 pub fits_few : (conf : Conf) → Fits (described conf) → whole_size (map memory_areas conf.parts) < 4294967296
 unfolding described most_memory
 fits_few conf fits = omega (arith, parts_sized conf.parts, fits.memory)

@@ -50,12 +50,12 @@ take-put_in (suc m) (suc i) n (x ∷ xs) new counted fits within =
     ap (λ (rest : List ℕ). x ∷ rest) (take-put_in m i n xs new counted (omega arith) (omega (arith, within)))
 
 -- a write after it
-pub drop-put_behind : (m i n : ℕ) (xs new : List ℕ) → m ≤ length xs → drop m (put_mid (m + i) n xs new) ≡ put_mid i n (drop m xs) new
-drop-put_behind zero i n xs new within = let e : zero + i ≡ i = omega arith in ap (λ (k : ℕ). put_mid k n xs new) e
-drop-put_behind (suc m) i n [] new within = absurd (omega (arith, within))
-drop-put_behind (suc m) i n (x ∷ xs) new within =
+pub drop-put_after : (m i n : ℕ) (xs new : List ℕ) → m ≤ length xs → drop m (put_mid (m + i) n xs new) ≡ put_mid i n (drop m xs) new
+drop-put_after zero i n xs new within = let e : zero + i ≡ i = omega arith in ap (λ (k : ℕ). put_mid k n xs new) e
+drop-put_after (suc m) i n [] new within = absurd (omega (arith, within))
+drop-put_after (suc m) i n (x ∷ xs) new within =
     let e : suc m + i ≡ suc (m + i) = omega arith in
-    ap (λ (k : ℕ). drop (suc m) (put_mid k n (x ∷ xs) new)) e ∙ drop-put_behind m i n xs new (omega (arith, within))
+    ap (λ (k : ℕ). drop (suc m) (put_mid k n (x ∷ xs) new)) e ∙ drop-put_after m i n xs new (omega (arith, within))
 
 -- a write of a part leaves as many bytes
 pub length-put_mid : (i n : ℕ) (old new : List ℕ) → length new ≡ n → i + n ≤ length old → length (put_mid i n old new) ≡ length old
@@ -108,8 +108,8 @@ front : (x : Area) (xs : List Area) (bytes : List ℕ) → length bytes ≡ x.si
 front x xs bytes sized = length-take-le x.size bytes (omega (arith, sized))
 
 -- and as many as the others have
-behind : (x : Area) (xs : List Area) (bytes : List ℕ) → length bytes ≡ x.size + areas_size xs → length (drop x.size bytes) ≡ areas_size xs
-behind x xs bytes sized = omega (arith, length-drop x.size bytes, sized)
+following : (x : Area) (xs : List Area) (bytes : List ℕ) → length bytes ≡ x.size + areas_size xs → length (drop x.size bytes) ≡ areas_size xs
+following x xs bytes sized = omega (arith, length-drop x.size bytes, sized)
 
 -- what stands at an address of an area
 pub get-memory_in : (areas : List Area) (k q : ℕ) (area : Area) (bytes : List ℕ) → AllPairs AreasApart areas → slice_get areas k ≡ Some area → length bytes ≡ areas_size areas → area.start ≤ q → q < area.start + area.size
@@ -127,19 +127,19 @@ get-memory_in (x ∷ xs) zero q area bytes apart is sized from under =
 get-memory_in (x ∷ xs) (suc k) q area bytes apart is sized from under =
     let same : x.size + (areas_size (take k xs) + (q - area.start)) ≡ x.size + areas_size (take k xs) + (q - area.start) = omega arith in
     get-beside (memory_in xs (drop x.size bytes)) x.start x.size (take x.size bytes) q (front x xs bytes sized) (not_both x area q (apart_first x xs k area apart is) (covers_at area q from under))
-    ∙ get-memory_in xs k q area (drop x.size bytes) (apart_tail x xs apart) is (behind x xs bytes sized) from under
+    ∙ get-memory_in xs k q area (drop x.size bytes) (apart_tail x xs apart) is (following x xs bytes sized) from under
     ∙ slice_get-drop x.size (areas_size (take k xs) + (q - area.start)) bytes ∙ ap (slice_get bytes) same
 
 -- nothing stands where no area has the address
 pub get-memory_in_none : (areas : List Area) (bytes : List ℕ) (q : ℕ) → length bytes ≡ areas_size areas → is_readable areas q ≡ false → get (memory_in areas bytes) q ≡ None
 get-memory_in_none [] bytes q sized none = get-empty nat_cmp q
-get-memory_in_none (x ∷ xs) bytes q sized none = at (holds_address q x) refl (get-memory_in_none xs (drop x.size bytes) q (behind x xs bytes sized)) none
+get-memory_in_none (x ∷ xs) bytes q sized none = at (holds_address q x) refl (get-memory_in_none xs (drop x.size bytes) q (following x xs bytes sized)) none
   where
     at : (b : Bool) → holds_address q x ≡ b → (is_readable xs q ≡ false → get (memory_in xs (drop x.size bytes)) q ≡ None) → (b || is_readable xs q) ≡ false → get (memory_in (x ∷ xs) bytes) q ≡ None
     at true has later e = absurd cc
     at false has later e = get-beside (memory_in xs (drop x.size bytes)) x.start x.size (take x.size bytes) q (front x xs bytes sized) (beside x q has) ∙ later e
 
--- so many bytes that stand in one area
+-- this many bytes that stand in one area
 pub bytes_at-memory_in : (areas : List Area) (k q n byte : ℕ) (area : Area) (bytes : List ℕ) → AllPairs AreasApart areas → slice_get areas k ≡ Some area → length bytes ≡ areas_size areas → area.start ≤ q → q + n ≤ area.start + area.size
     → byte + area.start ≡ areas_size (take k areas) + q → bytes_at (memory_in areas bytes) q n ≡ take n (drop byte bytes)
 bytes_at-memory_in areas k q n byte area bytes apart is sized from fits lies =
@@ -155,7 +155,7 @@ bytes_at-memory_in areas k q n byte area bytes apart is sized from fits lies =
 pub whole_in : (areas : List Area) (bytes : List ℕ) → length bytes ≡ areas_size areas → AllBytes bytes → IsMemoryOf areas (memory_in areas bytes)
 whole_in [] bytes sized small = no_memory
 whole_in (x ∷ xs) bytes sized small = record {
-  held = held (whole_in xs (drop x.size bytes) (behind x xs bytes sized) (bytes-drop x.size bytes small));
+  held = held (whole_in xs (drop x.size bytes) (following x xs bytes sized) (bytes-drop x.size bytes small));
   nothing = λ q. get-memory_in_none (x ∷ xs) bytes q sized;
 }
   where
@@ -248,12 +248,12 @@ memory_in-put (x ∷ xs) (suc k) q n byte area bytes new apart is sized from fit
     let at : byte + area.start ≡ x.size + areas_size (take k xs) + q = lies in
     let on : byte ≡ x.size + (byte - x.size) = omega (arith, at) in
     let rest : drop x.size (put_mid byte n bytes new) ≡ put_mid (byte - x.size) n (drop x.size bytes) new =
-    ap (λ (i : ℕ). drop x.size (put_mid i n bytes new)) on ∙ drop-put_behind x.size (byte - x.size) n bytes new (omega (arith, long)) in
+    ap (λ (i : ℕ). drop x.size (put_mid i n bytes new)) on ∙ drop-put_after x.size (byte - x.size) n bytes new (omega (arith, long)) in
     let part : take x.size (put_mid byte n bytes new) ≡ take x.size bytes = take-put_mid_below byte n bytes new x.size (omega (arith, at)) (omega (arith, at, long, ends)) in
     ap (λ (r : List ℕ). with_bytes (memory_in xs r) x.start (take x.size (put_mid byte n bytes new))) rest
     ∙ ap (with_bytes (memory_in xs (put_mid (byte - x.size) n (drop x.size bytes) new)) x.start) part
     ∙ ap (λ (m : Memory). with_bytes m x.start (take x.size bytes))
-    (memory_in-put xs k q n (byte - x.size) area (drop x.size bytes) new (apart_tail x xs apart) is (behind x xs bytes sized) from fits (omega (arith, at)) counted)
+    (memory_in-put xs k q n (byte - x.size) area (drop x.size bytes) new (apart_tail x xs apart) is (following x xs bytes sized) from fits (omega (arith, at)) counted)
     ∙ with_bytes-commute (memory_in xs (drop x.size bytes)) q new x.start (take x.size bytes) (between (apart_first x xs k area apart is))
   where
     between : AreasApart x area → ((q + length new ≤ x.start) ⊎ (x.start + length (take x.size bytes) ≤ q))

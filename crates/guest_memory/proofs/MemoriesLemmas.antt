@@ -11,7 +11,7 @@ use Rattle.guest_bus.specs.Whole.{IsMemoryOf}
 use Rattle.guest_memory.specs.Flat.{AllBytes, AreFlat, AreTables, Follow, IsPartOf, IsSpace, IsMemoryTable, SameAround, Table, areas_of_tables, listed, maps_in, memories_in, memory_in, memory_of_part, bytes_of_part}
 use Rattle.guest_memory.specs.Memories.{AreasApart, AreMemories, ArePlaced, HasAreas, HasBytes, Memories, SameElsewhere, areas_at, map_at, others_of, place_at, areas_size, whole_size, with_map}
 use Rattle.guest_memory.specs.declared.entry.Entry.{Entry}
-use Rattle.guest_memory.proofs.FlatLemmas.{bytes-drop, bytes-take, bytes_at-memory_in, drop-put_behind, ends_within, get-memory_in, slice_get-drop, slice_get-take, whole_in}
+use Rattle.guest_memory.proofs.FlatLemmas.{bytes-drop, bytes-take, bytes_at-memory_in, drop-put_after, ends_within, get-memory_in, slice_get-drop, slice_get-take, whole_in}
 
 -- as many maps as partitions
 pub length-maps_in : (areas : List (List Area)) (bytes : List ℕ) → length (maps_in areas bytes) ≡ length areas
@@ -54,7 +54,7 @@ maps-set (first ∷ others) bytes new (suc p) below sized counted =
     ap (λ (part : List ℕ). memory_in first part ∷ maps_in others (drop (areas_size first) (put_mid (areas_size first + whole_size (take p others)) (areas_size (get_or others p [])) bytes new)))
     (take-put_mid_below (areas_size first + whole_size (take p others)) (areas_size (get_or others p [])) bytes new (areas_size first) (omega arith) (omega (arith, sized, within)))
     ∙ ap (λ (part : List ℕ). memory_in first (take (areas_size first) bytes) ∷ maps_in others part)
-    (drop-put_behind (areas_size first) (whole_size (take p others)) (areas_size (get_or others p [])) bytes new (omega (arith, sized)))
+    (drop-put_after (areas_size first) (whole_size (take p others)) (areas_size (get_or others p [])) bytes new (omega (arith, sized)))
     ∙ ap (λ (maps : List Memory). memory_in first (take (areas_size first) bytes) ∷ maps) (maps-set others (drop (areas_size first) bytes) new p (omega (arith, below)) rest counted)
 
 -- bytes that lie so are memories

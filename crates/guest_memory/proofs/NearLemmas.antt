@@ -19,7 +19,7 @@ use Rattle.guest_memory.specs.declared.near.Near.{Near}
 use Rattle.guest_memory.specs.declared.near.Spot.{Spot}
 use Rattle.guest_memory.proofs.AccessLemmas.{accesses_found, aligned_fits, bytes_within, fetched_in, follow_at, loaded_in, store_free, value_written}
 use Rattle.guest_memory.proofs.AreaLemmas.{listed_at, placed_at}
-use Rattle.guest_memory.proofs.FlatLemmas.{drop-put_behind, ends_within, take-put_in}
+use Rattle.guest_memory.proofs.FlatLemmas.{drop-put_after, ends_within, take-put_in}
 use Rattle.guest_memory.proofs.MemoriesLemmas.{part_at, part_of_part}
 
 -- how many bytes a partition has among all
@@ -99,7 +99,7 @@ pub part_taken : (table : Table) (whole : List ℕ) (at byte n : ℕ) → byte �
 part_taken table whole at byte n is within =
     part_of_part table.size at n (drop table.place whole) within ∙ ap (take n) (drop-drop at table.place whole) ∙ ap (λ (k : ℕ). take n (drop k whole)) (sym is)
 
--- an access of so many bytes ends in the partition
+-- an access of this many bytes ends in the partition
 pub access_within : (table : Table) (whole : List ℕ) (place : Place) (address count : ℕ) → IsPartOf table whole → StandsInArea address count place table.entries → place.byte + count ≤ table.size
 access_within table whole place address count part stands =
     omega (arith, bytes_within table.entries (bytes_of_part table whole) place address count part.space stands, length-take-le table.size (drop table.place whole) (omega (arith, length-drop table.place whole, part.within)))
@@ -131,7 +131,7 @@ near_loaded table near whole found address value size is part here aligned as_it
 pub part_put : (table : Table) (whole new : List ℕ) (at byte n : ℕ) → IsPartOf table whole → length new ≡ n → byte ≡ table.place + at → at + n ≤ table.size → bytes_of_part table (put_mid byte n whole new) ≡ put_mid at n (bytes_of_part table whole) new
 part_put table whole new at byte n part counted is within =
     ap (λ (k : ℕ). take table.size (drop table.place (put_mid k n whole new))) is
-    ∙ ap (take table.size) (drop-put_behind table.place at n whole new (omega (arith, part.within)))
+    ∙ ap (take table.size) (drop-put_after table.place at n whole new (omega (arith, part.within)))
     ∙ take-put_in table.size at n (drop table.place whole) new counted within (omega (arith, length-drop table.place whole, part.within))
 
 -- and nothing around the part changes

@@ -88,7 +88,7 @@ room_refused access entries place q placed stands refused = by_entry entries pla
     allowed_in access (listed entries) place.area q (area_in entry) placed (listed_at entries place.area entry is) (covers_at (area_in entry) q here.from (omega (arith, here.fits)))
     ∙ ap (λ (only : Bool). not (refuses access only)) (sym here.read_only) ∙ ap not refused)
 
--- so many bytes up to the end of an area
+-- this many bytes up to the end of an area
 pub room_stands : (entries : List Entry) (place : Place) (q n : ℕ) → StandsInArea q 1 place entries → n ≤ place.room → StandsInArea q n place entries
 room_stands entries place q n stands within = by_entry entries place q 1 stands (λ entry is here.
     let all : StandsInEntry q n place entry = record { from = here.from; fits = omega (arith, here.room); byte = here.byte; room = here.room; read_only = here.read_only } in

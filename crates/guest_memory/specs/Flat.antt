@@ -79,7 +79,7 @@ pub record IsSpace (entries : List Entry) (bytes : List ℕ) : Type 0 where
   pub follow : Follow 0 entries
   pub whole : length bytes ≡ areas_size (listed entries)
 
--- so many bytes from an address on stand in the area, and begin at the place
+-- this many bytes from an address on stand in the area, and begin at the place
 pub record StandsInEntry (address count : ℕ) (place : Place) (entry : Entry) : Type 0 where
   pub from : entry.start ≤ address
   pub fits : address + count ≤ entry.start + entry.size
@@ -87,11 +87,11 @@ pub record StandsInEntry (address count : ℕ) (place : Place) (entry : Entry) :
   pub room : place.room + address ≡ entry.start + entry.size
   pub read_only : place.read_only ≡ entry.read_only
 
--- so many bytes from an address on stand in one of the areas
+-- this many bytes from an address on stand in one of the areas
 abbrev pub StandsInArea : ℕ → ℕ → Place → List Entry → Type 0
 StandsInArea address count place entries = IsSomeAnd (slice_get entries place.area) (StandsInEntry address count place)
 
--- an access of so many bytes begins there, and nothing refuses it
+-- an access of this many bytes begins there, and nothing refuses it
 pub record Accesses (allowed : ℕ → Bool) (entries : List Entry) (place : Place) (address count : ℕ) : Type 0 where
   pub free : access_fault allowed address count ≡ None
   pub stands : StandsInArea address count place entries

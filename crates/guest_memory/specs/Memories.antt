@@ -101,12 +101,12 @@ abbrev pub refuses : Access → Bool → Bool
 refuses Read read_only = false
 refuses Write read_only = read_only
 
--- the first of so many addresses from one on that is not allowed
+-- the first of this many addresses from one on that is not allowed
 abbrev pub first_refused : (ℕ → Bool) → ℕ → ℕ → Option ℕ
 first_refused allowed address zero = None
 first_refused allowed address (suc count) = if allowed address then first_refused allowed (suc address) count else Some address
 
--- the fault at an address; it tells 0 for one past 2^32 - 1
+-- the fault at an address; it has 0 for one past 2^32 - 1
 abbrev pub fault_at : ℕ → Outside
 fault_at address = record { address = if nat_lt address (2 ^ 32) then address else 0 }
 

@@ -17,7 +17,7 @@ pub(crate) fn byte_at(bytes: &[u8], at: usize) -> u8
     bytes[at]
 }
 
-/// So many bytes from a place on.
+/// This many bytes from a place on.
 pub(crate) fn part(bytes: &[u8], at: usize, count: usize) -> &[u8]
     requires { at + count ≤ length bytes.now }
     ensures { result.now ≡ take count (drop at bytes.now) }
@@ -87,7 +87,7 @@ pub(crate) fn put_value(bytes: &mut [u8], at: usize, size: Size, value: u64)
 }
 
 /// Puts bytes at a place of others.
-pub(crate) fn put(bytes: &mut [u8], at: usize, from: &[u8])
+pub(crate) fn write_at(bytes: &mut [u8], at: usize, from: &[u8])
     requires { at + length from.now ≤ length bytes.old }
     ensures value { bytes.new ≡ put_mid at (length from.now) bytes.old from.now }
     ensures bytes { AllBytes bytes.new }
@@ -105,7 +105,7 @@ pub(crate) fn put_words(bytes: &mut [u8], at: usize, words: &[u32; 16])
 {
     // They are put together first, so that they are written as one.
     let together = bytes_of(words);
-    put(bytes, at, &together);
+    write_at(bytes, at, &together);
 }
 
 /// The bytes of sixteen words.

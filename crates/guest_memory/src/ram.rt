@@ -110,7 +110,7 @@ impl Ram {
         parts::copy_out(&self.tables[usize::from(p)], &mut self.bytes, address, from)
     }
 
-    /// Whether so many bytes of a partition's memory from an address on may be read.
+    /// Whether this many bytes of a partition's memory from an address on may be read.
     pub fn may_read(&self, p: PartId, address: u32, size: u32) -> bool
         requires { p < length self.now.areas }
         ensures value { result ≡ all_from (is_readable (areas_at p self.now)) address size }
@@ -118,7 +118,7 @@ impl Ram {
         refused(self.entries(p), Access::Read, address, size as usize).is_none()
     }
 
-    /// Whether so many bytes of a partition's memory from an address on may be written.
+    /// Whether this many bytes of a partition's memory from an address on may be written.
     pub fn may_write(&self, p: PartId, address: u32, size: u32) -> bool
         requires { p < length self.now.areas }
         ensures value { result ≡ all_from (is_writable (areas_at p self.now)) address size }
@@ -312,7 +312,7 @@ fn table_of(alloc: Global, part: &Part, place: u32) -> Result<Table, Memory>
     Ok(Table::new(alloc, &part.areas, place)?)
 }
 
-/// So many zeros.
+/// This many zeros.
 fn zeros(alloc: Global, size: u32) -> Result<Vec<u8>, Memory>
     ensures { IfOk result (λ bytes. bytes.items ≡ replicate size 0) }
 {

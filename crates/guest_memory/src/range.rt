@@ -8,7 +8,7 @@ ghost use Rattle.guest_memory.specs.Loading.{LiesInAreas, areas_with_image};
 ghost use Rattle.guest_memory.specs.Memories.{ArePlaced, allows_byte, first_refused};
 
 use crate::access::Access;
-use crate::bytes::{clear, part, put};
+use crate::bytes::{clear, part, write_at};
 use crate::entry::Entry;
 use crate::find::place_of;
 use xef_images::Xef;
@@ -33,7 +33,7 @@ fn room(entries: &[Entry], access: Access, address: u64) -> Option<usize>
     }
 }
 
-/// The first of so many addresses from one on that is not allowed.
+/// The first of this many addresses from one on that is not allowed.
 pub(crate) fn refused(entries: &[Entry], access: Access, address: u32, count: usize) -> Option<u64>
     requires { ArePlaced (listed entries.now) }
     ensures value { result ≡ first_refused (allows_byte access (listed entries.now)) address count }
@@ -79,7 +79,7 @@ fn read_piece(entries: &[Entry], bytes: &[u8], address: u64, into: &mut [u8], do
     match place_of(entries, address) {
         Some(place) => {
             let count = place.room.min(into.len() - done);
-            put(into, done, part(bytes, place.byte, count));
+            write_at(into, done, part(bytes, place.byte, count));
             count
         }
         None => unreachable!(),
@@ -113,7 +113,7 @@ fn write_piece(entries: &[Entry], bytes: &mut [u8], address: u64, from: &[u8]) -
     match place_of(entries, address) {
         Some(place) => {
             let count = place.room.min(from.len());
-            put(bytes, place.byte, &from[..count]);
+            write_at(bytes, place.byte, &from[..count]);
             count
         }
         None => unreachable!(),

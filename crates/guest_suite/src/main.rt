@@ -4,6 +4,7 @@
 ghost use Rattle.std.specs.Prelude.{◌≡◌, OnOk};
 
 use anyhow::{Context, Result, bail};
+use command_line::Words;
 use loaded_system::bare;
 use std::alloc::Global;
 use std::fs;
@@ -12,7 +13,6 @@ use xm_base::TICKS;
 use xm_commands::{Status, xm_main};
 use xm_machine::{Inputs, Machine};
 use xm_outside::{MemStore, OutSink, Sink};
-use xm_words::Words;
 
 // The files of the data folder that the calls read.
 const FILES: [&str; 9] = [
@@ -70,7 +70,7 @@ fn put_data(rt: &HostRuntime, files: &mut MemStore) -> Result<()> {
     Ok(())
 }
 
-// Does so many ticks of the machine of a raw image, whose lines go out, and prints how far it came.
+// Does this many ticks of the machine of a raw image, whose lines go out, and prints how far it came.
 fn show_ticks<O: Sink>(
     rt: &impl Print,
     alloc: Global,
@@ -102,19 +102,19 @@ fn booted(alloc: Global, image: &[u8]) -> Result<Machine> {
     machine.ok().context(NO_MEMORY)
 }
 
-// Does so many ticks.
+// Does this many ticks.
 fn do_ticks<O: Sink>(machine: &mut Machine, ticks: u64, out: &mut O) -> Result<()> {
     for _ in 0..ticks {
         if machine.done() == TICKS {
             break;
         }
-        let told = machine.tick(out, &mut Board::new());
-        told.ok().context("a tick was not done")?;
+        let written = machine.tick(out, &mut Board::new());
+        written.ok().context("a tick was not done")?;
     }
     Ok(())
 }
 
-// Does what a call says, or tells that it was not done.
+// Does what a call says, or reports that it was not done.
 fn carry_out<O: Sink, E: Sink>(
     alloc: Global,
     call: &str,

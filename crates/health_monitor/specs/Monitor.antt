@@ -1,4 +1,4 @@
--- Health events, the actions that a partition's table has for them, and what each action comes to.
+-- Health events, the actions that a partition's table has for them, and the outcome of each action.
 use Rattle.std.specs.Prelude.{◌≡◌, ◌≢◌, ◌==◌, ◌⊎◌, ℕ, Bool, true, false, if◌then◌else◌, slice_index_or}
 use Rattle.std.specs.Int.{bit_at}
 use Rattle.xm_base.specs.declared.partition.Mode.TheVariants as mode
@@ -48,7 +48,7 @@ is_logged table event = bit_at table.logged (event_row event).number == 1
 abbrev pub does : Action → Bool → Own → Whole → Effect
 does action pass own whole = record { action = action; pass = pass; own = own; whole = whole }
 
--- what an action comes to, where traps are enabled (true) or disabled (false)
+-- the outcome of an action, where traps are enabled (true) or disabled (false)
 unfoldable pub effect_of : Action → Bool → Effect
 effect_of action.Ignore _ = does action.Ignore true own.Nothing whole.Nothing
 effect_of action.Shutdown _ = does action.Shutdown true own.Shutdown whole.Nothing

@@ -1,4 +1,4 @@
-//! What each action comes to.
+//! The outcome of each action.
 
 ghost use Rattle.std.specs.Prelude.{◌≡◌, ◌↔◌, true, false};
 ghost use Rattle.xm_conf.specs.declared.health.Action.TheVariants.{Halt, Propagate};
@@ -8,7 +8,7 @@ use crate::effects::{Effect, Own, Whole};
 use xm_base::Mode;
 use xm_conf::Action;
 
-/// What an action comes to, where the partition's traps are enabled or not.
+/// The outcome of an action, where the partition's traps are enabled or not.
 #[tactic(auto, unfolding(crate::specs::Monitor::effect_of))]
 pub fn effect(action: Action, enabled: bool) -> Effect
     ensures value { result ≡ effect_of action enabled }

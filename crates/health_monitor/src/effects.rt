@@ -1,4 +1,4 @@
-//! What actions come to.
+//! The outcome of actions.
 
 use xm_base::Mode;
 use xm_conf::Action;
@@ -33,7 +33,7 @@ pub enum Whole {
     Maintenance,
 }
 
-/// What an action comes to.
+/// The outcome of an action.
 #[derive(Clone, Copy, Debug, PartialEq, Eq)]
 pub struct Effect {
     /// The action as it is logged and printed.

@@ -1,4 +1,4 @@
-//! The health monitor: the event that a trap raises, the action that a partition's table has for it, and what the action comes to.
+//! The health monitor: the event that a trap raises, the action that a partition's table has for it, and the outcome of the action.
 #![tactic(auto)]
 
 mod actions;

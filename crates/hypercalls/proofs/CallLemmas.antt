@@ -3,12 +3,12 @@ use Rattle.std.proofs.Common.{◌≡◌, ℕ, ◌<◌, ◌⊎◌, inl, inr, Bool
 use Rattle.std.proofs.lemmas.List.{append-nil, append_assoc, get_or-set_same, length-set, map-append, set-set}
 use Rattle.std.specs.Prelude.{◌==◌, if◌then◌else◌}
 use Rattle.guest_bus.specs.Memory.{Memory}
-use Rattle.whole_system.specs.Serving.{IsEntered, IsServed, caller_at, own_traffic, sight_by, told_by, traffic_by, untraded, upshot_of, without_traffic}
-use Rattle.whole_system.specs.State.{SysState, with_machine}
-use Rattle.whole_system.specs.declared.served.Note.{Note}
-use Rattle.whole_system.specs.declared.served.Note.TheVariants as note
-use Rattle.whole_system.specs.declared.served.Served as code
-use Rattle.tick_pieces.specs.PartLemmas.{part_put_back}
+use Rattle.system_state.specs.Serving.{IsEntered, IsServed, caller_at, own_traffic, sight_by, emissions_by, traffic_by, untraded, upshot_of, without_traffic}
+use Rattle.system_state.specs.State.{SysState, with_machine}
+use Rattle.system_state.specs.declared.served.Note.{Note}
+use Rattle.system_state.specs.declared.served.Note.TheVariants as note
+use Rattle.system_state.specs.declared.served.Served as code
+use Rattle.tick_steps.specs.PartLemmas.{part_put_back}
 use Rattle.machine_model.specs.ListLemmas.{each_counted as each_length}
 use Rattle.machine_model.specs.Caller.{Acts, Meets, Served, Upshot}
 use Rattle.machine_model.specs.Health.{Worked, quiet, self_ordered}
@@ -18,27 +18,27 @@ use Rattle.machine_model.specs.LocalTick.{by_upshot, called, clocked}
 use Rattle.machine_model.specs.Machine.{Machine, booted_part, sight_for}
 use Rattle.machine_model.specs.Observed.{Observation, observed_by}
 use Rattle.machine_model.specs.Partition.{PartitionState, is_halted, link_signal}
-use Rattle.machine_model.specs.Told as told
-use Rattle.machine_model.specs.Told.{OwnPuts, OwnSignals, OwnStill, OwnTakes, OwnTraffic, Sight, Told, Trades, Words, line_of}
-use Rattle.machine_model.specs.Traffic.{Puts, Signals, Still, Takes, Traffic, after_message, after_traffic, heard_as, heard_from, hearing, interrupted, told_as, traffic_of}
+use Rattle.machine_model.specs.Emission as emission
+use Rattle.machine_model.specs.Emission.{OwnPuts, OwnSignals, OwnStill, OwnTakes, OwnTraffic, Sight, Emission, Trades, Words, line_of}
+use Rattle.machine_model.specs.Traffic.{Puts, Signals, Still, Takes, Traffic, after_message, after_traffic, heard_as, heard_from, hearing, interrupted, traffic_as, traffic_of}
 use Rattle.machine_model.specs.View.{PartitionView, view_of}
-use Rattle.slot_runs.specs.Passes.{part_at, traded, with_part}
+use Rattle.span_model.specs.Passes.{part_at, traded, with_part}
 use Rattle.virt_traps.specs.Virtual.{raised}
 use Rattle.xm_report.specs.Report.{ReportLine}
 use Rattle.xm_traces.specs.Ring.{Kept, noted}
 use Rattle.xm_traces.specs.declared.entry.TraceEntry.{TraceEntry}
-use Rattle.tick_pieces.specs.Work.{AsksAtMost, IsPartDone, IsToldBy, ReachIsUponOne, IsTickWorked, TellsAlone, act_beyond, console_told, trace_told}
-use Rattle.tick_pieces.specs.declared.beyond.Beyond.{Beyond}
-use Rattle.tick_pieces.specs.declared.beyond.Beyond.TheVariants as beyond
-use Rattle.whole_system.specs.declared.served.Act.TheVariants as act
+use Rattle.tick_steps.specs.Work.{AsksAtMost, IsPartDone, IsNotedBy, ReachIsUponOne, IsTickWorked, EmitsAlone, act_beyond, console_emissions, trace_emissions}
+use Rattle.tick_steps.specs.declared.beyond.Beyond.{Beyond}
+use Rattle.tick_steps.specs.declared.beyond.Beyond.TheVariants as beyond
+use Rattle.system_state.specs.declared.served.Act.TheVariants as act
 use Rattle.xm_base.specs.declared.partition.Order.{Order}
-use Rattle.tick_pieces.specs.HealthLemmas.{silent}
-use Rattle.tick_pieces.specs.InstructionLemmas.{handled_still}
+use Rattle.tick_steps.specs.HealthLemmas.{silent}
+use Rattle.tick_steps.specs.InstructionLemmas.{handled_still}
 use Rattle.hypercalls.proofs.MildLemmas.{Mild, served_mild}
 use Rattle.hypercalls.proofs.ServedLemmas.{kept_parts, served_keeps}
-use Rattle.tick_pieces.specs.ReachLemmas.{no_traffic, one_before, reach_untraded}
-use Rattle.tick_pieces.specs.WorkLemmas.{done_then, put_there}
-use Rattle.tick_pieces.specs.ListLemmas.{at_each_set, set_each_set}
+use Rattle.tick_steps.specs.ReachLemmas.{no_traffic, one_before, reach_untraded}
+use Rattle.tick_steps.specs.WorkLemmas.{done_then, put_there}
+use Rattle.tick_steps.specs.ListLemmas.{at_each_set, set_each_set}
 use Rattle.xm_conf.specs.Configuration.{Conf}
 
 -- an interrupt that becomes pending, and a tick that is counted
@@ -136,19 +136,19 @@ counted p s traffic old one two below one_is two_is =
     ∙ ap (λ (sys : SysState). with_machine (with_part p (clocked (part_at p sys.machine)) sys.machine) sys) one_is
     ∙ ap (λ (g : Machine). with_machine g old) (counted_traded traffic p s.after old.machine below)
 
--- a call tells bytes for the console, and else traces
-told_apart : (a_note : Note) (memory : Memory) → told_by a_note memory ≡ console_told a_note memory ++ trace_told a_note
-told_apart note.Nothing memory = refl
-told_apart (note.Console at size) memory = refl
-told_apart (note.Trace entry) memory = refl
-told_apart (note.Put chan at size) memory = refl
-told_apart (note.Take chan) memory = refl
-told_apart (note.Saw at size) memory = refl
-told_apart note.NotKept memory = refl
-told_apart (note.Signal number) memory = refl
+-- a call emits bytes for the console, and else traces
+emissions_split : (a_note : Note) (memory : Memory) → emissions_by a_note memory ≡ console_emissions a_note memory ++ trace_emissions a_note
+emissions_split note.Nothing memory = refl
+emissions_split (note.Console at size) memory = refl
+emissions_split (note.Trace entry) memory = refl
+emissions_split (note.Put chan at size) memory = refl
+emissions_split (note.Take chan) memory = refl
+emissions_split (note.Saw at size) memory = refl
+emissions_split note.NotKept memory = refl
+emissions_split (note.Signal number) memory = refl
 
 -- where it reports nothing, no memory shows bytes for the console
-console_none : (a_note : Note) (memory other : Memory) → told_by a_note memory ≡ [] → console_told a_note other ≡ console_told a_note memory
+console_none : (a_note : Note) (memory other : Memory) → emissions_by a_note memory ≡ [] → console_emissions a_note other ≡ console_emissions a_note memory
 console_none note.Nothing memory other none = refl
 console_none (note.Console at size) memory other none = absurd cc
 console_none (note.Trace entry) memory other none = refl
@@ -159,27 +159,27 @@ console_none note.NotKept memory other none = refl
 console_none (note.Signal number) memory other none = refl
 
 -- the bytes for the console are the same after what follows the call
-console_same : (s : Served) (a_note : Note) (view : PartitionView) (time : ℕ) → s.told ≡ told_by a_note s.after.memory → (s.told ≡ []) ⊎ (s.upshot ≡ Acts told.Nothing)
-    → console_told a_note (by_upshot s.upshot view time (clocked s.after)).after.memory ≡ console_told a_note s.after.memory
+console_same : (s : Served) (a_note : Note) (view : PartitionView) (time : ℕ) → s.emitted ≡ emissions_by a_note s.after.memory → (s.emitted ≡ []) ⊎ (s.upshot ≡ Acts emission.Nothing)
+    → console_emissions a_note (by_upshot s.upshot view time (clocked s.after)).after.memory ≡ console_emissions a_note s.after.memory
 unfolding clocked
-console_same s a_note view time told_is (inl none) = console_none a_note s.after.memory _ (sym told_is ∙ none)
-console_same s a_note view time told_is (inr nothing) = ap (λ (u : Upshot). console_told a_note (by_upshot u view time (clocked s.after)).after.memory) nothing
+console_same s a_note view time emitted_is (inl none) = console_none a_note s.after.memory _ (sym emitted_is ∙ none)
+console_same s a_note view time emitted_is (inr nothing) = ap (λ (u : Upshot). console_emissions a_note (by_upshot u view time (clocked s.after)).after.memory) nothing
 
 -- the lines of a call and of what follows it
-call_lines : (line : Told → ReportLine) (a_note : Note) (memory after : Memory) (tale more : List Told) (between got : List ReportLine)
-    → tale ≡ told_by a_note memory → console_told a_note after ≡ console_told a_note memory → between ≡ map line (trace_told a_note) → got ≡ between ++ map line more
-    → map line (tale ++ more) ≡ map line (console_told a_note after) ++ got
+call_lines : (line : Emission → ReportLine) (a_note : Note) (memory after : Memory) (tale more : List Emission) (between got : List ReportLine)
+    → tale ≡ emissions_by a_note memory → console_emissions a_note after ≡ console_emissions a_note memory → between ≡ map line (trace_emissions a_note) → got ≡ between ++ map line more
+    → map line (tale ++ more) ≡ map line (console_emissions a_note after) ++ got
 call_lines line a_note memory after tale more between got tale_is console_is between_is got_is =
     map-append line tale more
-    ∙ ap (λ (first : List Told). map line first ++ map line more) (tale_is ∙ told_apart a_note memory ∙ ap (λ (console : List Told). console ++ trace_told a_note) (sym console_is))
-    ∙ ap (λ (lines : List ReportLine). lines ++ map line more) (map-append line (console_told a_note after) (trace_told a_note))
-    ∙ append_assoc (map line (console_told a_note after)) (map line (trace_told a_note)) (map line more)
-    ∙ ap (λ (lines : List ReportLine). map line (console_told a_note after) ++ (lines ++ map line more)) (sym between_is)
-    ∙ ap (λ (lines : List ReportLine). map line (console_told a_note after) ++ lines) (sym got_is)
+    ∙ ap (λ (first : List Emission). map line first ++ map line more) (tale_is ∙ emissions_split a_note memory ∙ ap (λ (console : List Emission). console ++ trace_emissions a_note) (sym console_is))
+    ∙ ap (λ (lines : List ReportLine). lines ++ map line more) (map-append line (console_emissions a_note after) (trace_emissions a_note))
+    ∙ append_assoc (map line (console_emissions a_note after)) (map line (trace_emissions a_note)) (map line more)
+    ∙ ap (λ (lines : List ReportLine). map line (console_emissions a_note after) ++ (lines ++ map line more)) (sym between_is)
+    ∙ ap (λ (lines : List ReportLine). map line (console_emissions a_note after) ++ lines) (sym got_is)
 
--- what a call and what follows it come to
+-- the outcome of a call and what follows it
 abbrev worked_by : Served → PartitionView → ℕ → Worked
-worked_by s view time = record (by_upshot s.upshot view time (clocked s.after)) { told = s.told ++ (by_upshot s.upshot view time (clocked s.after)).told }
+worked_by s view time = record (by_upshot s.upshot view time (clocked s.after)) { emitted = s.emitted ++ (by_upshot s.upshot view time (clocked s.after)).emitted }
 
 -- what follows a call of this upshot, on a system
 abbrev following : Upshot → ℕ → SysState → Worked
@@ -188,11 +188,11 @@ following u p sys = by_upshot u (view_of sys.machine.system p) sys.machine.time 
 -- a call that was served, whose tick was counted, and that was followed
 record IsCalled (p : ℕ) (sight : Sight) (s : Served) (answer : code.Served) (reach : Beyond) (old one two new : SysState) (between got : List ReportLine) : Type 0 where
   below : p < length old.machine.parts
-  acts : (s.told ≡ []) ⊎ (s.upshot ≡ Acts told.Nothing)
+  acts : (s.emitted ≡ []) ⊎ (s.upshot ≡ Acts emission.Nothing)
   serves : IsServed p sight s answer old one
   counts : two ≡ with_machine (with_part p (clocked (part_at p one.machine)) one.machine) one
-  traces : between ≡ map (line_of two.machine.ticks p) (trace_told answer.note)
-  follows : IsPartDone p (following (upshot_of answer.act) p two).after (following (upshot_of answer.act) p two).told two new between got
+  traces : between ≡ map (line_of two.machine.ticks p) (trace_emissions answer.note)
+  follows : IsPartDone p (following (upshot_of answer.act) p two).after (following (upshot_of answer.act) p two).emitted two new between got
   act : (following (upshot_of answer.act) p two).act ≡ act_beyond reach
   one_is : ReachIsUponOne reach two.machine
 
@@ -204,27 +204,27 @@ module _ (p : ℕ) (sight : Sight) (s : Served) (answer : code.Served) (reach : 
       let view = view_of old.machine.system p in
       let w = by_upshot s.upshot view old.machine.time (clocked s.after) in
       let still : traffic_by p answer.note s.after.memory ≡ Still =
-      sym c.serves.traffic ∙ ap (λ (own : OwnTraffic). told_as old.machine.system.conf p own) own_still in
+      sym c.serves.traffic ∙ ap (λ (own : OwnTraffic). traffic_as old.machine.system.conf p own) own_still in
       let two_is : two ≡ with_machine (with_part p (clocked s.after) old.machine) old =
       counted p s (traffic_by p answer.note s.after.memory) old one two c.below c.serves.state c.counts
       ∙ ap (λ (t : Traffic). with_machine (traded t (with_part p (clocked s.after) old.machine)) old) still in
       let upshot_is : upshot_of answer.act ≡ s.upshot = sym c.serves.upshot ∙ plain in
-      let follows = subst (λ (u : Upshot). IsPartDone p (following u p two).after (following u p two).told two new between got) upshot_is c.follows in
+      let follows = subst (λ (u : Upshot). IsPartDone p (following u p two).after (following u p two).emitted two new between got) upshot_is c.follows in
       let same : following s.upshot p two ≡ w =
       ap (λ (x : PartitionState). by_upshot s.upshot (view_of two.machine.system p) two.machine.time x) (put_there p (clocked s.after) old.machine two old c.below two_is)
       ∙ ap (λ (sys : SysState). by_upshot s.upshot (view_of sys.machine.system p) sys.machine.time (clocked s.after)) two_is in
-      let done : IsPartDone p w.after w.told old new between got =
-      done_then (λ v t x. (by_upshot s.upshot v t x).after) (λ v t x. (by_upshot s.upshot v t x).told) p (clocked s.after) [] old two new between between got c.below
+      let done : IsPartDone p w.after w.emitted old new between got =
+      done_then (λ v t x. (by_upshot s.upshot v t x).after) (λ v t x. (by_upshot s.upshot v t x).emitted) p (clocked s.after) [] old two new between between got c.below
       (silent p (clocked s.after) old two between two_is) follows in
       let act_is : w.act ≡ act_beyond reach = ap (λ (x : Worked). x.act) (sym same) ∙ ap (λ (u : Upshot). (following u p two).act) (sym upshot_is) ∙ c.act in
       let ticks : two.machine.ticks ≡ old.machine.ticks = ap (λ (sys : SysState). sys.machine.ticks) two_is in
-      let traces = c.traces ∙ ap (λ (n : ℕ). map (line_of n p) (trace_told answer.note)) ticks in
+      let traces = c.traces ∙ ap (λ (n : ℕ). map (line_of n p) (trace_emissions answer.note)) ticks in
       let lengths : length two.machine.parts ≡ length old.machine.parts =
       ap (λ (sys : SysState). length sys.machine.parts) two_is ∙ length-set old.machine.parts p (clocked s.after) in
       record {
         state = done.state ∙ ap (λ (t : Traffic). with_machine (traded t (with_part p w.after old.machine)) old) (sym (no_traffic p w reach old act_is));
-        lines = call_lines (line_of old.machine.ticks p) answer.note s.after.memory w.after.memory s.told w.told between got c.serves.told
-            (console_same s answer.note view old.machine.time c.serves.told c.acts) traces done.lines;
+        lines = call_lines (line_of old.machine.ticks p) answer.note s.after.memory w.after.memory s.emitted w.emitted between got c.serves.emitted
+            (console_same s answer.note view old.machine.time c.serves.emitted c.acts) traces done.lines;
         act = ap without_traffic act_is ∙ (reach_untraded reach).same;
         readable = c.serves.readable;
         one = one_before reach two.machine old.machine lengths c.one_is;
@@ -238,37 +238,37 @@ module _ (p : ℕ) (sight : Sight) (s : Served) (answer : code.Served) (reach : 
       let view = view_of old.machine.system p in
       let traffic = traffic_by p answer.note s.after.memory in
       let two_is : two ≡ with_machine (traded traffic (with_part p (clocked s.after) old.machine)) old = counted p s traffic old one two c.below c.serves.state c.counts in
-      let upshot_is : upshot_of answer.act ≡ Acts told.Nothing = sym c.serves.upshot ∙ ap untraded trades in
+      let upshot_is : upshot_of answer.act ≡ Acts emission.Nothing = sym c.serves.upshot ∙ ap untraded trades in
       let follows : IsPartDone p (part_at p two.machine) [] two new between got =
-      subst (λ (u : Upshot). IsPartDone p (following u p two).after (following u p two).told two new between got) upshot_is c.follows in
-      let act_is : told.Nothing ≡ act_beyond reach = sym (ap (λ (u : Upshot). (following u p two).act) upshot_is) ∙ c.act in
-      let traffic_is : told_as old.machine.system.conf p own ≡ traffic =
-      sym (ap (λ (u : Upshot). told_as old.machine.system.conf p (own_traffic u)) trades) ∙ c.serves.traffic in
+      subst (λ (u : Upshot). IsPartDone p (following u p two).after (following u p two).emitted two new between got) upshot_is c.follows in
+      let act_is : emission.Nothing ≡ act_beyond reach = sym (ap (λ (u : Upshot). (following u p two).act) upshot_is) ∙ c.act in
+      let traffic_is : traffic_as old.machine.system.conf p own ≡ traffic =
+      sym (ap (λ (u : Upshot). traffic_as old.machine.system.conf p (own_traffic u)) trades) ∙ c.serves.traffic in
       let ticks : two.machine.ticks ≡ old.machine.ticks =
       ap (λ (sys : SysState). sys.machine.ticks) two_is ∙ traded_ticks traffic (with_part p (clocked s.after) old.machine) in
-      let traces = c.traces ∙ ap (λ (n : ℕ). map (line_of n p) (trace_told answer.note)) ticks in
+      let traces = c.traces ∙ ap (λ (n : ℕ). map (line_of n p) (trace_emissions answer.note)) ticks in
       let lengths : length two.machine.parts ≡ length old.machine.parts =
       ap (λ (sys : SysState). length sys.machine.parts) two_is ∙ traded_length traffic (with_part p (clocked s.after) old.machine) ∙ length-set old.machine.parts p (clocked s.after) in
-      let worked : IsTickWorked p (record (quiet (clocked s.after)) { told = s.told ++ []; act = Trades own }) answer.note reach old new got = record {
+      let worked : IsTickWorked p (record (quiet (clocked s.after)) { emitted = s.emitted ++ []; act = Trades own }) answer.note reach old new got = record {
         state = follows.state ∙ part_put_back p two ∙ two_is
             ∙ ap (λ (t : Traffic). with_machine (traded t (with_part p (clocked s.after) old.machine)) old) (sym traffic_is);
-        lines = call_lines (line_of old.machine.ticks p) answer.note s.after.memory s.after.memory s.told [] between got c.serves.told refl traces follows.lines;
+        lines = call_lines (line_of old.machine.ticks p) answer.note s.after.memory s.after.memory s.emitted [] between got c.serves.emitted refl traces follows.lines;
         act = act_is;
         readable = c.serves.readable;
         one = one_before reach two.machine old.machine lengths c.one_is;
       } in
-      subst (λ (u : Upshot). IsTickWorked p (record (by_upshot u view old.machine.time (clocked s.after)) { told = s.told ++ (by_upshot u view old.machine.time (clocked s.after)).told }) answer.note reach old new got) (sym trades) worked
+      subst (λ (u : Upshot). IsTickWorked p (record (by_upshot u view old.machine.time (clocked s.after)) { emitted = s.emitted ++ (by_upshot u view old.machine.time (clocked s.after)).emitted }) answer.note reach old new got) (sym trades) worked
 
   -- each call
   any_call : IsCalled p sight s answer reach old one two new between got → IsTickWorked p (worked_by s (view_of old.machine.system p) old.machine.time) answer.note reach old new got
   any_call c = by s.upshot refl
     where
       by : (u : Upshot) → s.upshot ≡ u → IsTickWorked p (worked_by s (view_of old.machine.system p) old.machine.time) answer.note reach old new got
-      by (Acts told.Nothing) is = plain_call c (ap untraded is ∙ sym is) (ap own_traffic is)
+      by (Acts emission.Nothing) is = plain_call c (ap untraded is ∙ sym is) (ap own_traffic is)
       by (Acts (Trades own)) is = trading_call own c is
-      by (Acts (told.Upon id order)) is = plain_call c (ap untraded is ∙ sym is) (ap own_traffic is)
-      by (Acts (told.Plans change)) is = plain_call c (ap untraded is ∙ sym is) (ap own_traffic is)
-      by (Acts (told.UponAll event)) is = plain_call c (ap untraded is ∙ sym is) (ap own_traffic is)
+      by (Acts (emission.Upon id order)) is = plain_call c (ap untraded is ∙ sym is) (ap own_traffic is)
+      by (Acts (emission.Plans change)) is = plain_call c (ap untraded is ∙ sym is) (ap own_traffic is)
+      by (Acts (emission.UponAll event)) is = plain_call c (ap untraded is ∙ sym is) (ap own_traffic is)
       by (Meets event word) is = plain_call c (ap untraded is ∙ sym is) (ap own_traffic is)
 
 -- a call from these program counters
@@ -276,9 +276,9 @@ pub call_worked : (p pc npc n : ℕ) (answer : code.Served) (reach : Beyond) (ol
     → IsServed p (caller_at p pc npc old).sight (served (caller_at p pc npc old)) answer old one
     → two ≡ with_machine (with_part p (clocked (part_at p one.machine)) one.machine) one
     → n ≡ two.machine.ticks
-    → between ≡ had ++ map (line_of n p) (trace_told answer.note)
+    → between ≡ had ++ map (line_of n p) (trace_emissions answer.note)
     → IsPartDone p (by_upshot (upshot_of answer.act) (view_of two.machine.system p) two.machine.time (part_at p two.machine)).after
-    (by_upshot (upshot_of answer.act) (view_of two.machine.system p) two.machine.time (part_at p two.machine)).told two new between got
+    (by_upshot (upshot_of answer.act) (view_of two.machine.system p) two.machine.time (part_at p two.machine)).emitted two new between got
     → (by_upshot (upshot_of answer.act) (view_of two.machine.system p) two.machine.time (part_at p two.machine)).act ≡ act_beyond reach
     → ReachIsUponOne reach two.machine
     → IsTickWorked p (called (caller_at p pc npc old)) answer.note reach old new got
@@ -290,7 +290,7 @@ call_worked p pc npc n answer reach old one two new had between got below empty 
       acts = (served_keeps caller).acts;
       serves = serves;
       counts = counts;
-      traces = traces ∙ ap (λ (h : List ReportLine). h ++ map (line_of n p) (trace_told answer.note)) empty ∙ ap (λ (k : ℕ). map (line_of k p) (trace_told answer.note)) n_is;
+      traces = traces ∙ ap (λ (h : List ReportLine). h ++ map (line_of n p) (trace_emissions answer.note)) empty ∙ ap (λ (k : ℕ). map (line_of k p) (trace_emissions answer.note)) n_is;
       follows = follows;
       act = act;
       one_is = one_is;
@@ -310,23 +310,23 @@ call_quiet p pc npc answer old one two had below empty serves counts note_is act
 
 -- a call that put a message does nothing else
 put_alone : (conf : Conf) (p : ℕ) (upshot u : Upshot) (chan : ℕ) (bytes : List ℕ) (reach : Beyond) (view : PartitionView) (time : ℕ) (ps : PartitionState)
-    → told_as conf p (own_traffic upshot) ≡ Puts chan bytes → untraded upshot ≡ u → (by_upshot u view time ps).act ≡ act_beyond reach → act_beyond reach ≡ told.Nothing
-put_alone conf p (Acts told.Nothing) u chan bytes reach view time ps puts is act = absurd cc
+    → traffic_as conf p (own_traffic upshot) ≡ Puts chan bytes → untraded upshot ≡ u → (by_upshot u view time ps).act ≡ act_beyond reach → act_beyond reach ≡ emission.Nothing
+put_alone conf p (Acts emission.Nothing) u chan bytes reach view time ps puts is act = absurd cc
 put_alone conf p (Acts (Trades own)) u chan bytes reach view time ps puts is act = sym act ∙ ap (λ (upshot : Upshot). (by_upshot upshot view time ps).act) (sym is)
-put_alone conf p (Acts (told.Upon id order)) u chan bytes reach view time ps puts is act = absurd cc
-put_alone conf p (Acts (told.Plans change)) u chan bytes reach view time ps puts is act = absurd cc
-put_alone conf p (Acts (told.UponAll event)) u chan bytes reach view time ps puts is act = absurd cc
+put_alone conf p (Acts (emission.Upon id order)) u chan bytes reach view time ps puts is act = absurd cc
+put_alone conf p (Acts (emission.Plans change)) u chan bytes reach view time ps puts is act = absurd cc
+put_alone conf p (Acts (emission.UponAll event)) u chan bytes reach view time ps puts is act = absurd cc
 put_alone conf p (Meets event word) u chan bytes reach view time ps puts is act = absurd cc
 
 -- nor does what follows it change the memory
 put_memory : (conf : Conf) (p : ℕ) (u : Upshot) (chan : ℕ) (bytes : List ℕ) (view : PartitionView) (time : ℕ) (ps : PartitionState)
-    → told_as conf p (own_traffic u) ≡ Puts chan bytes → (by_upshot u view time (clocked ps)).after.memory ≡ ps.memory
+    → traffic_as conf p (own_traffic u) ≡ Puts chan bytes → (by_upshot u view time (clocked ps)).after.memory ≡ ps.memory
 unfolding clocked
-put_memory conf p (Acts told.Nothing) chan bytes view time ps puts = refl
+put_memory conf p (Acts emission.Nothing) chan bytes view time ps puts = refl
 put_memory conf p (Acts (Trades own)) chan bytes view time ps puts = refl
-put_memory conf p (Acts (told.Upon id order)) chan bytes view time ps puts = absurd cc
-put_memory conf p (Acts (told.Plans change)) chan bytes view time ps puts = refl
-put_memory conf p (Acts (told.UponAll event)) chan bytes view time ps puts = refl
+put_memory conf p (Acts (emission.Upon id order)) chan bytes view time ps puts = absurd cc
+put_memory conf p (Acts (emission.Plans change)) chan bytes view time ps puts = refl
+put_memory conf p (Acts (emission.UponAll event)) chan bytes view time ps puts = refl
 put_memory conf p (Meets event word) chan bytes view time ps puts = absurd cc
 
 -- one that was shown bytes does nothing, or asks for a plan
@@ -343,23 +343,23 @@ mild_memory u view time ps (inr (plan, asks)) = ap (λ (x : Upshot). (by_upshot 
 
 -- an order on itself and a health event have no traffic
 order_still : (b : Bool) (view : PartitionView) (id : ℕ) (order : Order) (ps : PartitionState)
-    → traffic_of (if b then self_ordered view order ps else record (quiet ps) { act = told.Upon id order }).act ≡ OwnStill
+    → traffic_of (if b then self_ordered view order ps else record (quiet ps) { act = emission.Upon id order }).act ≡ OwnStill
 unfolding self_ordered
 order_still true view id order ps = refl
 order_still false view id order ps = refl
 
 -- what follows a call has the call's traffic
 same_traffic : (u : Upshot) (view : PartitionView) (time : ℕ) (ps : PartitionState) → traffic_of (by_upshot u view time ps).act ≡ own_traffic u
-same_traffic (Acts told.Nothing) view time ps = refl
+same_traffic (Acts emission.Nothing) view time ps = refl
 same_traffic (Acts (Trades own)) view time ps = refl
-same_traffic (Acts (told.Upon id order)) view time ps = order_still (id == view.id) view id order ps
-same_traffic (Acts (told.Plans change)) view time ps = refl
-same_traffic (Acts (told.UponAll event)) view time ps = refl
+same_traffic (Acts (emission.Upon id order)) view time ps = order_still (id == view.id) view id order ps
+same_traffic (Acts (emission.Plans change)) view time ps = refl
+same_traffic (Acts (emission.UponAll event)) view time ps = refl
 same_traffic (Meets event word) view time ps = handled_still view time event word None ps
 
 -- the bytes that a note names of a message, and those that were shown, are still there
 bytes_same : (conf : Conf) (p : ℕ) (a_note : Note) (seen : Sight) (s : Served) (view : PartitionView) (time : ℕ) → ((bytes : List ℕ) → seen ≡ Words bytes → Mild s.upshot)
-    → told_as conf p (own_traffic s.upshot) ≡ traffic_by p a_note s.after.memory → seen ≡ sight_by a_note s.after.memory
+    → traffic_as conf p (own_traffic s.upshot) ≡ traffic_by p a_note s.after.memory → seen ≡ sight_by a_note s.after.memory
     → (traffic_by p a_note s.after.memory ≡ traffic_by p a_note (by_upshot s.upshot view time (clocked s.after)).after.memory)
     × (sight_by a_note s.after.memory ≡ sight_by a_note (by_upshot s.upshot view time (clocked s.after)).after.memory)
 bytes_same conf p note.Nothing seen s view time mild trades shows = (refl, refl)
@@ -384,30 +384,30 @@ saw_mild p pc npc old bytes shows = at (observed_by (view_of old.machine.system 
 
 -- what a call's note reports is its traffic and what it was shown
 pub call_noted : (p pc npc : ℕ) (answer : code.Served) (old one : SysState) → IsServed p (caller_at p pc npc old).sight (served (caller_at p pc npc old)) answer old one
-    → IsToldBy p (caller_at p pc npc old).sight (called (caller_at p pc npc old)) answer.note old
+    → IsNotedBy p (caller_at p pc npc old).sight (called (caller_at p pc npc old)) answer.note old
 unfolding called caller_at
 call_noted p pc npc answer old one serves =
     let caller = caller_at p pc npc old in
     let same = bytes_same old.machine.system.conf p answer.note caller.sight (served caller) caller.view caller.time (saw_mild p pc npc old) serves.traffic serves.seen in
     record {
-      traffic = ap (told_as old.machine.system.conf p) (same_traffic (served caller).upshot caller.view caller.time (clocked (served caller).after)) ∙ serves.traffic ∙ same.0;
+      traffic = ap (traffic_as old.machine.system.conf p) (same_traffic (served caller).upshot caller.view caller.time (clocked (served caller).after)) ∙ serves.traffic ∙ same.0;
       seen = serves.seen ∙ same.1;
     }
 
 -- what follows a call that made an entry keeps the traces
-entered_after : (s : Served) (a_note : Note) (before : Kept TraceEntry) (view : PartitionView) (time : ℕ) → s.told ≡ told_by a_note s.after.memory → (s.told ≡ []) ⊎ (s.upshot ≡ Acts told.Nothing)
+entered_after : (s : Served) (a_note : Note) (before : Kept TraceEntry) (view : PartitionView) (time : ℕ) → s.emitted ≡ emissions_by a_note s.after.memory → (s.emitted ≡ []) ⊎ (s.upshot ≡ Acts emission.Nothing)
     → IsEntered a_note before s.after.traces → IsEntered a_note before (by_upshot s.upshot view time (clocked s.after)).after.traces
 unfolding clocked
-entered_after s note.Nothing before view time told_is acts entered = tt
-entered_after s (note.Console at size) before view time told_is acts entered = tt
-entered_after s (note.Trace entry) before view time told_is (inl none) entered = absurd cc
-entered_after s (note.Trace entry) before view time told_is (inr nothing) entered =
+entered_after s note.Nothing before view time emitted_is acts entered = tt
+entered_after s (note.Console at size) before view time emitted_is acts entered = tt
+entered_after s (note.Trace entry) before view time emitted_is (inl none) entered = absurd cc
+entered_after s (note.Trace entry) before view time emitted_is (inr nothing) entered =
     subst (λ (u : Upshot). (by_upshot u view time (clocked s.after)).after.traces ≡ noted entry before) (sym nothing) entered
-entered_after s (note.Put chan at size) before view time told_is acts entered = tt
-entered_after s (note.Take chan) before view time told_is acts entered = tt
-entered_after s (note.Saw at size) before view time told_is acts entered = tt
-entered_after s note.NotKept before view time told_is acts entered = tt
-entered_after s (note.Signal number) before view time told_is acts entered = tt
+entered_after s (note.Put chan at size) before view time emitted_is acts entered = tt
+entered_after s (note.Take chan) before view time emitted_is acts entered = tt
+entered_after s (note.Saw at size) before view time emitted_is acts entered = tt
+entered_after s note.NotKept before view time emitted_is acts entered = tt
+entered_after s (note.Signal number) before view time emitted_is acts entered = tt
 
 -- the entry that a call's note has is the one that it made
 pub call_entered : (p pc npc : ℕ) (answer : code.Served) (old one : SysState) → IsServed p (caller_at p pc npc old).sight (served (caller_at p pc npc old)) answer old one
@@ -415,30 +415,30 @@ pub call_entered : (p pc npc : ℕ) (answer : code.Served) (old one : SysState) 
 unfolding called caller_at
 call_entered p pc npc answer old one serves =
     let caller = caller_at p pc npc old in
-    entered_after (served caller) answer.note (part_at p old.machine).traces caller.view caller.time serves.told (served_keeps caller).acts serves.entered
+    entered_after (served caller) answer.note (part_at p old.machine).traces caller.view caller.time serves.emitted (served_keeps caller).acts serves.entered
 
 -- where what follows a call of this upshot reaches, by its note
-reach_told : (conf : Conf) (p : ℕ) (seen : Sight) (a_note : Note) (s : Served) (u : Upshot) (reach : Beyond) (view : PartitionView) (time : ℕ) (ps : PartitionState) → s.told ≡ told_by a_note s.after.memory → (s.told ≡ []) ⊎ (s.upshot ≡ Acts told.Nothing)
-    → told_as conf p (own_traffic s.upshot) ≡ traffic_by p a_note s.after.memory → seen ≡ sight_by a_note s.after.memory → ((bytes : List ℕ) → seen ≡ Words bytes → Mild s.upshot)
-    → untraded s.upshot ≡ u → (by_upshot u view time ps).act ≡ act_beyond reach → TellsAlone a_note reach
-reach_told conf p seen note.Nothing s u reach view time ps told_is acts trades shows mild is act = tt
-reach_told conf p seen (note.Console at size) s u reach view time ps told_is (inl none) trades shows mild is act = absurd cc
-reach_told conf p seen (note.Console at size) s u reach view time ps told_is (inr nothing) trades shows mild is act =
+reach_noted : (conf : Conf) (p : ℕ) (seen : Sight) (a_note : Note) (s : Served) (u : Upshot) (reach : Beyond) (view : PartitionView) (time : ℕ) (ps : PartitionState) → s.emitted ≡ emissions_by a_note s.after.memory → (s.emitted ≡ []) ⊎ (s.upshot ≡ Acts emission.Nothing)
+    → traffic_as conf p (own_traffic s.upshot) ≡ traffic_by p a_note s.after.memory → seen ≡ sight_by a_note s.after.memory → ((bytes : List ℕ) → seen ≡ Words bytes → Mild s.upshot)
+    → untraded s.upshot ≡ u → (by_upshot u view time ps).act ≡ act_beyond reach → EmitsAlone a_note reach
+reach_noted conf p seen note.Nothing s u reach view time ps emitted_is acts trades shows mild is act = tt
+reach_noted conf p seen (note.Console at size) s u reach view time ps emitted_is (inl none) trades shows mild is act = absurd cc
+reach_noted conf p seen (note.Console at size) s u reach view time ps emitted_is (inr nothing) trades shows mild is act =
     sym act ∙ ap (λ (upshot : Upshot). (by_upshot upshot view time ps).act) (sym is ∙ ap untraded nothing)
-reach_told conf p seen (note.Trace entry) s u reach view time ps told_is acts trades shows mild is act = tt
-reach_told conf p seen (note.Put chan at size) s u reach view time ps told_is acts trades shows mild is act = put_alone conf p s.upshot u chan _ reach view time ps trades is act
-reach_told conf p seen (note.Take chan) s u reach view time ps told_is acts trades shows mild is act = tt
-reach_told conf p seen (note.Saw at size) s u reach view time ps told_is acts trades shows mild is act = mild_alone s.upshot u reach view time ps (mild _ shows) is act
-reach_told conf p seen note.NotKept s u reach view time ps told_is acts trades shows mild is act = tt
-reach_told conf p seen (note.Signal number) s u reach view time ps told_is acts trades shows mild is act = tt
+reach_noted conf p seen (note.Trace entry) s u reach view time ps emitted_is acts trades shows mild is act = tt
+reach_noted conf p seen (note.Put chan at size) s u reach view time ps emitted_is acts trades shows mild is act = put_alone conf p s.upshot u chan _ reach view time ps trades is act
+reach_noted conf p seen (note.Take chan) s u reach view time ps emitted_is acts trades shows mild is act = tt
+reach_noted conf p seen (note.Saw at size) s u reach view time ps emitted_is acts trades shows mild is act = mild_alone s.upshot u reach view time ps (mild _ shows) is act
+reach_noted conf p seen note.NotKept s u reach view time ps emitted_is acts trades shows mild is act = tt
+reach_noted conf p seen (note.Signal number) s u reach view time ps emitted_is acts trades shows mild is act = tt
 
--- a call that tells bytes for the console reaches nothing
+-- a call that emits bytes for the console reaches nothing
 pub call_alone : (p pc npc : ℕ) (answer : code.Served) (reach : Beyond) (old one two : SysState)
     → IsServed p (caller_at p pc npc old).sight (served (caller_at p pc npc old)) answer old one
-    → (by_upshot (upshot_of answer.act) (view_of two.machine.system p) two.machine.time (part_at p two.machine)).act ≡ act_beyond reach → TellsAlone answer.note reach
+    → (by_upshot (upshot_of answer.act) (view_of two.machine.system p) two.machine.time (part_at p two.machine)).act ≡ act_beyond reach → EmitsAlone answer.note reach
 call_alone p pc npc answer reach old one two serves act =
     let caller = caller_at p pc npc old in
-    reach_told old.machine.system.conf p caller.sight answer.note (served caller) (upshot_of answer.act) reach (view_of two.machine.system p) two.machine.time (part_at p two.machine) serves.told
+    reach_noted old.machine.system.conf p caller.sight answer.note (served caller) (upshot_of answer.act) reach (view_of two.machine.system p) two.machine.time (part_at p two.machine) serves.emitted
     (served_keeps caller).acts serves.traffic serves.seen (saw_mild p pc npc old) serves.upshot act
 
 -- a call keeps the health log and the execution clock of its partition

@@ -8,12 +8,12 @@ use Rattle.machine_model.specs.LogCalls.{hm_read, hm_status, trace_read, trace_s
 use Rattle.machine_model.specs.Observed.{CurrentPlan, HealthCounts, HealthEntryOf, Observation, PartitionStatus, PlanStatus, SystemStatus, TraceCounts, TraceEntryOf, about_other, about_system, observed_by, observing}
 use Rattle.machine_model.specs.PartitionCalls.{get_partition_status, get_system_status}
 use Rattle.machine_model.specs.TimeCalls.{get_plan_status, switch_sched_plan}
-use Rattle.machine_model.specs.Told as told
+use Rattle.machine_model.specs.Emission as emission
 use Rattle.machine_model.specs.View.{PartitionView}
 
 -- nothing is done, or a plan is asked for
 abbrev pub Mild : Upshot → Type 0
-Mild upshot = (upshot ≡ Acts told.Nothing) ⊎ ((plan : ℕ) × (upshot ≡ Acts (told.Plans (told.Asked plan))))
+Mild upshot = (upshot ≡ Acts emission.Nothing) ⊎ ((plan : ℕ) × (upshot ≡ Acts (emission.Plans (emission.Asked plan))))
 
 -- a refused call does nothing
 tested_mild : (tests : List Test) (caller : Caller) (comes : Served) → Mild comes.upshot → Mild (tested tests caller comes).upshot

@@ -5,14 +5,14 @@ use Rattle.std.specs.Prelude.{◌==◌, if◌then◌else◌, None}
 use Rattle.machine_model.specs.Caller.{Caller, Served, a_of, answering, b_of, c_of, unknown_call}
 use Rattle.machine_model.specs.Hypercalls.{call_numbered}
 use Rattle.machine_model.specs.Observed.{observing}
-use Rattle.machine_model.specs.Told.{Sight, Unseen}
+use Rattle.machine_model.specs.Emission.{Sight, Unseen}
 use Rattle.machine_model.specs.View.{PartitionView}
 use Rattle.sparc_step.specs.Registers.{register_at}
-use Rattle.whole_system.specs.Serving.{IsServed, caller_of}
-use Rattle.whole_system.specs.State.{SysState}
-use Rattle.whole_system.specs.declared.call_site.CallSite.{CallSite}
-use Rattle.whole_system.specs.declared.served.Served as code
-use Rattle.whole_system.specs.SightLemmas.{shown_for, sight_of_number}
+use Rattle.system_state.specs.Serving.{IsServed, caller_of}
+use Rattle.system_state.specs.State.{SysState}
+use Rattle.system_state.specs.declared.call_site.CallSite.{CallSite}
+use Rattle.system_state.specs.declared.served.Served as code
+use Rattle.system_state.specs.SightLemmas.{shown_for, sight_of_number}
 
 -- a call of this number observes nothing
 abbrev pub ObservesNothing : ℕ → Type 0

@@ -1,29 +1,29 @@
-//! An instruction of a partition that calls: the call is served, and told.
+//! An instruction of a partition that calls: the call is served, and reported.
 
 ghost use Rattle.std.specs.Prelude.{◌≡◌, ◌+◌, ◌%◌, ◌^◌, ◌<◌, ◌≤◌, ◌++◌, [], Some, length, map};
 ghost use Rattle.std.specs.Bool.{OnTrue};
 ghost use Rattle.cyclic_plans.specs.PlanClock.{AsksPlan, IsInFrame};
-ghost use Rattle.whole_system.specs.Serving as serving;
-ghost use Rattle.whole_system.specs.Serving.{AreAsked, IsEntered, IsServed, caller_at, upshot_of};
+ghost use Rattle.system_state.specs.Serving as serving;
+ghost use Rattle.system_state.specs.Serving.{AreAsked, IsEntered, IsServed, caller_at, upshot_of};
 ghost use Rattle.machine_model.specs.Facts.{AreEnds};
 ghost use Rattle.machine_model.specs.Hypercalls.{served};
 ghost use Rattle.machine_model.specs.LocalTick.{by_act, by_upshot, called};
-ghost use Rattle.machine_model.specs.Told.{Upon, line_of};
+ghost use Rattle.machine_model.specs.Emission.{Upon, line_of};
 ghost use Rattle.machine_model.specs.View.{view_of};
-ghost use Rattle.slot_runs.specs.Passes.{part_at};
+ghost use Rattle.span_model.specs.Passes.{part_at};
 ghost use Rattle.xm_ports.specs.Channels.{shapes_of};
-ghost use Rattle.tick_pieces.specs.Work.{IsPartDone, IsToldBy, ReachIsUponOne, IsTickWorked, TellsAlone, act_beyond, note_in, reach_in, trace_told};
+ghost use Rattle.tick_steps.specs.Work.{IsPartDone, IsNotedBy, ReachIsUponOne, IsTickWorked, EmitsAlone, act_beyond, note_in, reach_in, trace_emissions};
 
 use crate::serving::serve;
-use tick_pieces::{Beyond, Lines, handle_event, obey, program_counter};
-use whole_system::{Act, Note, Served, Sys, engine};
+use system_state::{Act, Note, Served, Sys, engine};
+use tick_steps::{Beyond, Lines, handle_event, obey, program_counter};
 use xm_base::{Order, PartId};
 use xm_report::Line;
 
 /// An instruction of a partition, at this program counter, called. The call's note, and how it reaches beyond the partition; none where it
 /// notes nothing and reaches beyond no partition, as most do.
 #[inline(always)]
-pub fn call_told(sys: &mut Sys, lines: &mut Lines, p: PartId, pc: u32) -> Option<(Note, Beyond)>
+pub fn call_reported(sys: &mut Sys, lines: &mut Lines, p: PartId, pc: u32) -> Option<(Note, Beyond)>
     requires partition { p < length sys.old.machine.parts }
     requires pc { pc % 4 ≡ 0 }
     requires next { (part_at p sys.old.machine).core.npc ≡ ((part_at p sys.old.machine).core.pc + 4) % 2 ^ 32 }
@@ -36,8 +36,8 @@ pub fn call_told(sys: &mut Sys, lines: &mut Lines, p: PartId, pc: u32) -> Option
     requires log { (part_at p sys.old.machine).health.next < 4294967294 }
     requires empty { lines.old ≡ [] }
     ensures worked { IsTickWorked p (called (caller_at p pc (part_at p sys.old.machine).core.pc sys.old)) (note_in result) (reach_in result) sys.old sys.new lines.new }
-    ensures alone { TellsAlone (note_in result) (reach_in result) }
-    ensures noted { IsToldBy p (caller_at p pc (part_at p sys.old.machine).core.pc sys.old).sight (called (caller_at p pc (part_at p sys.old.machine).core.pc sys.old)) (note_in result) sys.old }
+    ensures alone { EmitsAlone (note_in result) (reach_in result) }
+    ensures noted { IsNotedBy p (caller_at p pc (part_at p sys.old.machine).core.pc sys.old).sight (called (caller_at p pc (part_at p sys.old.machine).core.pc sys.old)) (note_in result) sys.old }
     ensures asked { AreAsked (note_in result) (view_of sys.old.machine.system p) (part_at p sys.old.machine).core }
     ensures entered { IsEntered (note_in result) (part_at p sys.old.machine).traces (called (caller_at p pc (part_at p sys.old.machine).core.pc sys.old)).after.traces }
     ensures few { length lines.new ≤ 4 }
@@ -47,7 +47,7 @@ pub fn call_told(sys: &mut Sys, lines: &mut Lines, p: PartId, pc: u32) -> Option
     if is_quiet(served.note, served.act) {
         return None;
     }
-    tell_trace(lines, sys.ticks(), p, served.note);
+    put_trace(lines, sys.ticks(), p, served.note);
     let reach = follow(sys, lines, p, served.act);
     Some((served.note, reach))
 }
@@ -77,10 +77,10 @@ fn serve_call(sys: &mut Sys, p: PartId, pc: u32) -> Served
     serve(sys, p, pc, npc)
 }
 
-// Tells the entry that a call made in its partition's traces, where it made one.
-fn tell_trace(lines: &mut Lines, n: u64, p: PartId, note: Note)
+// Emits the entry that a call made in its partition's traces, where it made one.
+fn put_trace(lines: &mut Lines, n: u64, p: PartId, note: Note)
     requires { length lines.old < 40 }
-    ensures value { lines.new ≡ lines.old ++ map (line_of n p) (trace_told note) }
+    ensures value { lines.new ≡ lines.old ++ map (line_of n p) (trace_emissions note) }
     ensures few { length lines.new ≤ length lines.old + 1 }
 {
     if let Note::Trace(entry) = note {
@@ -100,7 +100,7 @@ fn follow(sys: &mut Sys, lines: &mut Lines, p: PartId, act: Act) -> Beyond
     requires log { (part_at p sys.old.machine).health.next < 4294967294 }
     requires room { length lines.old ≤ 20 }
     requires one { serving.IsUponOne act sys.old }
-    ensures done { IsPartDone p (by_upshot (upshot_of act) (view_of sys.old.machine.system p) sys.old.machine.time (part_at p sys.old.machine)).after (by_upshot (upshot_of act) (view_of sys.old.machine.system p) sys.old.machine.time (part_at p sys.old.machine)).told sys.old sys.new lines.old lines.new }
+    ensures done { IsPartDone p (by_upshot (upshot_of act) (view_of sys.old.machine.system p) sys.old.machine.time (part_at p sys.old.machine)).after (by_upshot (upshot_of act) (view_of sys.old.machine.system p) sys.old.machine.time (part_at p sys.old.machine)).emitted sys.old sys.new lines.old lines.new }
     ensures act { (by_upshot (upshot_of act) (view_of sys.old.machine.system p) sys.old.machine.time (part_at p sys.old.machine)).act ≡ act_beyond result }
     ensures one { ReachIsUponOne result sys.old.machine }
     ensures few { length lines.new ≤ length lines.old + 3 }
@@ -122,7 +122,7 @@ fn give_order(sys: &mut Sys, lines: &mut Lines, p: PartId, id: PartId, order: Or
     requires partition { p < length sys.old.machine.parts }
     requires room { length lines.old ≤ 20 }
     requires one { id < length sys.old.machine.parts }
-    ensures done { IsPartDone p (by_act (Upon id order) (view_of sys.old.machine.system p) (part_at p sys.old.machine)).after (by_act (Upon id order) (view_of sys.old.machine.system p) (part_at p sys.old.machine)).told sys.old sys.new lines.old lines.new }
+    ensures done { IsPartDone p (by_act (Upon id order) (view_of sys.old.machine.system p) (part_at p sys.old.machine)).after (by_act (Upon id order) (view_of sys.old.machine.system p) (part_at p sys.old.machine)).emitted sys.old sys.new lines.old lines.new }
     ensures act { (by_act (Upon id order) (view_of sys.old.machine.system p) (part_at p sys.old.machine)).act ≡ act_beyond result }
     ensures one { ReachIsUponOne result sys.old.machine }
     ensures few { length lines.new ≤ length lines.old + 3 }

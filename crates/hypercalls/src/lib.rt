@@ -4,7 +4,7 @@
 mod calling;
 mod serving;
 
-pub use calling::call_told;
+pub use calling::call_reported;
 pub use serving::serve;
-pub use whole_system::{Act, Gone, InputFault, Inputs, Note, PartState, Served, Sys};
+pub use system_state::{Act, Gone, InputFault, Inputs, Note, PartState, Served, Sys};
 pub use xm_base::Order;

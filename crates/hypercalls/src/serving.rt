@@ -4,10 +4,10 @@ ghost use Rattle.std.specs.Prelude.{◌≡◌, ◌⊎◌, ◌%◌, ◌<◌, ◌�
 ghost use Rattle.std.specs.Bool.{OnTrue};
 ghost use Rattle.cyclic_plans.specs.PlanClock.{IsInFrame};
 ghost use Rattle.machine_model.specs.Hypercalls.{call_numbered, served};
-ghost use Rattle.slot_runs.specs.Passes.{part_at};
+ghost use Rattle.span_model.specs.Passes.{part_at};
 ghost use Rattle.sparc_step.specs.Registers.{register_at};
 ghost use Rattle.xm_ports.specs.Channels.{shapes_of};
-ghost use Rattle.whole_system.specs.Serving.{IsCaller, IsServed, caller_at, caller_of};
+ghost use Rattle.system_state.specs.Serving.{IsCaller, IsServed, caller_at, caller_of};
 ghost use Rattle.hypercalls.specs.Numbered.{IsNumbered};
 
 use control_calls::{
@@ -17,16 +17,16 @@ use control_calls::{
     set_timer, switch_sched_plan, trace_event, trace_read, trace_status, write_console,
 };
 use port_calls::{PortWork, call_port, create_port, raise_ipvi};
-use whole_system::answering::{UNKNOWN_CALL, answer, argument};
-use whole_system::{CallSite, Served, Sys};
+use system_state::answering::{UNKNOWN_CALL, answer, argument};
+use system_state::{CallSite, Served, Sys};
 use xm_base::{Order, PartId};
 use xm_conf::Kind;
 
 /// Serves the hypercall of partition `p`, whose trap instruction stood at `pc`, with `npc` after it: its number stands in %o0, its
-/// arguments in %o1 to %o5, and its result comes to %o0. It changes its caller, the channels of the caller's ports, and of other partitions
+/// arguments in %o1 to %o5, and its result goes to %o0. It changes its caller, the channels of the caller's ports, and of other partitions
 /// only that those that hear of a message or of a signal get its interrupt.
 #[inline(always)]
-#[tactic(auto, unfolding(whole_system::specs::Serving::caller_of, whole_system::specs::Serving::caller_at, machine_model::specs::Hypercalls::served))]
+#[tactic(auto, unfolding(system_state::specs::Serving::caller_of, system_state::specs::Serving::caller_at, machine_model::specs::Hypercalls::served))]
 pub fn serve(sys: &mut Sys, p: PartId, pc: u32, npc: u32) -> Served
     requires partition { p < length sys.old.machine.parts }
     requires pc { pc % 4 ≡ 0 }
@@ -36,13 +36,13 @@ pub fn serve(sys: &mut Sys, p: PartId, pc: u32, npc: u32) -> Served
     requires frame { IsInFrame sys.old.machine.system.conf sys.old.machine.clock sys.old.machine.time }
     ensures served { IsServed p (caller_at p pc npc sys.old).sight (served (caller_at p pc npc sys.old)) result sys.old sys.new }
 {
-    serve_site(sys, CallSite { part: p, pc, npc })
+    serve_caller(sys, CallSite { part: p, pc, npc })
 }
 
 // Serves the hypercall of a caller.
 #[inline(always)]
-#[tactic(auto, unfolding(whole_system::specs::Serving::caller_of, whole_system::specs::Serving::caller_at, machine_model::specs::Hypercalls::served))]
-fn serve_site(sys: &mut Sys, site: CallSite) -> Served
+#[tactic(auto, unfolding(system_state::specs::Serving::caller_of, system_state::specs::Serving::caller_at, machine_model::specs::Hypercalls::served))]
+fn serve_caller(sys: &mut Sys, site: CallSite) -> Served
     requires caller { IsCaller site sys.old }
     requires pc { site.pc % 4 ≡ 0 }
     requires npc { site.npc % 4 ≡ 0 }
@@ -55,7 +55,7 @@ fn serve_site(sys: &mut Sys, site: CallSite) -> Served
     if !is_call(number) {
         return answer(sys, site, UNKNOWN_CALL);
     }
-    serve_at(sys, site.part, site.pc, site.npc, number)
+    serve_from_values(sys, site.part, site.pc, site.npc, number)
 }
 
 // Whether a call has this number.
@@ -69,8 +69,8 @@ fn is_call(number: u32) -> bool
 
 // Serves the call of a number. The caller is given by values, so that nothing is put into memory for a number that no call has.
 #[inline(never)]
-#[tactic(auto, unfolding(whole_system::specs::Serving::caller_of, whole_system::specs::Serving::caller_at))]
-fn serve_at(sys: &mut Sys, part: PartId, pc: u32, npc: u32, number: u32) -> Served
+#[tactic(auto, unfolding(system_state::specs::Serving::caller_of, system_state::specs::Serving::caller_at))]
+fn serve_from_values(sys: &mut Sys, part: PartId, pc: u32, npc: u32, number: u32) -> Served
     requires partition { part < length sys.old.machine.parts }
     requires number { register_at (caller_at part pc npc sys.old).state.core 8 ≡ number }
     requires from { 1 ≤ number }
@@ -157,11 +157,11 @@ fn serve_port_call(sys: &mut Sys, site: CallSite, number: u32) -> Served
         16 => create_port(sys, site, Kind::Sampling),
         17 => call_port(sys, site, Kind::Sampling, PortWork::Send),
         18 => call_port(sys, site, Kind::Sampling, PortWork::Receive),
-        19 => call_port(sys, site, Kind::Sampling, PortWork::Tell),
+        19 => call_port(sys, site, Kind::Sampling, PortWork::Status),
         20 => create_port(sys, site, Kind::Queuing),
         21 => call_port(sys, site, Kind::Queuing, PortWork::Send),
         22 => call_port(sys, site, Kind::Queuing, PortWork::Receive),
-        _ => call_port(sys, site, Kind::Queuing, PortWork::Tell),
+        _ => call_port(sys, site, Kind::Queuing, PortWork::Status),
     }
 }
 

@@ -93,7 +93,7 @@ rest_on parts images n part image below within is_part is_image =
     ∙ ap (λ p. outside_or n (outside_in p.areas (get_or images n image).segments) later) (sym is_part)
     ∙ ap (λ i. outside_or n (outside_in part.areas i.segments) later) (sym is_image)
 
--- an image that lies inside: the rest tells the first
+-- an image that lies inside: the rest determines the first
 pub outside_on : (parts : List Part) (images : List Image) (n : ℕ) (part : Part) (image : Image) (r : Option Outside) → n < length parts → n < length images
     → part ≡ get_or parts n part → image ≡ get_or images n image → outside_in part.areas image.segments ≡ None
     → first_outside_from n (drop n parts) (drop n images) ≡ r → first_outside_from (n + 1) (drop (n + 1) parts) (drop (n + 1) images) ≡ r

@@ -15,7 +15,7 @@ use xm_conf::{Area, Conf, EVENTS, Event, HmTable, Name, Part, Plan, RawConf, Reg
 pub enum BareFault {
     /// It has no bytes, or more than `IMAGE_BYTES`.
     Length { found: usize },
-    /// There was no memory for it.
+    /// Memory ran out for it.
     Memory,
 }
 

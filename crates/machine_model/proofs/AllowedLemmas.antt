@@ -1,4 +1,4 @@
--- What a tick tells a partition is as the partition's channels and its calls allow.
+-- What a partition receives in a tick is as its channels and its calls allow.
 use Rattle.std.proofs.Common.{◌≡◌, ℕ, ◌<◌, Bool, true, false, List, length, get_or, Option, None, Some, refl, sym, ap, ◌∙◌, subst, arith}
 use Rattle.std.specs.Prelude.{slice_get, slice_index_or, IsSome, ◌==◌, ◌||◌, not, nat_lt, if◌then◌else◌}
 use Rattle.std.proofs.lemmas.Bool.Decides.{nat_tests}
@@ -21,7 +21,7 @@ use Rattle.machine_model.specs.Machine.{Machine, answer_to, booted_part, copies,
 use Rattle.machine_model.specs.Observed.{CurrentPlan, HealthCounts, HealthEntryOf, Observation, PartitionStatus, PlanStatus, Question, SystemStatus, TraceCounts, TraceEntryOf, about_other, about_system, asked_by, asks, if_call, observed_by, observing, unless_delivered}
 use Rattle.machine_model.specs.Partition.{PartitionState, areas_of}
 use Rattle.machine_model.specs.Structures.{counts_bytes, health_bytes, partition_status, trace_bytes}
-use Rattle.machine_model.specs.Told.{NotKept, Sight, Unseen, Words}
+use Rattle.machine_model.specs.Emission.{NotKept, Sight, Unseen, Words}
 use Rattle.machine_model.specs.Traffic.{Puts, Signals, Still, Takes, Traffic, content_if, heard_as, own_puts_at, own_signals_at, own_takes_at}
 use Rattle.machine_model.specs.View.{PartitionView, PortChannel, linked, name_of, view_of}
 use Rattle.machine_model.specs.NameLemmas.{name_is, name_named}

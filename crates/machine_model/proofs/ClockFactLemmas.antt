@@ -22,8 +22,8 @@ use Rattle.machine_model.specs.Facts.{BootsClocked, IsClocked, KeepsClocked, Run
 use Rattle.machine_model.specs.Machine.{Machine, SlotTurn, act_of, after, clock_after, copies, happened, happened_by, local, local_in, local_of, next_clock, run, sight_of_state, start, step, taken_by, turn_of}
 use Rattle.machine_model.specs.OwnActs.{IsWithinOwn}
 use Rattle.machine_model.specs.Partition.{PartitionState, takes_turns}
-use Rattle.machine_model.specs.Told as told
-use Rattle.machine_model.specs.Told.{Act, AllHalted, AllReset, Asked, Maintenance, NoEvent}
+use Rattle.machine_model.specs.Emission as emission
+use Rattle.machine_model.specs.Emission.{Act, AllHalted, AllReset, Asked, Maintenance, NoEvent}
 use Rattle.machine_model.specs.View.{System, no_part, part_of, view_of}
 use Rattle.machine_model.specs.Whole.{event_of, time_after}
 use Rattle.machine_model.proofs.WithinLemmas.{local_within}
@@ -31,12 +31,12 @@ use Rattle.machine_model.proofs.RunLemmas.{step_system}
 
 -- an act of a tick asks for a plan that there is, and starts maintenance where plan 1 is there
 abbrev FitsPlans : Conf → Act → Type 0
-FitsPlans conf told.Nothing = Unit {0}
-FitsPlans conf (told.Trades traffic) = Unit {0}
-FitsPlans conf (told.Upon id order) = Unit {0}
-FitsPlans conf (told.Plans (Asked plan)) = plan < length conf.plans
-FitsPlans conf (told.Plans Maintenance) = 1 < length conf.plans
-FitsPlans conf (told.UponAll event) = Unit {0}
+FitsPlans conf emission.Nothing = Unit {0}
+FitsPlans conf (emission.Trades traffic) = Unit {0}
+FitsPlans conf (emission.Upon id order) = Unit {0}
+FitsPlans conf (emission.Plans (Asked plan)) = plan < length conf.plans
+FitsPlans conf (emission.Plans Maintenance) = 1 < length conf.plans
+FitsPlans conf (emission.UponAll event) = Unit {0}
 
 -- a plan that a partition sees is there
 seen_there : (parts plans : ℕ) (flag : Bool) (plan : ℕ) → nat_lt plan (counts_seen parts plans flag).plans ≡ true → plan < plans
@@ -77,13 +77,13 @@ plans_some conf fits = fits.counts.plans.some
 -- an act that is within what a partition has fits the plans
 fits_plans : (system : System) (p : ℕ) (contents : List (Option Content)) (act : Act) → Fits (described system.conf) → IsWithinOwn (view_of system p) contents act → FitsPlans system.conf act
 unfolding sees view_of
-fits_plans system p contents told.Nothing fits within = tt
-fits_plans system p contents (told.Trades traffic) fits within = tt
-fits_plans system p contents (told.Upon id order) fits within = tt
-fits_plans system p contents (told.Plans (Asked plan)) fits within =
+fits_plans system p contents emission.Nothing fits within = tt
+fits_plans system p contents (emission.Trades traffic) fits within = tt
+fits_plans system p contents (emission.Upon id order) fits within = tt
+fits_plans system p contents (emission.Plans (Asked plan)) fits within =
     seen_there (length system.conf.parts) (length system.conf.plans) (is_system (slice_get system.conf.parts p)) plan within.0
-fits_plans system p contents (told.Plans Maintenance) fits within = maintenance_there system.conf p fits within.event within.is
-fits_plans system p contents (told.UponAll event) fits within = tt
+fits_plans system p contents (emission.Plans Maintenance) fits within = maintenance_there system.conf p fits within.event within.is
+fits_plans system p contents (emission.UponAll event) fits within = tt
 
 -- the act of a tick fits them
 taken_fits : (g : Machine) (p : ℕ) (first : Bool) (o : Option PartitionState) → Fits (described g.system.conf) → FitsPlans g.system.conf (act_of (taken_by g p first o))
@@ -133,18 +133,18 @@ ended_right conf clock now fits right = at (ends_frame conf clock now) refl
 act_right : (conf : Conf) (clock : CyclicClock) (now : ℕ) (act : Act) → Fits (described conf) → AreRight conf clock now → FitsPlans conf act
     → AreRight conf (clock_after (event_of act) conf act clock now) (time_after (event_of act) now)
 unfolding clock_started in_maintenance
-act_right conf clock now told.Nothing fits right plans = ended_right conf clock now fits right
-act_right conf clock now (told.Trades traffic) fits right plans = ended_right conf clock now fits right
-act_right conf clock now (told.Upon id order) fits right plans = ended_right conf clock now fits right
-act_right conf clock now (told.Plans (Asked plan)) fits right plans =
+act_right conf clock now emission.Nothing fits right plans = ended_right conf clock now fits right
+act_right conf clock now (emission.Trades traffic) fits right plans = ended_right conf clock now fits right
+act_right conf clock now (emission.Upon id order) fits right plans = ended_right conf clock now fits right
+act_right conf clock now (emission.Plans (Asked plan)) fits right plans =
     ended_right conf (record clock { asked = Some plan }) now fits (record {
       in_frame = record { plan = right.in_frame.plan; begun = right.in_frame.begun; before_end = right.in_frame.before_end };
       asked = plans;
     })
-act_right conf clock now (told.Plans Maintenance) fits right plans = record { in_frame = begins_in_frame conf 1 (now + 1) fits plans; asked = tt }
-act_right conf clock now (told.UponAll NoEvent) fits right plans = ended_right conf clock now fits right
-act_right conf clock now (told.UponAll (AllReset mode)) fits right plans = record { in_frame = begins_in_frame conf 0 0 fits (plans_some conf fits); asked = tt }
-act_right conf clock now (told.UponAll AllHalted) fits right plans = right
+act_right conf clock now (emission.Plans Maintenance) fits right plans = record { in_frame = begins_in_frame conf 1 (now + 1) fits plans; asked = tt }
+act_right conf clock now (emission.UponAll NoEvent) fits right plans = ended_right conf clock now fits right
+act_right conf clock now (emission.UponAll (AllReset mode)) fits right plans = record { in_frame = begins_in_frame conf 0 0 fits (plans_some conf fits); asked = tt }
+act_right conf clock now (emission.UponAll AllHalted) fits right plans = right
 
 after_clocked : (g : Machine) → Fits (described g.system.conf) → IsClocked g → IsClocked (after g (happened g))
 unfolding after happened happened_by next_clock

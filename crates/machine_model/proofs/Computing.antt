@@ -32,7 +32,7 @@ use Rattle.machine_model.specs.LocalTick.{called, clocked, executed_in_tick, loc
 use Rattle.machine_model.specs.LogCalls.{hm_read, hm_status, raise_event, trace_event, trace_read, trace_status}
 use Rattle.machine_model.specs.Machine.{after, after_tick, channel_after, copies, happened, happened_by, local, local_of, next_clock, part_after, sight_of_state, step, tick_of, turn_of}
 use Rattle.machine_model.specs.Observed.{asked_by, asks}
-use Rattle.machine_model.specs.Partition.{areas_of, disarmed, execution_looked_at, hardware_looked_at, loaded_memory, ordered, ordered_told, reset, rested}
+use Rattle.machine_model.specs.Partition.{areas_of, disarmed, execution_looked_at, hardware_looked_at, loaded_memory, ordered, ordered_emissions, reset, rested}
 use Rattle.machine_model.specs.PartitionCalls.{get_partition_status, get_self, get_system_status, halt_partition, halt_system, idle_self, reset_partition, reset_system, resume_partition, shutdown_partition, suspend_partition}
 use Rattle.machine_model.specs.PortCalls.{create_queuing_port, create_sampling_port, get_queuing_port_status, get_sampling_port_status, read_sampling_message, receive_queuing_message, send_queuing_message, write_sampling_message}
 use Rattle.machine_model.specs.PortEffects.{made_port}
@@ -89,7 +89,7 @@ serving = tt
 
 -- partitions and the whole machine
 unfoldable pub running : Unit {0}
-unfolding after after_tick areas_of part_areas loaded_in asked_by asks called channel_after clocked copies disarmed end_lines executed_in_tick execution_looked_at happened happened_by hardware_looked_at lines_of loaded_memory local local_of local_tick next_clock order_lines ordered ordered_told part_after reset rested sight_of_state step step_console step_lines step_said tick_of turn_of with_interrupts worked
+unfolding after after_tick areas_of part_areas loaded_in asked_by asks called channel_after clocked copies disarmed end_lines executed_in_tick execution_looked_at happened happened_by hardware_looked_at lines_of loaded_memory local local_of local_tick next_clock order_lines ordered ordered_emissions part_after reset rested sight_of_state step step_console step_lines step_said tick_of turn_of with_interrupts worked
 running = tt
 
 -- all of them

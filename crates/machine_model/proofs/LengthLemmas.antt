@@ -13,9 +13,9 @@ use Rattle.machine_model.specs.Machine.{Machine, SlotTurn, act_of, answer_to, co
 use Rattle.machine_model.specs.Observed.{Observation, asks}
 use Rattle.machine_model.specs.OwnActs.{IsPutting, IsWithinOwn}
 use Rattle.machine_model.specs.Partition.{PartitionState, areas_of, takes_turns}
-use Rattle.machine_model.specs.Told as told
-use Rattle.machine_model.specs.Told.{Act, OwnPuts, OwnSignals, OwnStill, OwnTakes, Sight, Unseen, Words}
-use Rattle.machine_model.specs.Traffic.{puts_at, takes_at, told_as, traffic_of}
+use Rattle.machine_model.specs.Emission as emission
+use Rattle.machine_model.specs.Emission.{Act, OwnPuts, OwnSignals, OwnStill, OwnTakes, Sight, Unseen, Words}
+use Rattle.machine_model.specs.Traffic.{puts_at, takes_at, traffic_as, traffic_of}
 use Rattle.machine_model.specs.View.{PartitionView, named, view_of}
 use Rattle.machine_model.proofs.ObservingLemmas.{answer_has, size_few, size_of}
 use Rattle.machine_model.proofs.WithinLemmas.{local_within}
@@ -32,32 +32,32 @@ putting_short g p q bytes fits putting =
 
 -- the traffic of an act
 act_short : (g : Machine) (p : ℕ) (act : Act) → Fits (described g.system.conf) → IsWithinOwn (view_of g.system p) (copies g p) act
-    → PutsAtMost 4096 (told_as g.system.conf p (traffic_of act))
-act_short g p told.Nothing fits within = tt
-act_short g p (told.Trades OwnStill) fits within = tt
-act_short g p (told.Trades (OwnPuts q bytes)) fits within = by (named g.system.conf p q)
+    → PutsAtMost 4096 (traffic_as g.system.conf p (traffic_of act))
+act_short g p emission.Nothing fits within = tt
+act_short g p (emission.Trades OwnStill) fits within = tt
+act_short g p (emission.Trades (OwnPuts q bytes)) fits within = by (named g.system.conf p q)
   where
     by : (o : Option ℕ) → PutsAtMost 4096 (puts_at o bytes)
     by None = tt
     by (Some c) = putting_short g p q bytes fits within
-act_short g p (told.Trades (OwnTakes q)) fits within = by (named g.system.conf p q)
+act_short g p (emission.Trades (OwnTakes q)) fits within = by (named g.system.conf p q)
   where
     by : (o : Option ℕ) → PutsAtMost 4096 (takes_at o)
     by None = tt
     by (Some c) = tt
-act_short g p (told.Trades (OwnSignals number)) fits within = tt
-act_short g p (told.Upon id order) fits within = tt
-act_short g p (told.Plans change) fits within = tt
-act_short g p (told.UponAll event) fits within = tt
+act_short g p (emission.Trades (OwnSignals number)) fits within = tt
+act_short g p (emission.Upon id order) fits within = tt
+act_short g p (emission.Plans change) fits within = tt
+act_short g p (emission.UponAll event) fits within = tt
 
 -- the traffic of a tick
 taken_short : (g : Machine) (p : ℕ) (first : Bool) (o : Option PartitionState) → Fits (described g.system.conf)
-    → PutsAtMost 4096 (told_as g.system.conf p (traffic_of (act_of (taken_by g p first o))))
+    → PutsAtMost 4096 (traffic_as g.system.conf p (traffic_of (act_of (taken_by g p first o))))
 unfolding local_of
 taken_short g p first None fits = tt
 taken_short g p first (Some ps) fits = at (takes_turns ps.state)
   where
-    at : (b : Bool) → PutsAtMost 4096 (told_as g.system.conf p (traffic_of (act_of (if b then Some (local_of g p first ps) else None))))
+    at : (b : Bool) → PutsAtMost 4096 (traffic_as g.system.conf p (traffic_of (act_of (if b then Some (local_of g p first ps) else None))))
     at true = act_short g p (local_of g p first ps).act fits (local_within g.system p ps (copies g p) g.ticks g.time first (sight_of_state g p first ps))
     at false = tt
 
@@ -72,12 +72,12 @@ puts_few_bytes g fits = turn_short g (turn_of g) fits
 -- what each question is answered
 of_length : (size : ℕ) (seen : Sight) → size ≤ 24 → HasLength size seen → ShowsAtMost 24 seen
 of_length size Unseen few has = tt
-of_length size told.NotKept few has = tt
+of_length size emission.NotKept few has = tt
 of_length size (Words bytes) few has = omega (arith, few, has)
 
 roomed : (b : Bool) (seen : Sight) → ShowsAtMost 24 seen → ShowsAtMost 24 (with_room b seen)
 roomed b Unseen few = tt
-roomed b told.NotKept few = tt
+roomed b emission.NotKept few = tt
 roomed true (Words bytes) few = few
 roomed false (Words bytes) few = tt
 

@@ -12,29 +12,29 @@ use Rattle.machine_model.specs.Laws.{part}
 use Rattle.machine_model.specs.Lines.{lines_of, lines_unless, local_lines, local_said, order_lines, own, plan_lines, said_unless, step_lines, step_said, tag_of}
 use Rattle.machine_model.specs.Lists.{all_of, is_number}
 use Rattle.machine_model.specs.LocalTick.{LocalTick, local_tick, worked}
-use Rattle.machine_model.specs.Machine.{Happened, Machine, SlotTurn, copies, happened, happened_by, if_its_turn, is_turn_of, local, local_in, local_of, next_clock, obeyed_told, order_upon, sight_of_state, taken_by, tick_of, turn_of, worked_in}
+use Rattle.machine_model.specs.Machine.{Happened, Machine, SlotTurn, copies, happened, happened_by, if_its_turn, is_turn_of, local, local_in, local_of, next_clock, obeyed_emissions, order_upon, sight_of_state, taken_by, tick_of, turn_of, worked_in}
 use Rattle.machine_model.specs.Partition.{PartitionState, takes_turns}
-use Rattle.machine_model.specs.Told as told
-use Rattle.machine_model.specs.Told.{Told, line_of}
+use Rattle.machine_model.specs.Emission as emission
+use Rattle.machine_model.specs.Emission.{Emission, line_of}
 use Rattle.machine_model.specs.View.{view_of}
 use Rattle.machine_model.specs.Whole.{AllHalted, AllReset, NoEvent, WholeEvent, event_lines, whole_lines}
 use Rattle.machine_model.specs.ListLemmas.{filter_append}
 use Rattle.machine_model.proofs.StepLemmas.{alone_local_is}
 
--- a line of what a partition told has its tag
-pub line_tag : (n p : ℕ) (t : Told) → tag_of (line_of n p t) ≡ Some p
-line_tag n p (told.Console bytes) = refl
-line_tag n p (told.Health event word action) = refl
-line_tag n p (told.Trace bits load) = refl
-line_tag n p (told.Moved to) = refl
+-- a line of what a partition emitted has its tag
+pub line_tag : (n p : ℕ) (t : Emission) → tag_of (line_of n p t) ≡ Some p
+line_tag n p (emission.Console bytes) = refl
+line_tag n p (emission.Health event word action) = refl
+line_tag n p (emission.Trace bits load) = refl
+line_tag n p (emission.Moved to) = refl
 
 -- the lines of one partition that has the tag, or has not
-own_all : (p n q : ℕ) (ts : List Told) → (q == p) ≡ true → own p (map (line_of n q) ts) ≡ map (line_of n q) ts
+own_all : (p n q : ℕ) (ts : List Emission) → (q == p) ≡ true → own p (map (line_of n q) ts) ≡ map (line_of n q) ts
 unfolding own
 own_all p n q [] its = refl
 own_all p n q (t ∷ ts) its = rw (line_tag n q t, its) (ap (λ rest. line_of n q t ∷ rest) (own_all p n q ts its))
 
-own_none : (p n q : ℕ) (ts : List Told) → (q == p) ≡ false → own p (map (line_of n q) ts) ≡ []
+own_none : (p n q : ℕ) (ts : List Emission) → (q == p) ≡ false → own p (map (line_of n q) ts) ≡ []
 unfolding own
 own_none p n q [] its = refl
 own_none p n q (t ∷ ts) its = rw (line_tag n q t, its) (own_none p n q ts its)
@@ -82,18 +82,18 @@ orders_own : (g : Machine) (h : Happened) (p : ℕ) (ps : PartitionState) → sl
 unfolding order_lines
 orders_own g h p ps there =
     own_at p p (order_lines g h) g.parts ps there
-    (own_all p g.ticks p (obeyed_told (order_upon h.act p) (worked_in (tick_of h p) ps)) (eqb_of p p refl))
-    (λ k other not_p. own_none p g.ticks k (obeyed_told (order_upon h.act k) (worked_in (tick_of h k) other)) (eqb_not k p not_p))
+    (own_all p g.ticks p (obeyed_emissions (order_upon h.act p) (worked_in (tick_of h p) ps)) (eqb_of p p refl))
+    (λ k other not_p. own_none p g.ticks k (obeyed_emissions (order_upon h.act k) (worked_in (tick_of h k) other)) (eqb_not k p not_p))
 
 -- the lines of a hypervisor event
 event_its : (p n : ℕ) (event : WholeEvent) → own p (event_lines n event p) ≡ event_lines n event p
 event_its p n NoEvent = own_nil p
-event_its p n (AllReset mode) = own_all p n p (told.Moved _ ∷ []) (eqb_of p p refl)
+event_its p n (AllReset mode) = own_all p n p (emission.Moved _ ∷ []) (eqb_of p p refl)
 event_its p n AllHalted = own_nil p
 
 event_others : (p n k : ℕ) (event : WholeEvent) → k ≢ p → own p (event_lines n event k) ≡ []
 event_others p n k NoEvent not_p = own_nil p
-event_others p n k (AllReset mode) not_p = own_none p n k (told.Moved _ ∷ []) (eqb_not k p not_p)
+event_others p n k (AllReset mode) not_p = own_none p n k (emission.Moved _ ∷ []) (eqb_not k p not_p)
 event_others p n k AllHalted not_p = own_nil p
 
 events_own : (g : Machine) (event : WholeEvent) (p : ℕ) (ps : PartitionState) → slice_get g.parts p ≡ Some ps
@@ -117,22 +117,22 @@ plan_own p n old new = at (old == new)
     at false = refl
 
 -- the lines of the local tick are those of the partition that had it
-taken_lines : (g : Machine) (q : ℕ) (first : Bool) (o : Option PartitionState) (l : Option LocalTick) → taken_by g q first o ≡ l → (ts : List Told) × (local_lines l ≡ map (line_of g.ticks q) ts)
+taken_lines : (g : Machine) (q : ℕ) (first : Bool) (o : Option PartitionState) (l : Option LocalTick) → taken_by g q first o ≡ l → (ts : List Emission) × (local_lines l ≡ map (line_of g.ticks q) ts)
 unfolding local_of local_tick view_of
 taken_lines g q first None l is = ([], ap local_lines (sym is))
 taken_lines g q first (Some ps) l is = at (takes_turns ps.state) is
   where
-    at : (b : Bool) → (if b then Some (local_of g q first ps) else None) ≡ l → (ts : List Told) × (local_lines l ≡ map (line_of g.ticks q) ts)
-    at true is = ((worked (view_of g.system q) (copies g q) g.time first (sight_of_state g q first ps) ps).told, ap local_lines (sym is))
+    at : (b : Bool) → (if b then Some (local_of g q first ps) else None) ≡ l → (ts : List Emission) × (local_lines l ≡ map (line_of g.ticks q) ts)
+    at true is = ((worked (view_of g.system q) (copies g q) g.time first (sight_of_state g q first ps) ps).emitted, ap local_lines (sym is))
     at false is = ([], ap local_lines (sym is))
 
 local_own_in : (g : Machine) (p : ℕ) (o : Option SlotTurn) → own p (local_lines (local_in g o)) ≡ local_lines (if_its_turn (is_turn_of o p) (local_in g o))
 local_own_in g p None = own_nil p
 local_own_in g p (Some turn) =
-    let told_lines = taken_lines g turn.part turn.first (slice_get g.parts turn.part) (taken_by g turn.part turn.first (slice_get g.parts turn.part)) refl in
-    at (turn.part == p) refl told_lines.0 told_lines.1
+    let emitted_lines = taken_lines g turn.part turn.first (slice_get g.parts turn.part) (taken_by g turn.part turn.first (slice_get g.parts turn.part)) refl in
+    at (turn.part == p) refl emitted_lines.0 emitted_lines.1
   where
-    at : (b : Bool) → (turn.part == p) ≡ b → (ts : List Told) → local_lines (taken_by g turn.part turn.first (slice_get g.parts turn.part)) ≡ map (line_of g.ticks turn.part) ts
+    at : (b : Bool) → (turn.part == p) ≡ b → (ts : List Emission) → local_lines (taken_by g turn.part turn.first (slice_get g.parts turn.part)) ≡ map (line_of g.ticks turn.part) ts
         → own p (local_lines (taken_by g turn.part turn.first (slice_get g.parts turn.part))) ≡ local_lines (if_its_turn b (taken_by g turn.part turn.first (slice_get g.parts turn.part)))
     at true its ts is = ap (own p) is ∙ own_all p g.ticks turn.part ts its ∙ sym is
     at false its ts is = ap (own p) is ∙ own_none p g.ticks turn.part ts its

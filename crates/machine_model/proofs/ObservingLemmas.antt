@@ -18,7 +18,7 @@ use Rattle.machine_model.specs.Partition.{PartitionState}
 use Rattle.machine_model.specs.PartitionCalls.{get_partition_status, get_system_status}
 use Rattle.machine_model.specs.Structures.{counts_bytes, health_bytes, partition_status, plan_status, system_status, trace_bytes}
 use Rattle.machine_model.specs.TimeCalls.{get_plan_status, is_no_plan, switch_sched_plan}
-use Rattle.machine_model.specs.Told.{Act, Asked, Nothing, Plans, Words}
+use Rattle.machine_model.specs.Emission.{Act, Asked, Nothing, Plans, Words}
 use Rattle.machine_model.specs.View.{PartitionView}
 
 -- another partition that there is
@@ -75,7 +75,7 @@ status_is : (caller : Caller) → caller.view.part.system ≡ true → IsOther c
 unfolding get_partition_status
 status_is caller system other = rw (other.own, system, other.there) refl
 
--- the observing call with a number, where nothing is told of an entry that is not kept
+-- the observing call with a number, where an entry that is not kept is not shown so
 record Asking (caller : Caller) (call : Observation) : Type 0 where
   system : caller.view.part.system ≡ true
   is_kept : is_not_kept caller.sight ≡ false

@@ -28,9 +28,9 @@ use Rattle.machine_model.specs.Lists.{each}
 use Rattle.machine_model.specs.Machine.{Machine, SlotTurn, act_of, after, channel_after, copies, happened, happened_by, local, local_in, local_of, run, sight_of_state, start, step, system_traffic, taken_by, turn_of}
 use Rattle.machine_model.specs.OwnActs.{HasPortRoom, IsPutting, IsTaking, IsWithinOwn}
 use Rattle.machine_model.specs.Partition.{PartitionState, takes_turns}
-use Rattle.machine_model.specs.Told as told
-use Rattle.machine_model.specs.Told.{Act, OwnPuts, OwnSignals, OwnStill, OwnTakes}
-use Rattle.machine_model.specs.Traffic.{Puts, Signals, Still, Takes, Traffic, after_traffic, content_if, copies_of, puts_at, takes_at, told_as, traffic_of}
+use Rattle.machine_model.specs.Emission as emission
+use Rattle.machine_model.specs.Emission.{Act, OwnPuts, OwnSignals, OwnStill, OwnTakes}
+use Rattle.machine_model.specs.Traffic.{Puts, Signals, Still, Takes, Traffic, after_traffic, content_if, copies_of, puts_at, takes_at, traffic_as, traffic_of}
 use Rattle.machine_model.specs.View.{PortChannel, System, name_of, named, part_of, view_of}
 use Rattle.machine_model.specs.Whole.{AllHalted, AllReset, NoEvent, WholeEvent, content_after}
 use Rattle.machine_model.proofs.WithinLemmas.{are_names, local_within, named_so}
@@ -157,29 +157,29 @@ take_fits g p q c taking named_so content there =
 
 -- the traffic of an act under the system's numbers
 act_fits : (g : Machine) (p : ℕ) (act : Act) → Fits (described g.system.conf) → IsWithinOwn (view_of g.system p) (copies g p) act
-    → FitsChannels g.system.conf g.channels (told_as g.system.conf p (traffic_of act))
+    → FitsChannels g.system.conf g.channels (traffic_as g.system.conf p (traffic_of act))
 unfolding FitsChannels
-act_fits g p told.Nothing fits within = tt
-act_fits g p (told.Trades OwnStill) fits within = tt
-act_fits g p (told.Trades (OwnPuts q bytes)) fits within =
+act_fits g p emission.Nothing fits within = tt
+act_fits g p (emission.Trades OwnStill) fits within = tt
+act_fits g p (emission.Trades (OwnPuts q bytes)) fits within =
     let its = has_name_named g.system.conf p q (view_has g.system p q (named_so (view_of g.system p) _ q (are_names g.system p) within.on)) in
     subst (λ (o : Option ℕ). FitsChannels g.system.conf g.channels (puts_at o bytes)) (sym its.1) (put_fits g p q bytes its.0 fits within its.1 its.2)
-act_fits g p (told.Trades (OwnTakes q)) fits within =
+act_fits g p (emission.Trades (OwnTakes q)) fits within =
     let its = has_name_named g.system.conf p q (view_has g.system p q (named_so (view_of g.system p) _ q (are_names g.system p) within.on)) in
     subst (λ (o : Option ℕ). FitsChannels g.system.conf g.channels (takes_at o)) (sym its.1) (take_fits g p q its.0 within its.1)
-act_fits g p (told.Trades (OwnSignals number)) fits within = tt
-act_fits g p (told.Upon id order) fits within = tt
-act_fits g p (told.Plans change) fits within = tt
-act_fits g p (told.UponAll event) fits within = tt
+act_fits g p (emission.Trades (OwnSignals number)) fits within = tt
+act_fits g p (emission.Upon id order) fits within = tt
+act_fits g p (emission.Plans change) fits within = tt
+act_fits g p (emission.UponAll event) fits within = tt
 
 -- the traffic of a tick
 taken_traffic : (g : Machine) (p : ℕ) (first : Bool) (o : Option PartitionState) → Fits (described g.system.conf)
-    → FitsChannels g.system.conf g.channels (told_as g.system.conf p (traffic_of (act_of (taken_by g p first o))))
+    → FitsChannels g.system.conf g.channels (traffic_as g.system.conf p (traffic_of (act_of (taken_by g p first o))))
 unfolding FitsChannels local_of
 taken_traffic g p first None fits = tt
 taken_traffic g p first (Some ps) fits = at (takes_turns ps.state)
   where
-    at : (b : Bool) → FitsChannels g.system.conf g.channels (told_as g.system.conf p (traffic_of (act_of (if b then Some (local_of g p first ps) else None))))
+    at : (b : Bool) → FitsChannels g.system.conf g.channels (traffic_as g.system.conf p (traffic_of (act_of (if b then Some (local_of g p first ps) else None))))
     at true = act_fits g p (local_of g p first ps).act fits (local_within g.system p ps (copies g p) g.ticks g.time first (sight_of_state g p first ps))
     at false = tt
 

@@ -14,8 +14,8 @@ use Rattle.machine_model.specs.LocalTick.{bounded, goes_on, local_tick, with_int
 use Rattle.machine_model.specs.Machine.{Machine, SlotTurn, sight, sight_for, sight_in, sight_of_state, turn_of}
 use Rattle.machine_model.specs.Observed.{asked_by, asks, if_call, observed_by, unless_delivered}
 use Rattle.machine_model.specs.Partition.{PartitionState, areas_of, takes_turns}
-use Rattle.machine_model.specs.Told as told
-use Rattle.machine_model.specs.Told.{Act, Told, Unseen, Upon, line_of}
+use Rattle.machine_model.specs.Emission as emission
+use Rattle.machine_model.specs.Emission.{Act, Emission, Unseen, Upon, line_of}
 use Rattle.machine_model.specs.View.{PartitionView, part_of, view_of}
 use Rattle.machine_model.proofs.LineLemmas.{line_tag}
 
@@ -71,29 +71,29 @@ unfolding sight
 sees_nothing g p plain = seen_in g p (turn_of g) (slice_get g.parts p) (plain_view g p plain)
 
 -- an act on a channel is no order
-if_its_no_order : (b : Bool) (act : Act) (id : ℕ) (order : Order) → ¬ (act ≡ Upon id order) → ¬ ((if b then act else told.Nothing) ≡ Upon id order)
+if_its_no_order : (b : Bool) (act : Act) (id : ℕ) (order : Order) → ¬ (act ≡ Upon id order) → ¬ ((if b then act else emission.Nothing) ≡ Upon id order)
 if_its_no_order true act id order not_upon is = not_upon is
 if_its_no_order false act id order not_upon is = absurd cc
 
 never : (view : PartitionView) (act : Act) (order : Order) → ¬ (bounded view act ≡ Upon view.id order)
-never view told.Nothing order is = absurd cc
-never view (told.Trades traffic) order is = if_its_no_order _ (told.Trades traffic) view.id order (λ e. absurd cc) is
-never view (told.Upon id given) order is = at (id == view.id) refl is
+never view emission.Nothing order is = absurd cc
+never view (emission.Trades traffic) order is = if_its_no_order _ (emission.Trades traffic) view.id order (λ e. absurd cc) is
+never view (emission.Upon id given) order is = at (id == view.id) refl is
   where
-    at : (b : Bool) → (id == view.id) ≡ b → ¬ ((if b then told.Nothing else Upon id given) ≡ Upon view.id order)
+    at : (b : Bool) → (id == view.id) ≡ b → ¬ ((if b then emission.Nothing else Upon id given) ≡ Upon view.id order)
     at true same is = absurd cc
     at false other is = absurd (let e : id ≡ view.id = cc in let t : (id == view.id) ≡ true = rw e (grind (arith)) in cc)
-never view (told.Plans change) order is = absurd cc
-never view (told.UponAll event) order is = absurd cc
+never view (emission.Plans change) order is = absurd cc
+never view (emission.UponAll event) order is = absurd cc
 
 pub never_upon_itself : NeverUponItself
 unfolding local_tick
 never_upon_itself view ps contents n time first seen order is = never view (worked view contents time first seen ps).act order is
 
-all_tagged : (n p : ℕ) (ts : List Told) → All (λ line. tag_of line ≡ Some p) (map (line_of n p) ts)
+all_tagged : (n p : ℕ) (ts : List Emission) → All (λ line. tag_of line ≡ Some p) (map (line_of n p) ts)
 all_tagged n p [] = All-nil (λ line. tag_of line ≡ Some p)
 all_tagged n p (t ∷ ts) = All-cons (λ line. tag_of line ≡ Some p) (line_of n p t) (map (line_of n p) ts) (line_tag n p t) (all_tagged n p ts)
 
 pub has_own_tag : HasOwnTag
 unfolding local_tick
-has_own_tag view ps contents n time first seen = all_tagged n view.id (worked view contents time first seen ps).told
+has_own_tag view ps contents n time first seen = all_tagged n view.id (worked view contents time first seen ps).emitted

@@ -1,4 +1,4 @@
--- Each partition boots as it boots alone; so two runs in which it is told the same are the same for it.
+-- Each partition boots as it boots alone; so two runs in which it receives the same are the same for it.
 use Rattle.std.proofs.Common.{◌≡◌, ℕ, ◌<◌, Bool, true, false, List, length, map, Option, None, Some, refl, sym, ap, ◌∙◌}
 use Rattle.std.specs.Prelude.{slice_get, ◌==◌, if◌then◌else◌}
 use Rattle.xm_base.specs.Options.{on}

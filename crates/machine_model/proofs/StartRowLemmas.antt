@@ -42,7 +42,7 @@ fetched_within areas m a bs i q word e h allowed spells =
 abbrev saying : Memory → Machine
 saying memory = record (start hi) { parts = at 0x40000000 memory ∷ [] }
 
--- what it prints in so many ticks, where these bytes stand after the program's words
+-- what it prints in this many ticks, where these bytes stand after the program's words
 abbrev said_lines : ℕ → List ℕ → List ReportLine
 said_lines ticks bytes = ConsoleLine 4 0 bytes ∷ MovedLine 7 0 move.Halt ∷ EndPart 0 Halted 0 8 0x40000020 ∷ EndWhole false 0 ticks ticks ∷ []
 
@@ -61,7 +61,7 @@ record HasAll (memory : Memory) : Type 0 where
   seventh : Has memory 0x40000018 0x92102000
   eighth : Has memory 0x4000001c 0x91d02070
 
--- the words that are fetched, and then so many ticks in which none is
+-- the words that are fetched, and then this many ticks in which none is
 abbrev hi_words : ℕ → List (Option ℕ)
 hi_words more =
     Some 0x13100000 ∷ Some 0x92126020 ∷ Some 0x94102002 ∷ Some 0x90102020 ∷ Some 0x91d02070 ∷ Some 0x90102002 ∷ Some 0x92102000 ∷ Some 0x91d02070

@@ -12,7 +12,7 @@ use Rattle.machine_model.specs.Laws.{part, alone_part_at}
 use Rattle.machine_model.specs.LocalTick.{LocalTick, bounded, local_tick, worked}
 use Rattle.machine_model.specs.Machine.{Machine, SlotTurn, act_of, after, after_tick, channel_after, copies, happened, happened_by, if_its_turn, is_turn_of, local, local_in, local_of, order_upon, part_after, sight, sight_in, sight_of_state, step, system_traffic, taken_by, tick_of, turn_of, worked_in}
 use Rattle.machine_model.specs.Partition.{PartitionState, takes_turns}
-use Rattle.machine_model.specs.Told.{Act, Sight}
+use Rattle.machine_model.specs.Emission.{Act, Sight}
 use Rattle.machine_model.specs.Traffic.{copies_after, copies_of, heard_as, heard_of_own, traffic_of}
 use Rattle.machine_model.specs.View.{part_of, view_of}
 use Rattle.machine_model.specs.Whole.{content_after, ticks_after, time_after}
@@ -66,7 +66,7 @@ acts g p first (Some ps) tick is = at (takes_turns ps.state) is
     )
     at false is = absurd cc
 
--- a partition's own traffic, told under the system's numbers, is under its own names what it hears of it
+-- a partition's own traffic, under the system's numbers, is under its own names what it hears of it
 own_same : (g : Machine) (p : ℕ) (o : Option SlotTurn) (tick : LocalTick) → is_turn_of o p ≡ true → local_in g o ≡ Some tick
     → heard_as g.system.conf p (system_traffic g.system.conf o (traffic_of tick.act)) ≡ heard_of_own (traffic_of tick.act)
 own_same g p None tick its is = absurd cc
@@ -76,7 +76,7 @@ own_same g p (Some turn) tick its is =
     let found = acts g p turn.first (slice_get g.parts p) tick its_own in
     rw (same, found.1) (own_traffic g.system p found.0)
 
--- the traffic of a tick as partition p meets it: its own where it had its local tick, else what it is told of others
+-- the traffic of a tick as partition p meets it: its own where it had its local tick, else what it receives of others
 traffic_in : (g : Machine) (p : ℕ) (o : Option SlotTurn) (b : Bool) (l : Option LocalTick) → is_turn_of o p ≡ b → local_in g o ≡ l
     → heard_as g.system.conf p (system_traffic g.system.conf o (traffic_of (act_of l)))
     ≡ alone_traffic (if_its_turn b l) (unless_own (is_some (if_its_turn b l)) (heard_as g.system.conf p (system_traffic g.system.conf o (traffic_of (act_of l)))))

@@ -1,4 +1,4 @@
--- Traffic under the system's numbers and under a partition's own names comes to the same for the partition.
+-- Traffic under the system's numbers and under a partition's own names is the same for the partition.
 use Rattle.std.proofs.Common.{◌≡◌, ℕ, Bool, true, false, List, length, map, Option, None, Some, refl, sym, ap, ◌∙◌, arith}
 use Rattle.std.specs.Prelude.{slice_get, slice_index_or, ◌==◌, if◌then◌else◌}
 use Rattle.std.proofs.lemmas.Bool.{eqb-true}
@@ -9,9 +9,9 @@ use Rattle.xm_ports.specs.Channels.{Content, put, first_taken}
 use Rattle.machine_model.specs.LinkLemmas.{own_signal}
 use Rattle.machine_model.specs.Lists.{each, is_number}
 use Rattle.machine_model.specs.LocalTick.{bounded, has_name}
-use Rattle.machine_model.specs.Told as told
-use Rattle.machine_model.specs.Told.{Act, OwnPuts, OwnSignals, OwnStill, OwnTakes}
-use Rattle.machine_model.specs.Traffic.{Puts, Signals, Still, Takes, Traffic, after_own, after_traffic, content_if, copies_after, copies_of, heard_as, heard_of_own, own_puts_at, own_signals_at, own_takes_at, told_as, traffic_of}
+use Rattle.machine_model.specs.Emission as emission
+use Rattle.machine_model.specs.Emission.{Act, OwnPuts, OwnSignals, OwnStill, OwnTakes}
+use Rattle.machine_model.specs.Traffic.{Puts, Signals, Still, Takes, Traffic, after_own, after_traffic, content_if, copies_after, copies_of, heard_as, heard_of_own, own_puts_at, own_signals_at, own_takes_at, traffic_as, traffic_of}
 use Rattle.machine_model.specs.View.{System, has_number, linked, name_of, named, part_of, port_channel, view_of}
 use Rattle.machine_model.specs.Whole.{WholeEvent, content_after}
 use Rattle.machine_model.specs.ListLemmas.{each_table, get_each, map_table, same_tables, table_or_none}
@@ -104,7 +104,7 @@ copies_same conf p ports time event traffic channels =
     ∙ sym (map_table (on (content_after event)) (λ q. on (after_own time (heard_as conf p traffic) q) (content_if channels (named conf p q))) ports)
     ∙ ap (map (on (content_after event))) (sym (each_table (λ q copy. on (after_own time (heard_as conf p traffic) q) copy) (λ q. content_if channels (named conf p q)) ports))
 
--- traffic on a channel that a partition has, told under the system's number and back
+-- traffic on a channel that a partition has, put under the system's number and back
 there_and_back : (conf : Conf) (p : ℕ) → (q : ℕ) → has_name (port_channel conf p q) q ≡ true → (c : ℕ) × (named conf p q ≡ Some c) × (name_of conf p c ≡ Some q)
 there_and_back conf p q has = has_name_named conf p q has
 
@@ -114,40 +114,40 @@ unfolding view_of
 view_has system p q has =
     table_or_none (λ channel. has_name channel q ≡ true) (port_channel system.conf p) (length (part_of system.conf p).ports) q has (λ none. absurd cc)
 
--- a partition's own traffic, once it was told under the system's numbers, is under its own names what it hears of it
+-- a partition's own traffic, put under the system's numbers, is under its own names what it hears of it
 pub own_traffic : (system : System) (p : ℕ) (act : Act)
-    → heard_as system.conf p (told_as system.conf p (traffic_of (bounded (view_of system p) act))) ≡ heard_of_own (traffic_of (bounded (view_of system p) act))
-own_traffic system p told.Nothing = refl
-own_traffic system p (told.Trades OwnStill) = refl
-own_traffic system p (told.Trades (OwnPuts q bytes)) = at (has_name (slice_index_or (view_of system p).channels q None) q) refl
+    → heard_as system.conf p (traffic_as system.conf p (traffic_of (bounded (view_of system p) act))) ≡ heard_of_own (traffic_of (bounded (view_of system p) act))
+own_traffic system p emission.Nothing = refl
+own_traffic system p (emission.Trades OwnStill) = refl
+own_traffic system p (emission.Trades (OwnPuts q bytes)) = at (has_name (slice_index_or (view_of system p).channels q None) q) refl
   where
     at : (b : Bool) → has_name (slice_index_or (view_of system p).channels q None) q ≡ b
-        → heard_as system.conf p (told_as system.conf p (traffic_of (if b then told.Trades (OwnPuts q bytes) else told.Nothing)))
-        ≡ heard_of_own (traffic_of (if b then told.Trades (OwnPuts q bytes) else told.Nothing))
+        → heard_as system.conf p (traffic_as system.conf p (traffic_of (if b then emission.Trades (OwnPuts q bytes) else emission.Nothing)))
+        ≡ heard_of_own (traffic_of (if b then emission.Trades (OwnPuts q bytes) else emission.Nothing))
     at true has =
         let found = has_name_named system.conf p q (view_has system p q has) in
         rw (found.1, found.2) refl
     at false not_its = refl
-own_traffic system p (told.Trades (OwnTakes q)) = at (has_name (slice_index_or (view_of system p).channels q None) q) refl
+own_traffic system p (emission.Trades (OwnTakes q)) = at (has_name (slice_index_or (view_of system p).channels q None) q) refl
   where
     at : (b : Bool) → has_name (slice_index_or (view_of system p).channels q None) q ≡ b
-        → heard_as system.conf p (told_as system.conf p (traffic_of (if b then told.Trades (OwnTakes q) else told.Nothing)))
-        ≡ heard_of_own (traffic_of (if b then told.Trades (OwnTakes q) else told.Nothing))
+        → heard_as system.conf p (traffic_as system.conf p (traffic_of (if b then emission.Trades (OwnTakes q) else emission.Nothing)))
+        ≡ heard_of_own (traffic_of (if b then emission.Trades (OwnTakes q) else emission.Nothing))
     at true has =
         let found = has_name_named system.conf p q (view_has system p q has) in
         rw (found.1, found.2) refl
     at false not_its = refl
-own_traffic system p (told.Trades (OwnSignals number)) = at (has_number (view_of system p).links number)
+own_traffic system p (emission.Trades (OwnSignals number)) = at (has_number (view_of system p).links number)
   where
-    at : (b : Bool) → heard_as system.conf p (told_as system.conf p (traffic_of (if b then told.Trades (OwnSignals number) else told.Nothing)))
-        ≡ heard_of_own (traffic_of (if b then told.Trades (OwnSignals number) else told.Nothing))
+    at : (b : Bool) → heard_as system.conf p (traffic_as system.conf p (traffic_of (if b then emission.Trades (OwnSignals number) else emission.Nothing)))
+        ≡ heard_of_own (traffic_of (if b then emission.Trades (OwnSignals number) else emission.Nothing))
     at true = own_signal system.conf p number
     at false = refl
-own_traffic system p (told.Upon id order) = at (id == (view_of system p).id)
+own_traffic system p (emission.Upon id order) = at (id == (view_of system p).id)
   where
-    at : (b : Bool) → heard_as system.conf p (told_as system.conf p (traffic_of (if b then told.Nothing else told.Upon id order)))
-        ≡ heard_of_own (traffic_of (if b then told.Nothing else told.Upon id order))
+    at : (b : Bool) → heard_as system.conf p (traffic_as system.conf p (traffic_of (if b then emission.Nothing else emission.Upon id order)))
+        ≡ heard_of_own (traffic_of (if b then emission.Nothing else emission.Upon id order))
     at true = refl
     at false = refl
-own_traffic system p (told.Plans change) = refl
-own_traffic system p (told.UponAll event) = refl
+own_traffic system p (emission.Plans change) = refl
+own_traffic system p (emission.UponAll event) = refl

@@ -42,8 +42,8 @@ use Rattle.machine_model.specs.LocalTick.{bounded, by_act, by_turn, by_upshot, c
 use Rattle.machine_model.specs.Partition.{PartitionState, areas_of}
 use Rattle.machine_model.specs.PortEffects.{MadePort, by_created, creating, destination_only, first_read, held_read, is_full, is_source, made_port, on_port, shape_at, size_fits, source_only, with_channel, port_with_content}
 use Rattle.machine_model.specs.OwnEffects.{by_flush, by_return, flushed, input_read}
-use Rattle.machine_model.specs.Told as told
-use Rattle.machine_model.specs.Told.{Act, OwnPuts, OwnSignals, OwnStill, OwnTakes, Sight}
+use Rattle.machine_model.specs.Emission as emission
+use Rattle.machine_model.specs.Emission.{Act, OwnPuts, OwnSignals, OwnStill, OwnTakes, Sight}
 use Rattle.machine_model.specs.View.{PartitionView, PortChannel, System, has_number, name_of, part_of, port_channel, view_of, with_its_name, with_name}
 use Rattle.machine_model.specs.NameLemmas.{name_is, of_name_below, same_number}
 
@@ -309,7 +309,7 @@ first_within : (o : Option (List ℕ)) (caller : Caller) (port : MadePort) → I
 first_within None caller port is passed found = tt
 first_within (Some message) caller port is passed found =
     tested_within caller.view caller.contents (refused_if (nat_lt (c_of caller) (length message)) invalid_parameter ∷ room caller (b_of caller) (length message) ∷ []) caller
-    (acting (told.Trades (OwnTakes port.name)) (length message) (with_written (b_of caller) message caller.state))
+    (acting (emission.Trades (OwnTakes port.name)) (length message) (with_written (b_of caller) message caller.state))
     (record {
       on = port_on caller kind.Queuing way.Destination port is (destination_is port.way passed);
       kind_is = is_queuing is.port.kind is.kind_is;
@@ -374,15 +374,15 @@ served_stays caller = every_effect caller (Stays caller.view caller.contents) (�
 -- what a call does beyond its partition is within what the partition has
 act_within : (view : PartitionView) (contents : List (Option Content)) (act : Act) (ps : PartitionState) → AsksWithin view contents act → IsWithinOwn view contents (by_act act view ps).act
 unfolding self_ordered
-act_within view contents told.Nothing ps within = tt
-act_within view contents (told.Trades traffic) ps within = within
-act_within view contents (told.Upon id order) ps within = at (id == view.id) refl
+act_within view contents emission.Nothing ps within = tt
+act_within view contents (emission.Trades traffic) ps within = within
+act_within view contents (emission.Upon id order) ps within = at (id == view.id) refl
   where
-    at : (b : Bool) → (id == view.id) ≡ b → IsWithinOwn view contents (if b then self_ordered view order ps else record (quiet ps) { act = told.Upon id order }).act
+    at : (b : Bool) → (id == view.id) ≡ b → IsWithinOwn view contents (if b then self_ordered view order ps else record (quiet ps) { act = emission.Upon id order }).act
     at true same = tt
     at false other = (other, within other)
-act_within view contents (told.Plans change) ps within = within
-act_within view contents (told.UponAll event) ps within = within
+act_within view contents (emission.Plans change) ps within = within
+act_within view contents (emission.UponAll event) ps within = within
 
 effect_within : (view : PartitionView) (contents : List (Option Content)) (event : Event) (an_action : Action) (enabled : Bool) → action_in view.part.hm event ≡ an_action → IsWithinOwn view contents (done_to_all (effect_of an_action enabled).whole)
 unfolding effect_of
@@ -461,14 +461,14 @@ named_so view the_way name names on = subst (IsName view.channels) on.name_is (s
 
 -- and so it is as it is bounded
 act_bounded : (view : PartitionView) (contents : List (Option Content)) (act : Act) → AreNames view.channels → IsWithinOwn view contents act → bounded view act ≡ act
-act_bounded view contents told.Nothing names within = refl
-act_bounded view contents (told.Trades OwnStill) names within = refl
-act_bounded view contents (told.Trades (OwnPuts name bytes)) names within = ap (λ b. if b then told.Trades (OwnPuts name bytes) else told.Nothing) (named_so view way.Source name names within.on)
-act_bounded view contents (told.Trades (OwnTakes name)) names within = ap (λ b. if b then told.Trades (OwnTakes name) else told.Nothing) (named_so view way.Destination name names within.on)
-act_bounded view contents (told.Trades (OwnSignals number)) names within = ap (λ b. if b then told.Trades (OwnSignals number) else told.Nothing) within
-act_bounded view contents (told.Upon id order) names within = ap (λ b. if b then told.Nothing else told.Upon id order) within.0
-act_bounded view contents (told.Plans change) names within = refl
-act_bounded view contents (told.UponAll event) names within = refl
+act_bounded view contents emission.Nothing names within = refl
+act_bounded view contents (emission.Trades OwnStill) names within = refl
+act_bounded view contents (emission.Trades (OwnPuts name bytes)) names within = ap (λ b. if b then emission.Trades (OwnPuts name bytes) else emission.Nothing) (named_so view way.Source name names within.on)
+act_bounded view contents (emission.Trades (OwnTakes name)) names within = ap (λ b. if b then emission.Trades (OwnTakes name) else emission.Nothing) (named_so view way.Destination name names within.on)
+act_bounded view contents (emission.Trades (OwnSignals number)) names within = ap (λ b. if b then emission.Trades (OwnSignals number) else emission.Nothing) within
+act_bounded view contents (emission.Upon id order) names within = ap (λ b. if b then emission.Nothing else emission.Upon id order) within.0
+act_bounded view contents (emission.Plans change) names within = refl
+act_bounded view contents (emission.UponAll event) names within = refl
 
 pub acts_within_bounds : ActsWithinBounds
 unfolding local_tick

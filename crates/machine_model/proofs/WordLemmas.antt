@@ -18,14 +18,14 @@ use Rattle.machine_model.specs.Machine.{Happened, Machine, SlotTurn, after, copi
 use Rattle.machine_model.specs.Observed.{Observation, asked_by, asks, if_call, unless_delivered}
 use Rattle.machine_model.specs.Partition.{PartitionState, areas_of, execution_looked_at, hardware_looked_at, takes_turns}
 use Rattle.machine_model.specs.Rows.{Leaves, Prints}
-use Rattle.machine_model.specs.Told.{Sight, Unseen}
+use Rattle.machine_model.specs.Emission.{Sight, Unseen}
 use Rattle.machine_model.specs.View.{PartitionView, view_of}
 
 -- the instruction that the fetch answered, with the spill or the fill that it needs
 abbrev pub settled_by : Result ℕ BusFault → List Area → Registers → Memory → Turned
 settled_by fetch areas core memory = answered (turned_after fetch areas core memory).turn (turned_after fetch areas core memory) areas core memory
 
--- the observing call that is made where the instruction comes to this
+-- the observing call that is made where the instruction has this outcome
 abbrev pub unless_delivered_by : Turned → Option ℕ → Bool → PartitionView → Option Observation
 unless_delivered_by t None enabled view = if_call t.turn view t.core
 unless_delivered_by t (Some n) true view = None
@@ -36,7 +36,7 @@ asks_by t view ps time first =
     let ready = with_interrupts time first ps in
     if goes_on ready.state first (due ready.traps) then unless_delivered_by t (due ready.traps) ready.traps.enabled view else None
 
--- the work of a partition whose instruction comes to this
+-- the work of a partition whose instruction has this outcome
 abbrev pub executed_by : Turned → PartitionView → List (Option Content) → ℕ → Sight → PartitionState → Worked
 executed_by t view contents time sight ps = by_turn t.turn view contents time sight ps (turned_state t ps)
 
@@ -55,12 +55,12 @@ worked_by t view contents time first sight ps =
     let ready = with_interrupts time first ps in
     worked_if_by t (goes_on ready.state first (due ready.traps)) view contents time sight ready
 
--- what is shown to a partition whose instruction comes to this
+-- what is shown to a partition by the outcome of its instruction
 abbrev pub sight_by : Turned → Machine → ℕ → Bool → PartitionState → Sight
 sight_by t g p first ps =
     if takes_turns ps.state then sight_for g (view_of g.system p) (asks_by t (view_of g.system p) ps g.time first) else Unseen
 
--- the local tick of a partition whose instruction comes to this
+-- the local tick of a partition whose instruction has this outcome
 abbrev pub local_of_by : Turned → Machine → ℕ → Bool → PartitionState → LocalTick
 local_of_by t g p first ps =
     seen_outside (view_of g.system p) g.ticks (worked_by t (view_of g.system p) (copies g p) g.time first (sight_by t g p first ps) ps)
@@ -94,7 +94,7 @@ abbrev pub Fetches : Option ℕ → Machine → Type 0
 Fetches None g = Unit {0}
 Fetches (Some word) g = Answers (Ok word) g (turn_of g)
 
--- what the instruction comes to is what the fetch answers comes to
+-- the outcome of the instruction is that of the fetch
 settled_same : (fetch : Result ℕ BusFault) (areas : List Area) (core : Registers) (memory : Memory) → fetched areas memory core.pc ≡ fetch
     → settled_by fetch areas core memory ≡ settled areas core memory
 unfolding settled turned

@@ -31,7 +31,7 @@ use Rattle.machine_model.specs.OwnEffects.{trace_entry, tracing}
 use Rattle.machine_model.specs.Partition.{PartitionState, areas_of}
 use Rattle.machine_model.specs.PortEffects.{MadePort, by_created, creating, destination_only, first_read, held_read, made_port, on_port, shape_at, size_fits, source_only}
 use Rattle.machine_model.specs.OwnEffects.{by_flush, by_return, flushed, input_read}
-use Rattle.machine_model.specs.Told as told
+use Rattle.machine_model.specs.Emission as emission
 use Rattle.machine_model.specs.View.{PartitionView, PortChannel}
 
 -- the parts of a partition's state of which the facts speak
@@ -45,7 +45,7 @@ pub record FactParts : Type 0 where
 abbrev pub fact_parts : PartitionState → FactParts
 fact_parts ps = record { traces = ps.traces; health = ps.health; execution = ps.clocks.execution; inputs = ps.inputs; made = ps.made }
 
--- a partition goes on so: so many entries come at most, the execution clock counts at most so many ticks, input words are used, and what is made is an end
+-- a partition goes on so: this many entries come at most, the execution clock counts at most this many ticks, input words are used, and what is made is an end
 pub record Goes (view : PartitionView) (traces health ticks : ℕ) (before after : PartitionState) : Type 0 where
   pub traced : after.traces.next ≤ before.traces.next + traces
   pub met : after.health.next ≤ before.health.next + health
@@ -72,7 +72,7 @@ same_goes view traces health ticks before after same =
 -- a call leaves it so; one that makes a trace entry reaches nothing else
 record Leaves (caller : Caller) (comes : Served) : Type 0 where
   goes : Goes caller.view 1 0 0 caller.state comes.after
-  untraced : (comes.after.traces.next ≤ caller.state.traces.next) ⊎ (comes.upshot ≡ Acts told.Nothing)
+  untraced : (comes.after.traces.next ≤ caller.state.traces.next) ⊎ (comes.upshot ≡ Acts emission.Nothing)
 
 -- where no entry is made
 untraced_leaves : (caller : Caller) (comes : Served) → Goes caller.view 0 0 0 caller.state comes.after → Leaves caller comes
@@ -276,5 +276,5 @@ pub served_goes : (caller : Caller) → Goes caller.view 1 0 0 caller.state (ser
 served_goes caller = (served_leaves caller).goes
 
 -- one that makes a trace entry reaches nothing else
-pub served_untraced : (caller : Caller) → ((served caller).after.traces.next ≤ caller.state.traces.next) ⊎ ((served caller).upshot ≡ Acts told.Nothing)
+pub served_untraced : (caller : Caller) → ((served caller).after.traces.next ≤ caller.state.traces.next) ⊎ ((served caller).upshot ≡ Acts emission.Nothing)
 served_untraced caller = (served_leaves caller).untraced

@@ -42,8 +42,8 @@ use Rattle.machine_model.specs.LocalTick.{LocalTick, bounded, by_act, by_turn, b
 use Rattle.machine_model.specs.Machine.{Machine, SlotTurn, act_of, after, after_tick, booted_part, copies, happened, happened_by, if_its_turn, is_halt, is_turn_of, local, local_in, local_of, obeyed, order_upon, part_after, rested_unless, run, sight_of_state, start, step, system_traffic, taken_by, tick_of, turn_of, worked_in}
 use Rattle.machine_model.specs.Partition.{PartitionState, applies, areas_of, booted, carried_out, disarmed, execution_looked_at, hardware_looked_at, is_halted, link_signal, ordered, reset, rested, takes_turns}
 use Rattle.machine_model.specs.Structures.{flag}
-use Rattle.machine_model.specs.Told as told
-use Rattle.machine_model.specs.Told.{Act, OwnPuts, OwnSignals, OwnStill, OwnTakes, OwnTraffic, Sight}
+use Rattle.machine_model.specs.Emission as emission
+use Rattle.machine_model.specs.Emission.{Act, OwnPuts, OwnSignals, OwnStill, OwnTakes, OwnTraffic, Sight}
 use Rattle.machine_model.specs.Traffic.{after_message, heard_as, heard_from, heard_of_own, hearing, interrupted, traffic_of}
 use Rattle.machine_model.specs.View.{PartitionView, System, view_of}
 use Rattle.machine_model.specs.Whole.{AllHalted, AllReset, NoEvent, WholeEvent, after_event, event_of, ticks_after}
@@ -196,7 +196,7 @@ passed_goes true view ps = same_goes view 0 0 0 ps (passed_over_if true ps) refl
 passed_goes false view ps = same_goes view 0 0 0 ps ps refl
 
 -- a trap that goes on to the partition does nothing to the whole system
-propagates_alone : (an_action : Action) (enabled : Bool) → (effect_of an_action enabled).own ≡ own.Propagate → done_to_all (effect_of an_action enabled).whole ≡ told.Nothing
+propagates_alone : (an_action : Action) (enabled : Bool) → (effect_of an_action enabled).own ≡ own.Propagate → done_to_all (effect_of an_action enabled).whole ≡ emission.Nothing
 unfolding effect_of
 propagates_alone action.Ignore enabled is = refl
 propagates_alone action.Shutdown enabled is = refl
@@ -214,7 +214,7 @@ propagates_alone action.SwitchToMaintenance enabled is = absurd cc
 -- a part of a tick after which the partition has halted, and that reaches nothing else
 record Halts (after : PartitionState) (act : Act) : Type 0 where
   halted : is_halted after.state ≡ true
-  alone : act ≡ told.Nothing
+  alone : act ≡ emission.Nothing
 
 -- whether an act halts the hypervisor
 abbrev halts_all : Act → Bool
@@ -272,7 +272,7 @@ event_works view time an_event word type ps =
     by effect passed (goes_then (entered_if_goes (is_logged view.part.hm an_event) view time an_event word effect.action ps) (passed_goes (is_passed_over an_event effect) view noted_state))
     (propagates_alone (action_in view.part.hm an_event) ps.traps.enabled) (own_tries view time type effect.own passed)
   where
-    by : (effect : Effect) (passed : PartitionState) → Goes view 0 1 0 ps passed → (effect.own ≡ own.Propagate → done_to_all effect.whole ≡ told.Nothing)
+    by : (effect : Effect) (passed : PartitionState) → Goes view 0 1 0 ps passed → (effect.own ≡ own.Propagate → done_to_all effect.whole ≡ emission.Nothing)
         → Goes view 0 0 0 passed (done_to_itself view time type effect.own passed).after ⊎ (Fails view passed (done_to_itself view time type effect.own passed).after × (effect.own ≡ own.Propagate))
         → Works view 0 0 ps (done_to_itself view time type effect.own passed).after (done_to_all effect.whole)
     by effect passed before alone (inl goes) = works_once (goes_then before goes) (λ halts. none_traced (goes_then before goes))
@@ -282,18 +282,18 @@ event_works view time an_event word type ps =
       untraced = λ halts. none_traced (goes_then before fails.0.goes);
     }
 
--- what a call comes to
+-- the outcome of a call
 act_goes : (act : Act) (view : PartitionView) (ps : PartitionState) → Goes view 0 0 0 ps (by_act act view ps).after
 unfolding self_ordered
-act_goes told.Nothing view ps = same_goes view 0 0 0 ps ps refl
-act_goes (told.Trades traffic) view ps = same_goes view 0 0 0 ps ps refl
-act_goes (told.Upon id an_order) view ps = at (id == view.id)
+act_goes emission.Nothing view ps = same_goes view 0 0 0 ps ps refl
+act_goes (emission.Trades traffic) view ps = same_goes view 0 0 0 ps ps refl
+act_goes (emission.Upon id an_order) view ps = at (id == view.id)
   where
-    at : (b : Bool) → Goes view 0 0 0 ps (if b then self_ordered view an_order ps else record (quiet ps) { act = told.Upon id an_order }).after
+    at : (b : Bool) → Goes view 0 0 0 ps (if b then self_ordered view an_order ps else record (quiet ps) { act = emission.Upon id an_order }).after
     at true = ordered_goes view an_order ps
     at false = same_goes view 0 0 0 ps ps refl
-act_goes (told.Plans change) view ps = same_goes view 0 0 0 ps ps refl
-act_goes (told.UponAll event) view ps = same_goes view 0 0 0 ps ps refl
+act_goes (emission.Plans change) view ps = same_goes view 0 0 0 ps ps refl
+act_goes (emission.UponAll event) view ps = same_goes view 0 0 0 ps ps refl
 
 upshot_works : (upshot : Upshot) (view : PartitionView) (time : ℕ) (ps : PartitionState) → IsWork view 0 0 ps (by_upshot upshot view time ps)
 upshot_works (Acts act) view time ps = works_once (more_goes 0 1 0 (act_goes act view ps)) (λ halts. none_traced (act_goes act view ps))
@@ -316,7 +316,7 @@ called_works caller =
     none : counted.traces.next ≤ (served caller).after.traces.next
     none = none_traced (clocked_goes caller.view (served caller).after)
 
-    by : ((served caller).after.traces.next ≤ caller.state.traces.next) ⊎ ((served caller).upshot ≡ Acts told.Nothing)
+    by : ((served caller).after.traces.next ≤ caller.state.traces.next) ⊎ ((served caller).upshot ≡ Acts emission.Nothing)
         → halts_all (by_upshot (served caller).upshot caller.view caller.time counted).act ≡ true → counted.traces.next ≤ caller.state.traces.next
     by (inl few) halts = omega (arith, none, few)
     by (inr nothing) halts =
@@ -400,25 +400,25 @@ after_tick_goes : (view : PartitionView) (time : ℕ) (worked : Bool) (traffic :
 unfolding after_tick
 after_tick_goes view time worked traffic o e ps =
     let heard : PartitionState = hearing view traffic ps in
-    let told : PartitionState = obeyed view o heard in
-    let met : PartitionState = after_event view e told in
-    goes_then (hearing_goes view traffic ps) (goes_then (obeyed_goes view o heard) (goes_then (whole_goes view e told) (rested_goes view worked time met)))
+    let obedient : PartitionState = obeyed view o heard in
+    let met : PartitionState = after_event view e obedient in
+    goes_then (hearing_goes view traffic ps) (goes_then (obeyed_goes view o heard) (goes_then (whole_goes view e obedient) (rested_goes view worked time met)))
 
 -- what halts the hypervisor as the rest of the system sees it, does so
 bounded_halts : (view : PartitionView) (act : Act) → halts_all (bounded view act) ≡ true → halts_all act ≡ true
-bounded_halts view told.Nothing halts = halts
-bounded_halts view (told.Trades traffic) halts = at (is_its view traffic) halts
+bounded_halts view emission.Nothing halts = halts
+bounded_halts view (emission.Trades traffic) halts = at (is_its view traffic) halts
   where
-    at : (b : Bool) → halts_all (if b then told.Trades traffic else told.Nothing) ≡ true → halts_all (told.Trades traffic) ≡ true
+    at : (b : Bool) → halts_all (if b then emission.Trades traffic else emission.Nothing) ≡ true → halts_all (emission.Trades traffic) ≡ true
     at true is = is
     at false is = absurd cc
-bounded_halts view (told.Upon id an_order) halts = at (id == view.id) halts
+bounded_halts view (emission.Upon id an_order) halts = at (id == view.id) halts
   where
-    at : (b : Bool) → halts_all (if b then told.Nothing else told.Upon id an_order) ≡ true → halts_all (told.Upon id an_order) ≡ true
+    at : (b : Bool) → halts_all (if b then emission.Nothing else emission.Upon id an_order) ≡ true → halts_all (emission.Upon id an_order) ≡ true
     at true is = absurd cc
     at false is = is
-bounded_halts view (told.Plans change) halts = halts
-bounded_halts view (told.UponAll event) halts = halts
+bounded_halts view (emission.Plans change) halts = halts
+bounded_halts view (emission.UponAll event) halts = halts
 
 -- a partition's own part of a tick, as the rest of the system sees it
 bounded_works : {view : PartitionView} {t i : ℕ} {before after : PartitionState} {act : Act} → Works view t i before after act → Works view t i before after (bounded view act)
@@ -457,7 +457,7 @@ rest_ticks view time traffic o e ps =
 
 -- a partition that works: nothing follows its work where two entries were made
 work_ticks : (view : PartitionView) (time : ℕ) (traffic : OwnTraffic) (o : Option Order) (e : WholeEvent) (before after : PartitionState) (act : Act) → is_halted before.state ≡ false
-    → Works view 1 1 before after act → e ≡ event_of act → (act ≡ told.Nothing → after_tick view time true traffic o e after ≡ after) → Ticks view e before (after_tick view time true traffic o e after)
+    → Works view 1 1 before after act → e ≡ event_of act → (act ≡ emission.Nothing → after_tick view time true traffic o e after ≡ after) → Ticks view e before (after_tick view time true traffic o e after)
 work_ticks view time traffic o e before after act awake works event quiet_after = record {
   goes = goes_then works.goes (after_tick_goes view time true traffic o e after);
   met = by works.entries;
@@ -499,7 +499,7 @@ left_by g p turn tick its ps =
     (event_of (act_of tick)) (worked_in its ps)
 
 -- a tick that reaches nothing leaves a partition as its work did
-nothing_follows : (g : Machine) (p : ℕ) (turn : Option SlotTurn) (act : Act) (ps : PartitionState) → act ≡ told.Nothing
+nothing_follows : (g : Machine) (p : ℕ) (turn : Option SlotTurn) (act : Act) (ps : PartitionState) → act ≡ emission.Nothing
     → after_tick (view_of g.system p) g.time true (heard_as g.system.conf p (system_traffic g.system.conf turn (traffic_of act))) (order_upon act p) (event_of act) ps ≡ ps
 unfolding after_tick
 nothing_follows g p None act ps is = rw is refl
@@ -593,7 +593,7 @@ alone_rests view a cue none =
     subst (λ (tick : Option LocalTick). Ticks view cue.whole a.state (alone_after view a cue tick).state) (sym none) (rest_ticks view a.time cue.traffic cue.order cue.whole a.state)
 
 -- an act that is nothing has nothing to follow
-nothing_after : (view : PartitionView) (time : ℕ) (act : Act) (ps : PartitionState) → act ≡ told.Nothing → after_tick view time true (heard_of_own (traffic_of act)) None (event_of act) ps ≡ ps
+nothing_after : (view : PartitionView) (time : ℕ) (act : Act) (ps : PartitionState) → act ≡ emission.Nothing → after_tick view time true (heard_of_own (traffic_of act)) None (event_of act) ps ≡ ps
 unfolding after_tick
 nothing_after view time act ps is = rw is refl
 

@@ -1,4 +1,4 @@
--- What a tick tells a partition is as the partition's channels and its calls allow.
+-- What a partition receives in a tick is as its channels and its calls allow.
 use Rattle.std.specs.Prelude.{◌≡◌, ℕ, ◌<◌, Bool, List, length, IsSome, Option, None, Some, slice_index_or}
 use Rattle.xm_conf.specs.Description.{described}
 use Rattle.xm_conf.specs.Fits.{Fits}
@@ -9,7 +9,7 @@ use Rattle.machine_model.specs.Facts.{HasFacts, IsComplete}
 use Rattle.machine_model.specs.Machine.{Machine, answer_to, copies, happened}
 use Rattle.machine_model.specs.Observed.{CurrentPlan, HealthCounts, HealthEntryOf, Observation, PartitionStatus, PlanStatus, Question, SystemStatus, TraceCounts, TraceEntryOf, asks}
 use Rattle.machine_model.specs.Partition.{PartitionState}
-use Rattle.machine_model.specs.Told.{NotKept, OwnPuts, OwnSignals, OwnStill, OwnTakes, OwnTraffic, Sight, Unseen, Words}
+use Rattle.machine_model.specs.Emission.{NotKept, OwnPuts, OwnSignals, OwnStill, OwnTakes, OwnTraffic, Sight, Unseen, Words}
 use Rattle.machine_model.specs.Traffic.{heard_as}
 use Rattle.machine_model.specs.View.{PartitionView, PortChannel, view_of}
 

@@ -1,4 +1,4 @@
--- One partition without the others: what it does where it is told these cues.
+-- One partition in isolation: what it does where it receives these cues.
 use Rattle.std.specs.Prelude.{ℕ, ◌==◌, if◌then◌else◌, List, [], ◌∷◌, ◌++◌, map, Option, Some, None, is_some}
 use Rattle.xm_ports.specs.Channels.{Content, empty}
 use Rattle.xm_report.specs.Report.{ReportLine}
@@ -7,9 +7,9 @@ use Rattle.machine_model.specs.Lines.{local_lines, local_said}
 use Rattle.xm_base.specs.Options.{on}
 use Rattle.machine_model.specs.Lists.{each}
 use Rattle.machine_model.specs.LocalTick.{LocalTick, local_tick}
-use Rattle.machine_model.specs.Machine.{after_tick, obeyed_told, worked_in}
+use Rattle.machine_model.specs.Machine.{after_tick, obeyed_emissions, worked_in}
 use Rattle.machine_model.specs.Partition.{PartitionState, booted, takes_turns}
-use Rattle.machine_model.specs.Told.{OwnTraffic, Sight, line_of}
+use Rattle.machine_model.specs.Emission.{OwnTraffic, Sight, line_of}
 use Rattle.machine_model.specs.Traffic.{copies_after, heard_of_own, traffic_of}
 use Rattle.machine_model.specs.View.{PartitionView, PortChannel}
 use Rattle.machine_model.specs.Whole.{content_after, event_lines, ticks_after, time_after}
@@ -44,7 +44,7 @@ abbrev pub alone_traffic : Option LocalTick → OwnTraffic → OwnTraffic
 alone_traffic None others = others
 alone_traffic (Some tick) others = heard_of_own (traffic_of tick.act)
 
--- one partition after its work and all that it was told
+-- one partition after its work and all that it received
 unfoldable pub alone_after : PartitionView → Alone → Cue → Option LocalTick → Alone
 alone_after view a cue tick = record {
   state = after_tick view a.time (is_some tick) (alone_traffic tick cue.traffic) cue.order cue.whole (worked_in tick a.state);
@@ -65,7 +65,7 @@ alone_from view a (cue ∷ cues) = alone_from view (alone_step view a cue) cues
 -- the lines of one tick of one partition
 unfoldable pub alone_lines_of : PartitionView → Alone → Cue → Option LocalTick → List ReportLine
 alone_lines_of view a cue tick =
-    local_lines tick ++ map (line_of a.ticks view.id) (obeyed_told cue.order (worked_in tick a.state)) ++ event_lines a.ticks cue.whole view.id
+    local_lines tick ++ map (line_of a.ticks view.id) (obeyed_emissions cue.order (worked_in tick a.state)) ++ event_lines a.ticks cue.whole view.id
 
 unfoldable pub alone_step_lines : PartitionView → Alone → Cue → List ReportLine
 alone_step_lines view a cue = alone_lines_of view a cue (alone_local view a cue)

@@ -44,7 +44,7 @@ o0_of p g = of_part (λ ps. register_at ps.core 8) p g
 abbrev pub after_answer : ℕ → PartitionState → PartitionState
 after_answer value ps = record ps { core = with_register (advanced ps.core) 8 value; clocks = record ps.clocks { execution = 1 } }
 
--- a system partition suspends another one: it is told under the other one's number, and the caller is answered 0
+-- a system partition suspends another one: the order is reported under the other one's number, and the caller is answered 0
 abbrev pub SuspendsAnother : Type 0
 SuspendsAnother = (one other : Memory) → Calls (caller true) one
     → Prints (in_second_tick true (calling 0x40000000 (4 ∷ 1 ∷ []) one) (at 0x40000100 other)) 1
@@ -141,9 +141,9 @@ resetting mode memory = record (with_its_port (calling 0x40000000 (3 ∷ 0 ∷ m
   inputs = 0x2a ∷ [];
 }
 
--- a partition as it begins again, after so many resets and with this memory
-abbrev pub anew : ℕ → Memory → PartitionState
-anew resets memory = record (at 0x40000000 memory) { resets = resets; reset_status = 9; traces = traces; health = healths; inputs = 0x2a ∷ [] }
+-- a partition as it begins again, after this many resets and with this memory
+abbrev pub restarted : ℕ → Memory → PartitionState
+restarted resets memory = record (at 0x40000000 memory) { resets = resets; reset_status = 9; traces = traces; health = healths; inputs = 0x2a ∷ [] }
 
 -- a cold reset of a partition by itself keeps its traces, its health log and its input words; the memory is loaded again, and no reset is counted
 abbrev pub KeepsLogsCold : Type 0
@@ -151,11 +151,11 @@ KeepsLogsCold = (one other : Memory) → Calls (caller false) one
     → Prints (in_second_tick false (resetting 0 one) (at 0x40000100 other)) 1
     (MovedLine 1 0 move.Cold ∷ EndPart 0 Ready 0 0 0x40000000 ∷ EndPart 1 Ready 0 0 0x40000100 ∷ EndWhole false 0 2 2 ∷ [])
     × Leaves (λ g. g.parts) (in_second_tick false (resetting 0 one) (at 0x40000100 other)) 1
-    (anew 0 (loaded_memory (view_of (in_second_tick false (resetting 0 one) (at 0x40000100 other)).system 0)) ∷ at 0x40000100 other ∷ [])
+    (restarted 0 (loaded_memory (view_of (in_second_tick false (resetting 0 one) (at 0x40000100 other)).system 0)) ∷ at 0x40000100 other ∷ [])
 
 -- a warm one keeps the memory, too, and is counted
 abbrev pub CountsWarm : Type 0
 CountsWarm = (one other : Memory) → Calls (caller false) one
     → Prints (in_second_tick false (resetting 1 one) (at 0x40000100 other)) 1
     (MovedLine 1 0 move.Warm ∷ EndPart 0 Ready 6 0 0x40000000 ∷ EndPart 1 Ready 0 0 0x40000100 ∷ EndWhole false 0 2 2 ∷ [])
-    × Leaves (λ g. g.parts) (in_second_tick false (resetting 1 one) (at 0x40000100 other)) 1 (anew 6 one ∷ at 0x40000100 other ∷ [])
+    × Leaves (λ g. g.parts) (in_second_tick false (resetting 1 one) (at 0x40000100 other)) 1 (restarted 6 one ∷ at 0x40000100 other ∷ [])

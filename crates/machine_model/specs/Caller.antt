@@ -7,7 +7,7 @@ use Rattle.xm_base.specs.declared.partition.Mode.TheVariants.{Cold, Warm}
 use Rattle.xm_conf.specs.declared.health.Event.{Event}
 use Rattle.xm_ports.specs.Channels.{Content}
 use Rattle.machine_model.specs.Partition.{PartitionState, areas_of}
-use Rattle.machine_model.specs.Told.{Act, Nothing, Sight, Told, Unseen, NotKept, Words}
+use Rattle.machine_model.specs.Emission.{Act, Nothing, Sight, Emission, Unseen, NotKept, Words}
 use Rattle.machine_model.specs.View.{PartitionView}
 
 -- what a hypercall is given: the partition with its view, its copies of channels under its own names, the hardware clock,
@@ -21,7 +21,7 @@ pub record Caller : Type 0 where
   pub pc : ℕ
   pub npc : ℕ
 
--- what a hypercall comes to: it acts, or it is answered by a health event with its word
+-- the outcome of a hypercall: it acts, or it is answered by a health event with its word
 pub data Upshot : Type 0 where
   Acts : (act : Act) → Upshot
   Meets : (event : Event) (word : ℕ) → Upshot
@@ -29,7 +29,7 @@ pub data Upshot : Type 0 where
 -- what a hypercall leaves
 pub record Served : Type 0 where
   pub after : PartitionState
-  pub told : List Told
+  pub emitted : List Emission
   pub upshot : Upshot
 
 -- the number of the call stands in %o0, and its arguments a to e in %o1 to %o5
@@ -86,7 +86,7 @@ with_written address bytes ps = record ps { memory = with_bytes ps.memory addres
 
 -- a call that acts, with its result and what it leaves of the partition
 abbrev pub acting : Act → ℕ → PartitionState → Served
-acting act value ps = record { after = with_answer value ps; told = []; upshot = Acts act }
+acting act value ps = record { after = with_answer value ps; emitted = []; upshot = Acts act }
 
 -- a call that answers and leaves this of the partition
 abbrev pub answering : ℕ → PartitionState → Served
@@ -122,7 +122,7 @@ target caller id =
     else if is_not_system caller then Some no_permission
     else refused_if (not (nat_lt id caller.view.sees.parts)) invalid_parameter
 
--- all of so many bytes may be written
+-- all of this many bytes may be written
 abbrev pub is_room : Caller → ℕ → ℕ → Bool
 is_room caller address size = all_from (is_writable (areas_of caller.view)) address size
 
@@ -153,7 +153,7 @@ shown Unseen = []
 shown NotKept = []
 shown (Words bytes) = bytes
 
--- whether an observing call is told that the entry is not kept
+-- whether an observing call is shown that the entry is not kept
 abbrev pub is_not_kept : Sight → Bool
 is_not_kept Unseen = false
 is_not_kept NotKept = true

@@ -12,7 +12,7 @@ use Rattle.machine_model.specs.Effects.{ArmsTimer, CallEffect, ChangesOwn, Creat
 use Rattle.machine_model.specs.PortEffects.{name_given}
 use Rattle.machine_model.specs.Readings.{clock_numbered, clock_of, entry_seen, is_missing, is_negative, joined, log_counts, status_seen}
 use Rattle.machine_model.specs.Structures.{double, health_bytes, queuing_status, sampling_status, trace_bytes}
-use Rattle.machine_model.specs.Told.{AllHalted, AllReset}
+use Rattle.machine_model.specs.Emission.{AllHalted, AllReset}
 pub use Rattle.machine_model.specs.declared.numbers.Call.{Call}
 pub use Rattle.machine_model.specs.declared.numbers.Call.TheVariants.{GetSelf, HaltPartition, ResetPartition, SuspendPartition, ResumePartition, ShutdownPartition, IdleSelf, GetPartitionStatus, HaltSystem, ResetSystem, GetSystemStatus, GetTime, SetTimer, SwitchSchedPlan, GetPlanStatus, CreateSamplingPort, WriteSamplingMessage, ReadSamplingMessage, GetSamplingPortStatus, CreateQueuingPort, SendQueuingMessage, ReceiveQueuingMessage, GetQueuingPortStatus, TraceEvent, TraceRead, TraceStatus, RaiseEvent, HmRead, HmStatus, SetIrqmask, ClearIrqmask, WriteConsole, ReadInput, Iret, SetPsr, SetTbr, FlushRegwin, RaiseIpvi}
 

@@ -19,7 +19,7 @@ abbrev pub bits_of_flags : List Bool → ℕ
 bits_of_flags [] = 0
 bits_of_flags (one ∷ rest) = flag one + 2 * bits_of_flags rest
 
--- a log: its counts, and 64 entries of so many bytes, the oldest first; zeros stand for those that are missing
+-- a log: its counts, and 64 entries of this many bytes, the oldest first; zeros stand for those that are missing
 abbrev pub log_bytes : {T : Type 0} → ℕ → (T → List ℕ) → Kept T → List ℕ
 log_bytes size bytes kept = counts_bytes kept ++ flat_map bytes kept.entries ++ replicate ((64 - length kept.entries) * size) 0
 

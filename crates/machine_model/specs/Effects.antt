@@ -15,8 +15,8 @@ use Rattle.xm_ports.specs.Channels.{first_message, sample_of}
 use Rattle.machine_model.specs.Caller.{Caller, Meets, Served, Test, acting, answering, caller_bytes, invalid_parameter, not_available, refused_if, system_only, target, tested, text, with_answer, with_written}
 use Rattle.machine_model.specs.OwnEffects.{by_flush, by_return, flushed, input_read, printed, tracing, with_mask}
 use Rattle.machine_model.specs.Partition.{PartitionState, areas_of}
-use Rattle.machine_model.specs.PortEffects.{MadePort, creating, first_read, held_read, is_full, made_port, on_port, reading_from, size_fits, source_only, telling_of}
-use Rattle.machine_model.specs.Told.{Asked, OwnPuts, OwnSignals, Plans, Trades, Upon, UponAll, WholeEvent}
+use Rattle.machine_model.specs.PortEffects.{MadePort, creating, first_read, held_read, is_full, made_port, on_port, reading_from, size_fits, source_only, writing_status}
+use Rattle.machine_model.specs.Emission.{Asked, OwnPuts, OwnSignals, Plans, Trades, Upon, UponAll, WholeEvent}
 use Rattle.machine_model.specs.View.{has_number}
 
 -- bytes that a call writes at an address
@@ -106,7 +106,7 @@ putting_bytes address size caller port = acting (Trades (OwnPuts port.name (call
 -- what an effect comes to where the tests are passed; the effects on ports look for the port that the call names, and test it
 abbrev pub comes_to : CallEffect → Caller → Served
 comes_to (GivesAnswer value writings) caller = answering value (with_writings writings caller.state)
-comes_to (PrintsBytes bytes value) caller = record (answering value caller.state) { told = printed bytes }
+comes_to (PrintsBytes bytes value) caller = record (answering value caller.state) { emitted = printed bytes }
 comes_to (GivesOrder id order) caller = acting (Upon id order) 0 caller.state
 comes_to (DoesToAll event) caller = acting (UponAll event) 0 caller.state
 comes_to (RequestsPlan plan writings) caller = acting (Plans (Asked plan)) 0 (with_writings writings caller.state)
@@ -115,12 +115,12 @@ comes_to (PutsBytes the_kind address size) caller = on_port (made_port the_kind 
 comes_to TakesMessage caller = reading_from kind.Queuing caller (λ port. first_read (first_message port.content) caller port)
 comes_to (SendsSignal number) caller = acting (Trades (OwnSignals number)) 0 caller.state
 comes_to ShowsSample caller = reading_from kind.Sampling caller (λ port. held_read (sample_of port.content) caller port)
-comes_to (ShowsPort the_kind size status) caller = telling_of the_kind size caller status
+comes_to (ShowsPort the_kind size status) caller = writing_status the_kind size caller status
 comes_to (CreatesPort the_kind way size most name) caller = creating the_kind way size most name caller
 comes_to (ChangesOwn change) caller = answering 0 (with_change change caller.state)
 comes_to EntersTrace caller = tracing caller
 comes_to UsesInput caller = input_read caller.state.inputs caller
-comes_to (MeetsEvent event word) caller = record { after = with_answer 0 caller.state; told = []; upshot = Meets event word }
+comes_to (MeetsEvent event word) caller = record { after = with_answer 0 caller.state; emitted = []; upshot = Meets event word }
 comes_to GoesBack caller =
     let r = returned (areas_of caller.view) caller.state.traps caller.state.core caller.state.memory in
     by_return r.answer r caller

@@ -24,7 +24,7 @@ use Rattle.machine_model.specs.ProcessorCallRows.{below_top, in_trap, top_spille
 use Rattle.machine_model.specs.Rows.{at, with_outs}
 use Rattle.machine_model.specs.ServedRows.{calling_part, made_by, view_for, with_call, with_o0}
 use Rattle.machine_model.specs.TimeCallRows.{timer}
-use Rattle.machine_model.specs.Told.{Act, AllHalted, AllReset, Health, Maintenance, Moved, Nothing, Plans, Told, UponAll}
+use Rattle.machine_model.specs.Emission.{Act, AllHalted, AllReset, Health, Maintenance, Moved, Nothing, Plans, Emission, UponAll}
 use Rattle.machine_model.specs.View.{PartitionView}
 
 -- the events of trap types, those of section 7 of the SPARC V8 manual and two that have none of their own
@@ -86,7 +86,7 @@ after_instruction ps = record ps { core = record ps.core { pc = 0x1020; npc = 0x
 abbrev pub halted : PartitionState → PartitionState
 halted ps = record ps { state = Halted; clocks = record no_clocks { execution = 7 } }
 
--- the partition as it begins again, after so many resets
+-- the partition as it begins again, after this many resets
 abbrev pub restarted : ℕ → PartitionState → PartitionState
 restarted resets ps = record ps {
   core = registers_started 0x1000;
@@ -97,18 +97,18 @@ restarted resets ps = record ps {
   made = no_ports;
 }
 
--- an illegal instruction of this partition, under an action and log flags, comes to this
-abbrev pub Meets : Action → ℕ → PartitionState → PartitionState → List Told → Act → Type 0
-Meets an_action logged ps after told act =
-    event_handled (view_with an_action logged) 9 event.SparcIllegalInstruction 0x1010 (Some 2) ps ≡ record { after = after; told = told; act = act }
+-- the outcome of an illegal instruction of this partition, under an action and log flags, is this
+abbrev pub Meets : Action → ℕ → PartitionState → PartitionState → List Emission → Act → Type 0
+Meets an_action logged ps after emitted act =
+    event_handled (view_with an_action logged) 9 event.SparcIllegalInstruction 0x1010 (Some 2) ps ≡ record { after = after; emitted = emitted; act = act }
 
--- an action changes the partition so, tells this further, and has this act. Where the flag of the event is set, which is bit 3, the event is entered
+-- an action changes the partition so, emits this further, and has this act. Where the flag of the event is set, which is bit 3, the event is entered
 -- and reported first, with this action; where it alone is not set it is neither
-abbrev pub ActionDoes : Action → ℕ → Bool → Action → (PartitionState → PartitionState) → List Told → Act → Type 0
-ActionDoes an_action resets enabled shown change told act = (memory : Memory) →
+abbrev pub ActionDoes : Action → ℕ → Bool → Action → (PartitionState → PartitionState) → List Emission → Act → Type 0
+ActionDoes an_action resets enabled shown change emitted act = (memory : Memory) →
     Meets an_action 8 (struck resets 7 enabled memory) (change (with_health_entry (entry 5 event.SparcIllegalInstruction shown 0x1010) (struck resets 7 enabled memory)))
-    (Health event.SparcIllegalInstruction 0x1010 shown ∷ told) act
-    × Meets an_action 0xff7 (struck resets 7 enabled memory) (change (struck resets 7 enabled memory)) told act
+    (Health event.SparcIllegalInstruction 0x1010 shown ∷ emitted) act
+    × Meets an_action 0xff7 (struck resets 7 enabled memory) (change (struck resets 7 enabled memory)) emitted act
 
 -- the partition at the entry of trap 2 in its table
 abbrev pub in_table : PartitionState → PartitionState
@@ -135,12 +135,12 @@ pub record ActionRows : Type 0 where
   pub maintenance : ActionDoes action.SwitchToMaintenance 3 true action.SwitchToMaintenance after_instruction [] (Plans Maintenance)
 
 -- a raised event: its word is that of the call, and the partition is past the call already
-abbrev pub RaisesWithWord : Action → (PartitionState → PartitionState) → List Told → Act → Type 0
-RaisesWithWord an_action change told act = (memory : Memory) →
+abbrev pub RaisesWithWord : Action → (PartitionState → PartitionState) → List Emission → Act → Type 0
+RaisesWithWord an_action change emitted act = (memory : Memory) →
     event_handled (view_with an_action 1) 9 event.PartitionError 42 None (struck 3 7 true memory)
     ≡ record {
       after = change (with_health_entry (entry 5 event.PartitionError an_action 42) (struck 3 7 true memory));
-      told = Health event.PartitionError 42 an_action ∷ told;
+      emitted = Health event.PartitionError 42 an_action ∷ emitted;
       act = act;
     }
 
@@ -169,7 +169,7 @@ pub record DeliveryRows : Type 0 where
   pub interrupt : (memory : Memory) → interrupt_delivered (view_with action.Ignore 0) 9 0 (trap_fails memory)
       ≡ record {
         after = halted_with (entry 5 event.MemProtection action.Halt 0x1010 ∷ []) 6 (trap_fails memory);
-        told = Health event.MemProtection 0x1010 action.Halt ∷ Moved move.Halt ∷ [];
+        emitted = Health event.MemProtection 0x1010 action.Halt ∷ Moved move.Halt ∷ [];
         act = Nothing;
       }
   pub delivered : (memory : Memory) → interrupt_delivered (view_with action.Ignore 0) 9 5 (struck 3 7 true memory)
@@ -178,7 +178,7 @@ pub record DeliveryRows : Type 0 where
           core = record (with_outs 16 (0xa7 ∷ 0x1010 ∷ 0x1020 ∷ []) (in_window (struck_core 7) 6)) { pc = 0x4000_1e50; npc = 0x4000_1e54 };
           traps = record (struck_traps false) { pending = 1 };
         };
-        told = [];
+        emitted = [];
         act = Nothing;
       }
   pub same_type : (memory : Memory) → event_handled (view_with action.Propagate 0) 9 event.UnexpectedTrap 0x1010 (Some 0xe0) (struck 3 7 true memory)
@@ -187,7 +187,7 @@ pub record DeliveryRows : Type 0 where
           core = record (with_outs 16 (0xa7 ∷ 0x1010 ∷ 0x1020 ∷ []) (in_window (struck_core 7) 6)) { pc = 0x4000_1e00; npc = 0x4000_1e04 };
           traps = struck_traps false;
         };
-        told = [];
+        emitted = [];
         act = Nothing;
       }
 
@@ -210,18 +210,18 @@ lacking = with_outs 30 (0x1008 ∷ []) (in_trap 7 (0 ∷ 0x1010 ∷ 0x1018 ∷ [
 
 pub record UndoneRows : Type 0 where
   pub iret : (memory : Memory) → called (made_by (view_with action.Shutdown 2) (with_core lacking memory))
-      ≡ record { after = shut_down (with_core lacking memory); told = Health event.MemProtection 0x1004 action.Shutdown ∷ []; act = Nothing }
+      ≡ record { after = shut_down (with_core lacking memory); emitted = Health event.MemProtection 0x1004 action.Shutdown ∷ []; act = Nothing }
   pub flush : (memory : Memory) → called (made_by (view_with action.Shutdown 2) (with_core (below_top 5 0x1000) memory))
-      ≡ record { after = shut_down (top_spilled 5 0x1000 memory); told = Health event.MemProtection 0x1004 action.Shutdown ∷ []; act = Nothing }
+      ≡ record { after = shut_down (top_spilled 5 0x1000 memory); emitted = Health event.MemProtection 0x1004 action.Shutdown ∷ []; act = Nothing }
   pub halts : (memory : Memory) → called (made_by (view_with action.Halt 0) (with_core lacking memory))
       ≡ record {
         after = record (with_core lacking memory) { core = record lacking { pc = 0x1004; npc = 0x1020 }; state = Halted; clocks = record no_clocks { execution = 1 } };
-        told = Moved move.Halt ∷ [];
+        emitted = Moved move.Halt ∷ [];
         act = Nothing;
       }
   pub raised : (memory : Memory) → called (made_by (view_with action.Suspend 0) (with_call (27 ∷ 42 ∷ []) memory))
       ≡ record {
         after = record (with_o0 0 (with_call (27 ∷ 42 ∷ []) memory)) { state = Suspended; clocks = record no_clocks { execution = 1 } };
-        told = Moved move.Suspend ∷ [];
+        emitted = Moved move.Suspend ∷ [];
         act = Nothing;
       }

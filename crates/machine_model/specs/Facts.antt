@@ -37,7 +37,7 @@ AreEnds view made = (r : ℕ) → is_made r made ≡ true → IsChannelEnd view 
 abbrev pub HaveEight : List TraceEntry → Type 0
 HaveEight entries = All (λ entry. length entry.load ≡ 8) entries
 
--- after so many ticks that were counted, in a machine whose hypervisor has halted or has not; the tick in which it halts is not counted.
+-- after this many ticks that were counted, in a machine whose hypervisor has halted or has not; the tick in which it halts is not counted.
 -- At most one trace entry came with each counted tick, and none with the one that halts; so did at most one health entry, and one more where
 -- the partition or the hypervisor has halted: a tick makes two only where the delivery of a trap fails, and then the partition halts. The
 -- execution clock counted at most each tick that has begun, the one that halts with them. The trace entries that are kept have eight bytes;

@@ -1,4 +1,4 @@
--- What a partition's health events come to.
+-- The outcome of a partition's health events.
 use Rattle.std.specs.Prelude.{ℕ, ◌+◌, ◌==◌, ◌&&◌, not, Bool, true, false, List, [], ◌∷◌, ◌++◌, Option, Some, None, Result, Ok, Err}
 use Rattle.sparc_step.specs.Registers.{advanced}
 use Rattle.virt_traps.specs.Delivery.{Delivered, delivered}
@@ -18,19 +18,19 @@ use Rattle.health_monitor.specs.declared.effects.Own.{Own}
 use Rattle.health_monitor.specs.declared.effects.Own.TheVariants as own
 use Rattle.health_monitor.specs.declared.effects.Whole.{Whole}
 use Rattle.health_monitor.specs.declared.effects.Whole.TheVariants as whole
-use Rattle.machine_model.specs.Partition.{PartitionState, areas_of, ordered, ordered_told, shutdown}
-use Rattle.machine_model.specs.Told.{Act, AllHalted, AllReset, Health, Maintenance, Nothing, Plans, Told, UponAll}
+use Rattle.machine_model.specs.Partition.{PartitionState, areas_of, ordered, ordered_emissions, shutdown}
+use Rattle.machine_model.specs.Emission.{Act, AllHalted, AllReset, Health, Maintenance, Nothing, Plans, Emission, UponAll}
 use Rattle.machine_model.specs.View.{PartitionView}
 
--- what a partition's part of a tick came to
+-- the outcome of a partition's part of a tick
 pub record Worked : Type 0 where
   pub after : PartitionState
-  pub told : List Told
+  pub emitted : List Emission
   pub act : Act
 
 -- a tick that reported nothing and did not reach beyond the partition
 abbrev pub quiet : PartitionState → Worked
-quiet ps = record { after = ps; told = []; act = Nothing }
+quiet ps = record { after = ps; emitted = []; act = Nothing }
 
 -- a partition that entered an event in its health log
 unfoldable pub entered : ℕ → Event → ℕ → Action → PartitionState → PartitionState
@@ -38,24 +38,24 @@ entered time an_event word an_action ps = record ps {
   health = noted (record { time = time; seq = ps.health.next; event = an_event; action = an_action; word = word }) ps.health;
 }
 
--- the event is entered and told where it is logged
+-- the event is entered and emitted where it is logged
 abbrev pub entered_if : Bool → ℕ → Event → ℕ → Action → PartitionState → PartitionState
 entered_if true time an_event word an_action ps = entered time an_event word an_action ps
 entered_if false time an_event word an_action ps = ps
 
-abbrev pub entered_told : Bool → Event → ℕ → Action → List Told
-entered_told true an_event word an_action = Health an_event word an_action ∷ []
-entered_told false an_event word an_action = []
+abbrev pub entered_emissions : Bool → Event → ℕ → Action → List Emission
+entered_emissions true an_event word an_action = Health an_event word an_action ∷ []
+entered_emissions false an_event word an_action = []
 
 -- an order on oneself
 unfoldable pub self_ordered : PartitionView → Order → PartitionState → Worked
-self_ordered view an_order ps = record { after = ordered view an_order ps; told = ordered_told an_order ps; act = Nothing }
+self_ordered view an_order ps = record { after = ordered view an_order ps; emitted = ordered_emissions an_order ps; act = Nothing }
 
--- a trap or an interrupt that could not be delivered: it is logged and told whatever the log flags say, and the partition halts
+-- a trap or an interrupt that could not be delivered: it is logged and emitted whatever the log flags say, and the partition halts
 unfoldable pub undelivered : PartitionView → ℕ → PartitionState → Worked
 undelivered view time ps = record {
   after = ordered view order.Halt (entered time event.MemProtection ps.core.pc action.Halt ps);
-  told = Health event.MemProtection ps.core.pc action.Halt ∷ ordered_told order.Halt ps;
+  emitted = Health event.MemProtection ps.core.pc action.Halt ∷ ordered_emissions order.Halt ps;
   act = Nothing;
 }
 
@@ -119,17 +119,17 @@ abbrev pub passed_over_if : Bool → PartitionState → PartitionState
 passed_over_if true ps = record ps { core = advanced ps.core }
 passed_over_if false ps = ps
 
--- what was told before, and what a part of the tick came to
-abbrev pub after_telling : List Told → Act → Worked → Worked
-after_telling told act w = record w { told = told ++ w.told; act = act }
+-- what was emitted before, and the outcome of a part of the tick
+abbrev pub after_emitting : List Emission → Act → Worked → Worked
+after_emitting emitted act w = record w { emitted = emitted ++ w.emitted; act = act }
 
--- an event with its effect: it is entered and told, then passed over, then answered
+-- an event with its effect: it is entered and emitted, then passed over, then answered
 unfoldable pub answered_by : PartitionView → ℕ → Event → ℕ → Option ℕ → Effect → PartitionState → Worked
 answered_by view time an_event word type effect ps =
     let logged = is_logged view.part.hm an_event in
     let logged_state = entered_if logged time an_event word effect.action ps in
     let passed = passed_over_if (is_passed_over an_event effect) logged_state in
-    after_telling (entered_told logged an_event word effect.action) (done_to_all effect.whole) (done_to_itself view time type effect.own passed)
+    after_emitting (entered_emissions logged an_event word effect.action) (done_to_all effect.whole) (done_to_itself view time type effect.own passed)
 
 -- a health event with its word, and the trap type where it is a trap's: the partition's health table says what is done
 unfoldable pub event_handled : PartitionView → ℕ → Event → ℕ → Option ℕ → PartitionState → Worked

@@ -16,7 +16,7 @@ use Rattle.machine_model.specs.LocalTick.{local_tick, worked}
 use Rattle.machine_model.specs.Machine.{Machine, answer_to, copies, run, sight, start, step}
 use Rattle.machine_model.specs.Observed.{Observation, observed_by}
 use Rattle.machine_model.specs.Partition.{PartitionState}
-use Rattle.machine_model.specs.Told.{NotKept, Sight, Unseen, Upon, Words}
+use Rattle.machine_model.specs.Emission.{NotKept, Sight, Unseen, Upon, Words}
 use Rattle.machine_model.specs.View.{PartitionView, System, part_of, view_of}
 
 -- partition p's part of the machine's state
@@ -49,7 +49,7 @@ AllTicks = (count : ℕ) (g : Machine) (p : ℕ) (ps : PartitionState) → slice
 abbrev pub BootsAlone : Type 0
 BootsAlone = (system : System) (p : ℕ) → p < length system.conf.parts → alone_part_at (start system) p ≡ Some (alone_start (view_of system p))
 
--- two runs of two systems in which a partition has the same things of its own, and is told the same
+-- two runs of two systems in which a partition has the same things of its own, and receives the same
 pub record AreAlike (one other : System) (p count : ℕ) : Type 0 where
   pub in_one : p < length one.conf.parts
   pub in_other : p < length other.conf.parts
@@ -99,7 +99,7 @@ pub record IsObserving (caller : Caller) (call : Observation) : Type 0 where
   pub refused : is_room caller call.address call.size ≡ false → served caller ≡ answering invalid_parameter caller.state
   pub shown : is_room caller call.address call.size ≡ true → (served caller).after ≡ with_answer 0 (with_written call.address (shown caller.sight) caller.state)
 
--- what a partition asks for has the place and the size that its call tests, unless it is told that an entry is not kept
+-- what a partition asks for has the place and the size that its call tests, unless it is shown that an entry is not kept
 abbrev pub ObservesAsTested : Type 0
 ObservesAsTested = (caller : Caller) (call : Observation) →
     observed_by caller.view caller.state.core ≡ Some call → is_not_kept caller.sight ≡ false → IsObserving caller call
@@ -134,11 +134,11 @@ SameCoreFile = (system : System) (p count : ℕ) → p < length system.conf.part
     core_file_of (run (start system) count) p
     ≡ Some (core_file (view_of system p) (alone_from (view_of system p) (alone_start (view_of system p)) (script (start system) p count)).state)
 
--- scripts that are equal for so many ticks are equal for fewer
+-- scripts that are equal for this many ticks are equal for fewer
 abbrev pub EarlierScripts : Type 0
 EarlierScripts = (one other : Machine) (p q count fewer : ℕ) → fewer ≤ count → script one p count ≡ script other q count → script one p fewer ≡ script other q fewer
 
--- so a partition that is told the same in two runs is the same after each tick of them
+-- so a partition that receives the same in two runs is the same after each tick of them
 abbrev pub TwoRunsEarlier : Type 0
 TwoRunsEarlier = (one other : System) (p count fewer : ℕ) → fewer ≤ count → AreAlike one other p count → AreEqual one other p fewer
 

@@ -4,17 +4,17 @@ use Rattle.xm_conf.specs.Description.{described}
 use Rattle.xm_conf.specs.Fits.{Fits}
 use Rattle.machine_model.specs.Facts.{HasFacts}
 use Rattle.machine_model.specs.Machine.{Machine, happened, sight}
-use Rattle.machine_model.specs.Told.{NotKept, Sight, Unseen, Words}
+use Rattle.machine_model.specs.Emission.{NotKept, Sight, Unseen, Words}
 use Rattle.machine_model.specs.Traffic.{Puts, Signals, Still, Takes, Traffic}
 
--- a message that is put has so many bytes at most
+-- a message that is put has this many bytes at most
 abbrev pub PutsAtMost : ℕ → Traffic → Type 0
 PutsAtMost most Still = Unit {0}
 PutsAtMost most (Puts channel bytes) = length bytes ≤ most
 PutsAtMost most (Takes channel) = Unit {0}
 PutsAtMost most (Signals source number) = Unit {0}
 
--- bytes that are shown are so many at most
+-- bytes that are shown are at most this many
 abbrev pub ShowsAtMost : ℕ → Sight → Type 0
 ShowsAtMost most Unseen = Unit {0}
 ShowsAtMost most NotKept = Unit {0}

@@ -1,6 +1,6 @@
 pub mod Lists
 pub mod View
-pub mod Told
+pub mod Emission
 pub mod Partition
 pub mod Health
 pub mod Caller

@@ -3,9 +3,9 @@ use Rattle.std.specs.Prelude.{ℕ, zero, suc, ◌==◌, Bool, true, false, if◌
 use Rattle.xm_report.specs.Report.{ReportLine, ConsoleLine, EndPart, EndWhole, HealthLine, MovedLine, PlanLine, SystemLine, TraceLine, WholeLine}
 use Rattle.machine_model.specs.Lists.{all_of, is_number}
 use Rattle.machine_model.specs.LocalTick.{LocalTick}
-use Rattle.machine_model.specs.Machine.{Happened, Machine, happened, next_clock, obeyed_told, order_upon, run, start, step, tick_of, worked_in}
+use Rattle.machine_model.specs.Machine.{Happened, Machine, happened, next_clock, obeyed_emissions, order_upon, run, start, step, tick_of, worked_in}
 use Rattle.machine_model.specs.Partition.{PartitionState}
-use Rattle.machine_model.specs.Told.{line_of}
+use Rattle.machine_model.specs.Emission.{line_of}
 use Rattle.machine_model.specs.View.{System, part_of}
 use Rattle.machine_model.specs.Whole.{event_lines, whole_lines}
 
@@ -16,7 +16,7 @@ local_lines (Some tick) = tick.lines
 
 -- the lines of an order that partition p obeyed
 unfoldable pub order_lines : Machine → Happened → ℕ → PartitionState → List ReportLine
-order_lines g h p ps = map (line_of g.ticks p) (obeyed_told (order_upon h.act p) (worked_in (tick_of h p) ps))
+order_lines g h p ps = map (line_of g.ticks p) (obeyed_emissions (order_upon h.act p) (worked_in (tick_of h p) ps))
 
 -- the line of a plan that starts after this tick, another than before
 abbrev pub plan_lines : ℕ → ℕ → ℕ → List ReportLine
@@ -36,12 +36,12 @@ lines_unless false g = lines_of g (happened g)
 unfoldable pub step_lines : Machine → List ReportLine
 step_lines g = lines_unless g.halted g
 
--- what each of so many ticks adds, one after the other
+-- what each of this many ticks adds, one after the other
 abbrev pub added : {X : Type 0} → (Machine → List X) → Machine → ℕ → List X
 added adds g zero = []
 added adds g (suc count) = adds g ++ added adds (step g) count
 
--- the lines of so many ticks
+-- the lines of this many ticks
 abbrev pub lines : Machine → ℕ → List ReportLine
 lines g count = added step_lines g count
 
@@ -58,7 +58,7 @@ said_unless false g p = local_said (tick_of (happened g) p)
 unfoldable pub step_said : Machine → ℕ → List ℕ
 step_said g p = said_unless g.halted g p
 
--- the bytes that partition p writes to its console in so many ticks
+-- the bytes that partition p writes to its console in this many ticks
 abbrev pub said : Machine → ℕ → ℕ → List ℕ
 said g count p = added (λ m. step_said m p) g count
 
@@ -70,7 +70,7 @@ has_console g uart p = is_number (part_of g.system.conf p).console uart
 unfoldable pub step_console : Machine → ℕ → List ℕ
 step_console g uart = all_of (λ p ps. if has_console g uart p then step_said g p else []) g.parts
 
--- the bytes that a UART gets in so many ticks
+-- the bytes that a UART gets in this many ticks
 abbrev pub console : Machine → ℕ → ℕ → List ℕ
 console g count uart = added (λ m. step_console m uart) g count
 
@@ -82,7 +82,7 @@ end_line p ps = EndPart p ps.state ps.resets ps.clocks.execution ps.core.pc
 unfoldable pub end_lines : Machine → List ReportLine
 end_lines g = all_of (λ p ps. end_line p ps ∷ []) g.parts ++ EndWhole g.halted g.clock.plan g.time g.ticks ∷ []
 
--- the report of so many ticks
+-- the report of this many ticks
 unfoldable pub report : System → ℕ → List ReportLine
 report system ticks =
     SystemLine (length system.conf.parts) (length system.conf.plans) ticks ∷ lines (start system) ticks ++ end_lines (run (start system) ticks)

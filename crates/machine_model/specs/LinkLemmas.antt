@@ -7,8 +7,8 @@ use Rattle.xm_conf.specs.Configuration.{Conf}
 use Rattle.xm_conf.specs.View.{is_link_of, link_of}
 use Rattle.xm_conf.specs.declared.link.Link.{Link}
 use Rattle.machine_model.specs.Lists.{is_number}
-use Rattle.machine_model.specs.Told.{OwnSignals, OwnStill}
-use Rattle.machine_model.specs.Traffic.{heard_as, own_signals_at, told_as}
+use Rattle.machine_model.specs.Emission.{OwnSignals, OwnStill}
+use Rattle.machine_model.specs.Traffic.{heard_as, own_signals_at, traffic_as}
 use Rattle.machine_model.specs.View.{System, has_number, linked, numbers_of, unless_itself, view_of}
 
 -- a number is one of the partition's exactly where a link of the partition has it
@@ -38,6 +38,6 @@ itself_apart p (Some dest) = at (dest == p) refl
     at true same = refl
     at false other = other
 
-pub own_signal : (conf : Conf) (p number : ℕ) → heard_as conf p (told_as conf p (OwnSignals number)) ≡ OwnStill
+pub own_signal : (conf : Conf) (p number : ℕ) → heard_as conf p (traffic_as conf p (OwnSignals number)) ≡ OwnStill
 unfolding linked
 own_signal conf p number = ap (λ b. own_signals_at b number) (itself_apart p (link_of conf p number))

@@ -16,8 +16,8 @@ use Rattle.machine_model.specs.Partition.{PartitionState}
 use Rattle.machine_model.specs.Rows.{Leaves, Prints, at, calling, small_conf, halves, machine, of_part}
 use Rattle.machine_model.specs.ServedRows.{AnswersWith, DoesAct, made_by, minus, view_for, with_call}
 use Rattle.machine_model.specs.SlotRows.{suspended_partition, two_parts}
-use Rattle.machine_model.specs.Told.{OwnSignals, OwnStill, OwnTraffic, Trades}
-use Rattle.machine_model.specs.Traffic.{Signals, heard_as, hearing, told_as}
+use Rattle.machine_model.specs.Emission.{OwnSignals, OwnStill, OwnTraffic, Trades}
+use Rattle.machine_model.specs.Traffic.{Signals, heard_as, hearing, traffic_as}
 use Rattle.machine_model.specs.TrapRows.{with_table}
 use Rattle.machine_model.specs.View.{PartitionView, view_of}
 use Rattle.machine_model.specs.WholeRows.{in_state}
@@ -69,37 +69,37 @@ links_seen p = (view_of (record { conf = linked_conf; images = []; inputs = [] }
 -- other one; and a link to the partition itself brings nothing
 pub record LinkRows : Type 0 where
   pub own : links_seen 0 ≡ 3 ∷ 5 ∷ [] × links_seen 1 ≡ 0 ∷ []
-  pub told : told_as linked_conf 0 (OwnSignals 5) ≡ Signals 0 5 × told_as linked_conf 1 (OwnSignals 0) ≡ Signals 1 0
+  pub numbered : traffic_as linked_conf 0 (OwnSignals 5) ≡ Signals 0 5 × traffic_as linked_conf 1 (OwnSignals 0) ≡ Signals 1 0
   pub heard : heard_as linked_conf 1 (Signals 0 5) ≡ OwnSignals 5 × heard_as linked_conf 0 (Signals 0 5) ≡ OwnStill
   pub back : heard_as linked_conf 0 (Signals 1 0) ≡ OwnSignals 0 × heard_as linked_conf 1 (Signals 1 0) ≡ OwnStill
   pub no_link : heard_as linked_conf 0 (Signals 0 0) ≡ OwnStill × heard_as linked_conf 1 (Signals 0 0) ≡ OwnStill
   pub itself : heard_as (record linked_conf { links = link_between 3 0 0 ∷ [] }) 0 (Signals 0 3) ≡ OwnStill
 
--- the traffic of others that a partition is told of in the next tick
-pub record IsToldOf (g : Machine) (p : ℕ) (traffic : OwnTraffic) : Type 0 where
-  pub told : (cue g p).traffic ≡ traffic
+-- the traffic of others that a partition receives in the next tick
+pub record ReceivesTraffic (g : Machine) (p : ℕ) (traffic : OwnTraffic) : Type 0 where
+  pub received : (cue g p).traffic ≡ traffic
 
--- a call over link 5 is answered 0; interrupt 13 is pending at the other end, which is told of it, and the caller is as it was
+-- a call over link 5 is answered 0; interrupt 13 is pending at the other end, which receives the signal, and the caller is as it was
 abbrev pub SignalsOther : Type 0
 SignalsOther = (one other : Memory) → Calls (caller false) one
     → Leaves (λ g. g.parts) (over_links (calling 0x40000000 (38 ∷ 5 ∷ []) one) (at 0x40000100 other)) 1
     (after_answer 0 (calling 0x40000000 (38 ∷ 5 ∷ []) one) ∷ record (at 0x40000100 other) { traps = record no_traps { pending = 0x2000 } } ∷ [])
-    × IsToldOf (over_links (calling 0x40000000 (38 ∷ 5 ∷ []) one) (at 0x40000100 other)) 1 (OwnSignals 5)
-    × IsToldOf (over_links (calling 0x40000000 (38 ∷ 5 ∷ []) one) (at 0x40000100 other)) 0 OwnStill
+    × ReceivesTraffic (over_links (calling 0x40000000 (38 ∷ 5 ∷ []) one) (at 0x40000100 other)) 1 (OwnSignals 5)
+    × ReceivesTraffic (over_links (calling 0x40000000 (38 ∷ 5 ∷ []) one) (at 0x40000100 other)) 0 OwnStill
 
--- one that has halted is told of it and stays as it was
+-- one that has halted receives it and stays as it was
 abbrev pub SignalsHalted : Type 0
 SignalsHalted = (one other : Memory) → Calls (caller false) one
     → Leaves (λ g. g.parts) (over_links (calling 0x40000000 (38 ∷ 5 ∷ []) one) (record (at 0x40000100 other) { state = Halted })) 1
     (after_answer 0 (calling 0x40000000 (38 ∷ 5 ∷ []) one) ∷ record (at 0x40000100 other) { state = Halted } ∷ [])
-    × IsToldOf (over_links (calling 0x40000000 (38 ∷ 5 ∷ []) one) (record (at 0x40000100 other) { state = Halted })) 1 (OwnSignals 5)
+    × ReceivesTraffic (over_links (calling 0x40000000 (38 ∷ 5 ∷ []) one) (record (at 0x40000100 other) { state = Halted })) 1 (OwnSignals 5)
 
 -- a number of a link that goes to the caller is refused with -3, and nothing is signalled
 abbrev pub SignalsNotBack : Type 0
 SignalsNotBack = (one other : Memory) → Calls (caller false) one
     → Leaves (λ g. g.parts) (over_links (calling 0x40000000 (38 ∷ 0 ∷ []) one) (at 0x40000100 other)) 1
     (after_answer (minus 3) (calling 0x40000000 (38 ∷ 0 ∷ []) one) ∷ at 0x40000100 other ∷ [])
-    × IsToldOf (over_links (calling 0x40000000 (38 ∷ 0 ∷ []) one) (at 0x40000100 other)) 1 OwnStill
+    × ReceivesTraffic (over_links (calling 0x40000000 (38 ∷ 0 ∷ []) one) (at 0x40000100 other)) 1 OwnStill
 
 -- a partition that takes traps, with interrupt 8 pending, and masked or not
 abbrev pub signalled : ℕ → Memory → PartitionState

@@ -15,8 +15,8 @@ use Rattle.machine_model.specs.Caller.{Acts, Caller, Meets, Upshot}
 use Rattle.machine_model.specs.Health.{Worked, event_handled, interrupt_delivered, quiet, self_ordered}
 use Rattle.machine_model.specs.Hypercalls.{served}
 use Rattle.machine_model.specs.Partition.{PartitionState, areas_of, execution_looked_at, hardware_looked_at, raised_if, slot_start}
-use Rattle.machine_model.specs.Told as told
-use Rattle.machine_model.specs.Told.{Act, Nothing, OwnPuts, OwnSignals, OwnStill, OwnTakes, OwnTraffic, Plans, Sight, Told, Trades, Upon, UponAll, line_of}
+use Rattle.machine_model.specs.Emission as emission
+use Rattle.machine_model.specs.Emission.{Act, Nothing, OwnPuts, OwnSignals, OwnStill, OwnTakes, OwnTraffic, Plans, Sight, Emission, Trades, Upon, UponAll, line_of}
 use Rattle.machine_model.specs.View.{PartitionView, PortChannel, has_number}
 
 -- the interrupts that a tick brings: the start of a slot, then the hardware timer, then the execution timer
@@ -48,7 +48,7 @@ by_act (Upon id an_order) view ps =
 by_act (Plans change) view ps = record (quiet ps) { act = Plans change }
 by_act (UponAll event) view ps = record (quiet ps) { act = UponAll event }
 
--- what a hypercall comes to, once the execution clock has counted the tick
+-- the outcome of a hypercall, once the execution clock has counted the tick
 abbrev pub by_upshot : Upshot → PartitionView → ℕ → PartitionState → Worked
 by_upshot (Acts act) view time ps = by_act act view ps
 by_upshot (Meets event word) view time ps = event_handled view time event word None ps
@@ -58,9 +58,9 @@ unfoldable pub called : Caller → Worked
 called caller =
     let s = served caller in
     let w = by_upshot s.upshot caller.view caller.time (clocked s.after) in
-    record w { told = s.told ++ w.told }
+    record w { emitted = s.emitted ++ w.emitted }
 
--- what an instruction comes to: a trap is a health event with the instruction's pc as word, a call is served
+-- the outcome of an instruction: a trap is a health event with the instruction's pc as word, a call is served
 abbrev pub by_turn : Turn → PartitionView → List (Option Content) → ℕ → Sight → PartitionState → PartitionState → Worked
 by_turn Went view contents time sight before ps = quiet (clocked ps)
 by_turn (Trap type) view contents time sight before ps =
@@ -110,12 +110,12 @@ pub record LocalTick : Type 0 where
   pub said : List ℕ
   pub act : Act
 
--- the console bytes of what was told
-abbrev pub said_in : Told → List ℕ
-said_in (told.Console bytes) = bytes
-said_in (told.Health event word action) = []
-said_in (told.Trace bits load) = []
-said_in (told.Moved to) = []
+-- the console bytes of what was emitted
+abbrev pub said_in : Emission → List ℕ
+said_in (emission.Console bytes) = bytes
+said_in (emission.Health event word action) = []
+said_in (emission.Trace bits load) = []
+said_in (emission.Moved to) = []
 
 -- whether the channel of a port bears this name
 abbrev pub has_name : Option PortChannel → ℕ → Bool
@@ -141,8 +141,8 @@ bounded view (UponAll event) = UponAll event
 abbrev pub seen_outside : PartitionView → ℕ → Worked → LocalTick
 seen_outside view n w = record {
   after = w.after;
-  lines = map (line_of n view.id) w.told;
-  said = flat_map said_in w.told;
+  lines = map (line_of n view.id) w.emitted;
+  said = flat_map said_in w.emitted;
   act = bounded view w.act;
 }
 

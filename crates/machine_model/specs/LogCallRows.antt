@@ -9,7 +9,7 @@ use Rattle.xm_traces.specs.declared.entry.TraceEntry.{TraceEntry}
 use Rattle.machine_model.specs.Caller.{Acts, Caller, Meets, Served}
 use Rattle.machine_model.specs.Partition.{PartitionState}
 use Rattle.machine_model.specs.ServedRows.{AnswersWith, ComesTo, WritesAnswer, call, made_by, minus, shown_call, view_for, with_call, with_o0}
-use Rattle.machine_model.specs.Told.{NotKept, Nothing, Trace, Words}
+use Rattle.machine_model.specs.Emission.{NotKept, Nothing, Trace, Words}
 
 -- trace entries 3 and 4 of a partition
 abbrev pub trace_3 : TraceEntry
@@ -54,13 +54,13 @@ logging outs memory = record (with_call outs memory) { traces = kept_of 5 (trace
 abbrev pub log_call : List ℕ → Memory → Caller
 log_call outs memory = made_by (view_for false) (logging outs memory)
 
--- call 24 enters and tells these bits and the eight bytes at an address, under number 5
+-- call 24 enters and emits these bits and the eight bytes at an address, under number 5
 abbrev pub entering : ℕ → ℕ → Memory → Served
 entering bits address memory = record {
   after = with_o0 0 (record (logging (24 ∷ bits ∷ address ∷ []) memory) {
     traces = kept_of 6 (trace_3 ∷ trace_4 ∷ record { time = 9; bits = bits; seq = 5; load = bytes_at memory address 8 } ∷ []);
   });
-  told = Trace bits (bytes_at memory address 8) ∷ [];
+  emitted = Trace bits (bytes_at memory address 8) ∷ [];
   upshot = Acts Nothing;
 }
 
@@ -115,7 +115,7 @@ GivesCounts number first next = (memory : Memory) →
 -- call 27: the result, and then the event with its word
 abbrev pub RaisesEvent : Type 0
 RaisesEvent = (memory : Memory) →
-    ComesTo (call false (27 ∷ 42 ∷ []) memory) (record { after = with_o0 0 (with_call (27 ∷ 42 ∷ []) memory); told = []; upshot = Meets event.PartitionError 42 })
+    ComesTo (call false (27 ∷ 42 ∷ []) memory) (record { after = with_o0 0 (with_call (27 ∷ 42 ∷ []) memory); emitted = []; upshot = Meets event.PartitionError 42 })
 
 -- the rows of calls 24 to 29
 pub record LogCallRows : Type 0 where

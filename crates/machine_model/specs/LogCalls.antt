@@ -11,7 +11,7 @@ pub use Rattle.machine_model.specs.Readings.{bytes_of_entry, entry_seen, is_miss
 unfoldable pub trace_event : Caller → Served
 trace_event caller = performed (effect_of_call TraceEvent caller) caller
 
--- an entry of so many bytes is read to c
+-- an entry of this many bytes is read to c
 abbrev pub reading : {T : Type 0} → ℕ → (T → List ℕ) → Kept T → Caller → Served
 reading size bytes kept caller = performed (entry_read size bytes kept caller) caller
 

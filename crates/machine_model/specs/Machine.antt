@@ -10,11 +10,11 @@ use Rattle.xm_traces.specs.Ring.{entry_at}
 use Rattle.machine_model.specs.Lists.{each, table}
 use Rattle.machine_model.specs.LocalTick.{LocalTick, local_tick}
 use Rattle.machine_model.specs.Observed.{CurrentPlan, HealthCounts, HealthEntryOf, Observation, PartitionStatus, PlanStatus, Question, SystemStatus, TraceCounts, TraceEntryOf, asks}
-use Rattle.machine_model.specs.Partition.{PartitionState, areas_of, booted, ordered, ordered_told, rested, takes_turns}
+use Rattle.machine_model.specs.Partition.{PartitionState, areas_of, booted, ordered, ordered_emissions, rested, takes_turns}
 use Rattle.machine_model.specs.Structures.{counts_bytes, health_bytes, partition_status, plan_status, system_status, trace_bytes, word}
-use Rattle.machine_model.specs.Told as told
-use Rattle.machine_model.specs.Told.{Act, Asked, Directed, Maintenance, NotKept, OwnTraffic, PlanChange, Sight, Told, Unseen, Words, reach_of}
-use Rattle.machine_model.specs.Traffic.{Still, Traffic, after_traffic, copies_of, heard_as, hearing, told_as, traffic_of}
+use Rattle.machine_model.specs.Emission as emission
+use Rattle.machine_model.specs.Emission.{Act, Asked, Directed, Maintenance, NotKept, OwnTraffic, PlanChange, Sight, Emission, Unseen, Words, reach_of}
+use Rattle.machine_model.specs.Traffic.{Still, Traffic, after_traffic, copies_of, heard_as, hearing, traffic_as, traffic_of}
 use Rattle.machine_model.specs.View.{PartitionView, System, part_of, view_of}
 use Rattle.machine_model.specs.Whole.{AllHalted, AllReset, NoEvent, WholeEvent, after_event, content_after, event_of, ticks_after, time_after, whole_resets_after}
 
@@ -138,13 +138,13 @@ local g = local_in g (turn_of g)
 
 -- the act of a tick
 abbrev pub act_of : Option LocalTick → Act
-act_of None = told.Nothing
+act_of None = emission.Nothing
 act_of (Some tick) = tick.act
 
 -- traffic under the channels' numbers in the system, of the partition whose turn it is
 abbrev pub system_traffic : Conf → Option SlotTurn → OwnTraffic → Traffic
 system_traffic conf None traffic = Still
-system_traffic conf (Some turn) traffic = told_as conf turn.part traffic
+system_traffic conf (Some turn) traffic = traffic_as conf turn.part traffic
 
 -- an order on partition p
 abbrev pub order_for : Option Directed → ℕ → Option Order
@@ -193,9 +193,9 @@ abbrev pub obeyed : PartitionView → Option Order → PartitionState → Partit
 obeyed view None ps = ps
 obeyed view (Some order) ps = ordered view order ps
 
-abbrev pub obeyed_told : Option Order → PartitionState → List Told
-obeyed_told None ps = []
-obeyed_told (Some order) ps = ordered_told order ps
+abbrev pub obeyed_emissions : Option Order → PartitionState → List Emission
+obeyed_emissions None ps = []
+obeyed_emissions (Some order) ps = ordered_emissions order ps
 
 -- a partition that had no local tick rests
 abbrev pub rested_unless : Bool → ℕ → PartitionState → PartitionState
@@ -260,7 +260,7 @@ step_unless false g = after g (happened g)
 unfoldable pub step : Machine → Machine
 step g = step_unless g.halted g
 
--- so many ticks
+-- this many ticks
 abbrev pub run : Machine → ℕ → Machine
 run g zero = g
 run g (suc count) = run (step g) count

@@ -14,7 +14,7 @@ use Rattle.machine_model.specs.Partition.{PartitionState}
 use Rattle.machine_model.specs.Rows.{Leaves, at, calling}
 use Rattle.machine_model.specs.ServedRows.{view_for, with_call}
 use Rattle.machine_model.specs.Structures.{plan_status}
-use Rattle.machine_model.specs.Told.{NotKept, Sight, Unseen, Words}
+use Rattle.machine_model.specs.Emission.{NotKept, Sight, Unseen, Words}
 use Rattle.xm_traces.specs.Ring.{kept_of}
 
 -- a system partition that calls with these outs asks for this; partition 2 of four, under three plans

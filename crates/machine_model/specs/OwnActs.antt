@@ -15,8 +15,8 @@ use Rattle.machine_model.specs.Effects.{TestedEffect, performed}
 use Rattle.machine_model.specs.Health.{done_to_all}
 use Rattle.machine_model.specs.LocalTick.{worked}
 use Rattle.machine_model.specs.Partition.{PartitionState}
-use Rattle.machine_model.specs.Told as told
-use Rattle.machine_model.specs.Told.{Act, Asked, Maintenance, OwnPuts, OwnSignals, OwnStill, OwnTakes, Sight, WholeEvent}
+use Rattle.machine_model.specs.Emission as emission
+use Rattle.machine_model.specs.Emission.{Act, Asked, Maintenance, OwnPuts, OwnSignals, OwnStill, OwnTakes, Sight, WholeEvent}
 use Rattle.machine_model.specs.View.{PartitionView, PortChannel, has_number}
 
 -- a partition has a port of this way on the channel that it calls by a name
@@ -59,28 +59,28 @@ pub record HasMaintenance (view : PartitionView) : Type 0 where
 pub record HasActionUpon (view : PartitionView) (upon : WholeEvent) : Type 0 where
   pub event : Event
   pub enabled : Bool
-  pub is : done_to_all (effect_of (action_in view.part.hm event) enabled).whole ≡ told.UponAll upon
+  pub is : done_to_all (effect_of (action_in view.part.hm event) enabled).whole ≡ emission.UponAll upon
 
 -- an act is within what the partition has: a message goes through a port of its own, a signal over a link from it, only a system partition gives orders
 -- to others and asks for a plan, which is one that it sees, and all else that reaches all is done by a system partition or by the partition's health table
 abbrev pub IsWithinOwn : PartitionView → List (Option Content) → Act → Type 0
-IsWithinOwn view contents told.Nothing = Unit {0}
-IsWithinOwn view contents (told.Trades OwnStill) = Unit {0}
-IsWithinOwn view contents (told.Trades (OwnPuts name bytes)) = IsPutting view contents name bytes
-IsWithinOwn view contents (told.Trades (OwnTakes name)) = IsTaking view contents name
-IsWithinOwn view contents (told.Trades (OwnSignals number)) = has_number view.links number ≡ true
-IsWithinOwn view contents (told.Upon id order) = ((id == view.id) ≡ false) × (view.part.system ≡ true)
-IsWithinOwn view contents (told.Plans (Asked plan)) = (nat_lt plan view.sees.plans ≡ true) × (view.part.system ≡ true)
-IsWithinOwn view contents (told.Plans Maintenance) = HasMaintenance view
-IsWithinOwn view contents (told.UponAll event) = (view.part.system ≡ true) ⊎ HasActionUpon view event
+IsWithinOwn view contents emission.Nothing = Unit {0}
+IsWithinOwn view contents (emission.Trades OwnStill) = Unit {0}
+IsWithinOwn view contents (emission.Trades (OwnPuts name bytes)) = IsPutting view contents name bytes
+IsWithinOwn view contents (emission.Trades (OwnTakes name)) = IsTaking view contents name
+IsWithinOwn view contents (emission.Trades (OwnSignals number)) = has_number view.links number ≡ true
+IsWithinOwn view contents (emission.Upon id order) = ((id == view.id) ≡ false) × (view.part.system ≡ true)
+IsWithinOwn view contents (emission.Plans (Asked plan)) = (nat_lt plan view.sees.plans ≡ true) × (view.part.system ≡ true)
+IsWithinOwn view contents (emission.Plans Maintenance) = HasMaintenance view
+IsWithinOwn view contents (emission.UponAll event) = (view.part.system ≡ true) ⊎ HasActionUpon view event
 
 -- what a call asks for is within what its partition has; an order may be one on the partition itself
 abbrev pub AsksWithin : PartitionView → List (Option Content) → Act → Type 0
-AsksWithin view contents told.Nothing = Unit {0}
-AsksWithin view contents (told.Trades traffic) = IsWithinOwn view contents (told.Trades traffic)
-AsksWithin view contents (told.Upon id order) = (id == view.id) ≡ false → view.part.system ≡ true
-AsksWithin view contents (told.Plans change) = IsWithinOwn view contents (told.Plans change)
-AsksWithin view contents (told.UponAll event) = IsWithinOwn view contents (told.UponAll event)
+AsksWithin view contents emission.Nothing = Unit {0}
+AsksWithin view contents (emission.Trades traffic) = IsWithinOwn view contents (emission.Trades traffic)
+AsksWithin view contents (emission.Upon id order) = (id == view.id) ≡ false → view.part.system ≡ true
+AsksWithin view contents (emission.Plans change) = IsWithinOwn view contents (emission.Plans change)
+AsksWithin view contents (emission.UponAll event) = IsWithinOwn view contents (emission.UponAll event)
 
 -- and so is what it comes to; a health event that it meets is answered by the partition's own table
 abbrev pub ComesWithin : PartitionView → List (Option Content) → Upshot → Type 0

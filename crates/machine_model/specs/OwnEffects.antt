@@ -12,7 +12,7 @@ use Rattle.xm_traces.specs.declared.entry.TraceEntry.{TraceEntry}
 use Rattle.machine_model.specs.Caller.{Acts, Caller, Meets, Served, a_of, answering, b_of, caller_bytes, invalid_parameter, not_available, room, tested, with_written}
 use Rattle.machine_model.specs.Partition.{PartitionState}
 use Rattle.machine_model.specs.Structures.{word}
-use Rattle.machine_model.specs.Told.{Console, Nothing, Told, Trace}
+use Rattle.machine_model.specs.Emission.{Console, Nothing, Emission, Trace}
 
 -- the trace entry of a call: the clock, the bits a, and 8 bytes at b
 abbrev pub trace_entry : Caller → TraceEntry
@@ -26,7 +26,7 @@ trace_entry caller = record {
 -- the entry is noted and told
 abbrev pub tracing : Caller → Served
 tracing caller = record (answering 0 (record caller.state { traces = noted (trace_entry caller) caller.state.traces })) {
-  told = Trace (a_of caller) (caller_bytes caller (b_of caller) 8) ∷ [];
+  emitted = Trace (a_of caller) (caller_bytes caller (b_of caller) 8) ∷ [];
 }
 
 -- the partition with another mask of interrupts
@@ -34,7 +34,7 @@ abbrev pub with_mask : ℕ → PartitionState → PartitionState
 with_mask mask ps = record ps { traps = record ps.traps { mask = mask } }
 
 -- a console call prints where it has bytes
-abbrev pub printed : List ℕ → List Told
+abbrev pub printed : List ℕ → List Emission
 printed [] = []
 printed (byte ∷ bytes) = Console (byte ∷ bytes) ∷ []
 
@@ -49,13 +49,13 @@ input_read (next ∷ rest) caller =
 abbrev pub undone : Caller → PartitionState → Served
 undone caller ps = record {
   after = record ps { core = record ps.core { pc = caller.pc; npc = caller.npc } };
-  told = [];
+  emitted = [];
   upshot = Meets MemProtection caller.pc;
 }
 
 -- the partition back from a trap, with no result
 abbrev pub by_return : Result (Unit {0}) IretFault → Returned → Caller → Served
-by_return (Ok left) r caller = record { after = record caller.state { core = r.core; traps = r.traps }; told = []; upshot = Acts Nothing }
+by_return (Ok left) r caller = record { after = record caller.state { core = r.core; traps = r.traps }; emitted = []; upshot = Acts Nothing }
 by_return (Err Unaligned) r caller = answering invalid_parameter caller.state
 by_return (Err Stack) r caller = undone caller caller.state
 

@@ -30,7 +30,7 @@ after_request value outs memory = after_answer value (calling 0x40000000 outs me
 abbrev pub tracer : Part
 tracer = record (caller false) { trace_mask = 1 }
 
--- a trace with a bit in the mask is told, and entered with its time, its number and eight bytes
+-- a trace with a bit in the mask is emitted, and entered with its time, its number and eight bytes
 abbrev pub TracesInMask : Type 0
 TracesInMask = (memory : Memory) → Calls (caller false) memory
     → Prints (by_itself tracer (calling 0x40000000 (24 ∷ 3 ∷ 0x40000004 ∷ []) memory)) 1
@@ -38,7 +38,7 @@ TracesInMask = (memory : Memory) → Calls (caller false) memory
     × Leaves (of_part (λ ps. ps.traces) 0) (by_itself tracer (calling 0x40000000 (24 ∷ 3 ∷ 0x40000004 ∷ []) memory)) 1
     (Some (kept_of 1 (record { time = 1; bits = 3; seq = 0; load = bytes_at memory 0x40000004 8 } ∷ [])))
 
--- one with none answers -1, and is neither told nor entered
+-- one with none answers -1, and is neither emitted nor entered
 abbrev pub TracesNotElse : Type 0
 TracesNotElse = (memory : Memory) → Calls (caller false) memory
     → Prints (by_itself tracer (calling 0x40000000 (24 ∷ 2 ∷ 0x40000004 ∷ []) memory)) 1 (EndPart 0 Ready 0 1 0x40000004 ∷ EndWhole false 0 2 2 ∷ [])

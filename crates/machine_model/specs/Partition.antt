@@ -17,7 +17,7 @@ use Rattle.xm_report.specs.declared.line.Move.TheVariants as move
 use Rattle.xm_traces.specs.Ring.{Kept, nothing_kept}
 use Rattle.xm_traces.specs.declared.entry.TraceEntry.{TraceEntry}
 use Rattle.health_monitor.specs.declared.entry.HealthEntry.{HealthEntry}
-use Rattle.machine_model.specs.Told.{Told, Moved}
+use Rattle.machine_model.specs.Emission.{Emission, Moved}
 use Rattle.machine_model.specs.View.{PartitionView}
 
 -- the state of one partition: its processor and memory, its virtual traps, clocks and timers, its state and how often it was reset,
@@ -137,26 +137,26 @@ carried_out view order.Resume ps = record ps { state = Ready }
 carried_out view order.Shutdown ps = record ps { traps = raised shutdown ps.traps }
 carried_out view (order.Reset mode status) ps = reset view mode status ps
 
--- the change of state that a reset tells
+-- the change of state that a reset emits
 abbrev pub reset_move : Mode → Move
 reset_move Cold = move.Cold
 reset_move Warm = move.Warm
 
--- what an order tells that applies
-abbrev pub order_told : Order → List Told
-order_told order.Halt = Moved move.Halt ∷ []
-order_told order.Suspend = Moved move.Suspend ∷ []
-order_told order.Resume = Moved move.Resume ∷ []
-order_told order.Shutdown = []
-order_told (order.Reset mode status) = Moved (reset_move mode) ∷ []
+-- what an order emits that applies
+abbrev pub order_emissions : Order → List Emission
+order_emissions order.Halt = Moved move.Halt ∷ []
+order_emissions order.Suspend = Moved move.Suspend ∷ []
+order_emissions order.Resume = Moved move.Resume ∷ []
+order_emissions order.Shutdown = []
+order_emissions (order.Reset mode status) = Moved (reset_move mode) ∷ []
 
 -- an order on a partition; one that does not apply changes nothing
 unfoldable pub ordered : PartitionView → Order → PartitionState → PartitionState
 ordered view an_order ps = if applies an_order ps.state then carried_out view an_order ps else ps
 
--- what an order on a partition tells; one that does not apply reports nothing
-unfoldable pub ordered_told : Order → PartitionState → List Told
-ordered_told an_order ps = if applies an_order ps.state then order_told an_order else []
+-- what an order on a partition emits; one that does not apply emits nothing
+unfoldable pub ordered_emissions : Order → PartitionState → List Emission
+ordered_emissions an_order ps = if applies an_order ps.state then order_emissions an_order else []
 
 -- the interrupt of a signal over a link of this number
 abbrev pub link_signal : ℕ → ℕ

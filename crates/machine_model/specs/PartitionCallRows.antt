@@ -8,7 +8,7 @@ use Rattle.xm_base.specs.declared.partition.Order.TheVariants as order
 use Rattle.xm_base.specs.declared.partition.State.TheVariants.{Idle}
 use Rattle.machine_model.specs.Partition.{PartitionState}
 use Rattle.machine_model.specs.ServedRows.{AnswersWith, DoesAct, Leads, WritesAnswer, call, made_by, minus, shown_call, view_for, with_call}
-use Rattle.machine_model.specs.Told.{AllHalted, AllReset, Upon, UponAll, Words}
+use Rattle.machine_model.specs.Emission.{AllHalted, AllReset, Upon, UponAll, Words}
 
 -- call 1: the caller's number
 abbrev pub GetsItself : Type 0

@@ -14,7 +14,7 @@ use Rattle.machine_model.specs.Caller.{Caller, Served}
 use Rattle.machine_model.specs.Hypercalls.{served}
 use Rattle.machine_model.specs.Partition.{PartitionState}
 use Rattle.machine_model.specs.ServedRows.{AnswersWith, ComesTo, Leads, WritesAnswer, calling_part, made_by, minus, served_so, view_for, with_call, written}
-use Rattle.machine_model.specs.Told.{Nothing, OwnPuts, OwnTakes, Trades}
+use Rattle.machine_model.specs.Emission.{Nothing, OwnPuts, OwnTakes, Trades}
 use Rattle.machine_model.specs.View.{PartitionView, PortChannel}
 
 -- a port of a name of one letter
@@ -62,7 +62,7 @@ port_call refresh contents outs memory = record (made_by (view_of_ports refresh)
 abbrev pub quiet_call : List ℕ → Memory → Caller
 quiet_call outs memory = port_call 0 (held_by_channels None [] []) outs memory
 
--- calls 17 and 21 put so many bytes at an address into the channel of this name
+-- calls 17 and 21 put this many bytes at an address into the channel of this name
 abbrev pub PutsMessage : Caller → ℕ → ℕ → ℕ → Type 0
 PutsMessage caller name address size = ComesTo caller (served_so 0 (Trades (OwnPuts name (bytes_at caller.state.memory address size))) caller.state)
 
@@ -94,7 +94,7 @@ WritesSample = (memory : Memory) →
 abbrev pub sample_from : ℕ → Option HeldSample
 sample_from time = Some (record { time = time; bytes = 5 ∷ 6 ∷ 7 ∷ [] })
 
--- call 18 reads d in tick 9, with this refresh period, and tells so whether the message is valid
+-- call 18 reads d in tick 9, with this refresh period, and says so whether the message is valid
 abbrev pub ReadsValid : ℕ → ℕ → ℕ → Memory → Type 0
 ReadsValid refresh time valid memory =
     Leads (port_call refresh (held_by_channels (sample_from time) [] []) (18 ∷ 1 ∷ 0x103d ∷ 3 ∷ 0x103c ∷ []) memory) 3
@@ -180,7 +180,7 @@ SeesQueuing = (memory : Memory) →
     × AnswersWith (quiet_call (23 ∷ 3 ∷ 0x2000 ∷ []) memory) (minus 3)
     × RefusesOthers 23 1 memory
 
--- a call on a port whose name is in memory comes to this
+-- the outcome of a call on a port whose name is in memory is this
 pub record NamedComesTo (caller : Caller) (comes : Served) : Type 0 where
   pub made : served caller ≡ comes
 

@@ -2,7 +2,7 @@
 use Rattle.machine_model.specs.Caller.{Caller, Served, b_of, c_of}
 use Rattle.machine_model.specs.Calls.{CreateQueuingPort, CreateSamplingPort, GetQueuingPortStatus, GetSamplingPortStatus, ReadSamplingMessage, ReceiveQueuingMessage, SendQueuingMessage, WriteSamplingMessage, effect_of_call}
 use Rattle.machine_model.specs.Effects.{performed, putting_bytes}
-pub use Rattle.machine_model.specs.PortEffects.{MadePort, by_created, create_refusal, creating, destination_only, first_read, held_read, is_full, is_source, message_read, name_at, name_given, on_port, port_with_content, reading_from, sample_read, shape_at, size_fits, source_only, telling_of, with_channel}
+pub use Rattle.machine_model.specs.PortEffects.{MadePort, by_created, create_refusal, creating, destination_only, first_read, held_read, is_full, is_source, message_read, name_at, name_given, on_port, port_with_content, reading_from, sample_read, shape_at, size_fits, source_only, writing_status, with_channel}
 unfoldable pub use Rattle.machine_model.specs.PortEffects.{made_port}
 
 -- call 16, XM_create_sampling_port(a, b, c): the name at a, messages of b bytes, the way c

@@ -14,7 +14,7 @@ use Rattle.machine_model.specs.Caller.{Caller, Served, Test, a_of, acting, answe
 use Rattle.machine_model.specs.Lists.{and_then}
 use Rattle.machine_model.specs.Partition.{areas_of}
 use Rattle.machine_model.specs.Structures.{validity, word}
-use Rattle.machine_model.specs.Told.{OwnTakes, Trades}
+use Rattle.machine_model.specs.Emission.{OwnTakes, Trades}
 use Rattle.machine_model.specs.View.{PartitionView, PortChannel}
 
 -- a name in memory: the bytes before the first zero byte, of which there is one within so many; each up to it may be read
@@ -97,8 +97,8 @@ abbrev pub reading_from : Kind → Caller → (MadePort → Served) → Served
 reading_from the_kind caller read = on_port (made_port the_kind caller) caller (λ port. tested (destination_only port ∷ []) caller (read port))
 
 -- a call that writes the status of a port of a kind at b, so many bytes
-abbrev pub telling_of : Kind → ℕ → Caller → (MadePort → List ℕ) → Served
-telling_of the_kind size caller status = on_port (made_port the_kind caller) caller (λ port.
+abbrev pub writing_status : Kind → ℕ → Caller → (MadePort → List ℕ) → Served
+writing_status the_kind size caller status = on_port (made_port the_kind caller) caller (λ port.
     tested (room caller (b_of caller) size ∷ []) caller (answering 0 (with_written (b_of caller) (status port) caller.state)))
 
 -- a message has at least one byte, and not more than the channel's messages

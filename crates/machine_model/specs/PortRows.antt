@@ -73,7 +73,7 @@ UnmadePortIsSilent = (one other : Memory) → Calls (caller false) one
     (after_answer 0 (sending 17 one) ∷ at 0x40000100 other ∷ [])
 
 -- a queue of two messages from partition 1 to partition 0, which holds these, in the second tick of a frame; partition 0 receives one
--- by call 22, into so many bytes
+-- by call 22, into this many bytes
 abbrev pub receiving : ℕ → Memory → PartitionState
 receiving size memory = with_its_port (calling 0x40000000 (22 ∷ 0 ∷ 0x40000004 ∷ size ∷ []) memory)
 

@@ -12,7 +12,7 @@ use Rattle.machine_model.specs.Caller.{Acts, Caller, Meets, Served}
 use Rattle.machine_model.specs.Partition.{PartitionState}
 use Rattle.machine_model.specs.Rows.{area, with_outs}
 use Rattle.machine_model.specs.ServedRows.{AnswersWith, ComesTo, Leads, call, made_by, minus, view_for, with_call, with_o0, written}
-use Rattle.machine_model.specs.Told.{Console, Nothing, Told}
+use Rattle.machine_model.specs.Emission.{Console, Nothing, Emission}
 use Rattle.machine_model.specs.View.{PartitionView}
 
 -- a partition with a mask of interrupts, which calls
@@ -30,9 +30,9 @@ Unmasks = (memory : Memory) →
     Leads (made_by (view_for false) (masked 12 (31 ∷ 10 ∷ []) memory)) 0 (masked 4 (31 ∷ 10 ∷ []) memory)
     × Leads (made_by (view_for false) (masked 0xffff_ffff (31 ∷ 0xffff_fffe ∷ []) memory)) 0 (masked 1 (31 ∷ 0xffff_fffe ∷ []) memory)
 
--- a call that tells this, is answered so, and changes nothing else
-abbrev pub telling : List Told → ℕ → PartitionState → Served
-telling told value ps = record { after = with_o0 value ps; told = told; upshot = Acts Nothing }
+-- a call that emits this, is answered so, and changes nothing else
+abbrev pub emitting : List Emission → ℕ → PartitionState → Served
+emitting emitted value ps = record { after = with_o0 value ps; emitted = emitted; upshot = Acts Nothing }
 
 -- a partition with 1025 bytes
 abbrev pub large_view : PartitionView
@@ -45,11 +45,11 @@ long_call outs memory = made_by large_view (with_call outs memory)
 -- call 32: bytes that have to be readable, at most 1024; none print nothing
 abbrev pub WritesConsole : Type 0
 WritesConsole = (memory : Memory) →
-    ComesTo (call false (32 ∷ 0x1038 ∷ 8 ∷ []) memory) (telling (Console (bytes_at memory 0x1038 8) ∷ []) 8 (with_call (32 ∷ 0x1038 ∷ 8 ∷ []) memory))
-    × ComesTo (call false (32 ∷ 0x2038 ∷ 8 ∷ []) memory) (telling (Console (bytes_at memory 0x2038 8) ∷ []) 8 (with_call (32 ∷ 0x2038 ∷ 8 ∷ []) memory))
+    ComesTo (call false (32 ∷ 0x1038 ∷ 8 ∷ []) memory) (emitting (Console (bytes_at memory 0x1038 8) ∷ []) 8 (with_call (32 ∷ 0x1038 ∷ 8 ∷ []) memory))
+    × ComesTo (call false (32 ∷ 0x2038 ∷ 8 ∷ []) memory) (emitting (Console (bytes_at memory 0x2038 8) ∷ []) 8 (with_call (32 ∷ 0x2038 ∷ 8 ∷ []) memory))
     × AnswersWith (call false (32 ∷ 0x1039 ∷ 8 ∷ []) memory) (minus 3)
     × AnswersWith (call false (32 ∷ 0 ∷ 0 ∷ []) memory) 0
-    × ComesTo (long_call (32 ∷ 0x1000 ∷ 1024 ∷ []) memory) (telling (Console (bytes_at memory 0x1000 1024) ∷ []) 1024 (with_call (32 ∷ 0x1000 ∷ 1024 ∷ []) memory))
+    × ComesTo (long_call (32 ∷ 0x1000 ∷ 1024 ∷ []) memory) (emitting (Console (bytes_at memory 0x1000 1024) ∷ []) 1024 (with_call (32 ∷ 0x1000 ∷ 1024 ∷ []) memory))
     × AnswersWith (long_call (32 ∷ 0x1000 ∷ 1025 ∷ []) memory) (minus 3)
 
 -- a partition with these input words, which calls
@@ -81,7 +81,7 @@ core_call core memory = made_by (view_for false) (with_core core memory)
 abbrev pub going_on : Registers → Bool → Memory → Served
 going_on core enabled memory = record {
   after = record (with_core core memory) { traps = record no_traps { enabled = enabled } };
-  told = [];
+  emitted = [];
   upshot = Acts Nothing;
 }
 
@@ -89,7 +89,7 @@ going_on core enabled memory = record {
 abbrev pub taken_back : PartitionState → Served
 taken_back ps = record {
   after = record ps { core = record ps.core { pc = 0x1004; npc = 0x1020 } };
-  told = [];
+  emitted = [];
   upshot = Meets MemProtection 0x1004;
 }
 

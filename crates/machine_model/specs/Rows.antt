@@ -1,4 +1,4 @@
--- Small systems, and the forms in which rows that are worked by hand say what runs of them come to.
+-- Small systems, and the forms in which rows that are worked by hand say the outcome of runs of them.
 use Rattle.std.specs.Prelude.{◌≡◌, ℕ, suc, ◌+◌, false, List, [], ◌∷◌, ◌++◌, length, map, Option, None, Ok, slice_get}
 use Rattle.std.specs.List.{flat_map}
 use Rattle.std.specs.Int.{to_be_bytes, w32}
@@ -25,7 +25,7 @@ use Rattle.machine_model.specs.Partition.{PartitionState, begun_at}
 abbrev pub program : List ℕ → List ℕ → List ℕ
 program words bytes = flat_map (to_be_bytes w32) words ++ bytes
 
--- an area of so many bytes from an address on
+-- an area of this many bytes from an address on
 abbrev pub area : ℕ → ℕ → Area
 area start size = record { start = start; size = size; read_only = false }
 
@@ -64,7 +64,7 @@ image start bytes = record { entry = start; segments = record { address = start;
 abbrev pub entered_at : List ℕ → List Image
 entered_at entries = map (λ entry. record { entry = entry; segments = [] }) entries
 
--- a slot of so many ticks
+-- a slot of this many ticks
 abbrev pub slot : ℕ → ℕ → ℕ → Slot
 slot start duration part = record { start = start; duration = duration; part = part }
 
@@ -128,11 +128,11 @@ with_words memory address (word ∷ words) = with_bytes (with_words memory (addr
 abbrev pub CanHold : Part → ℕ → List ℕ → Type 0
 CanHold part address words = (memory : Memory) → HoldsAll part (with_words memory address words) address words
 
--- what a run of so many ticks prints: its lines, and those of its end
+-- what a run of this many ticks prints: its lines, and those of its end
 pub record Prints (g : Machine) (ticks : ℕ) (expected : List ReportLine) : Type 0 where
   pub report : lines g ticks ++ end_lines (run g ticks) ≡ expected
 
--- what a run of so many ticks leaves: a part of the machine has this value
+-- what a run of this many ticks leaves: a part of the machine has this value
 pub record Leaves {X : Type 0} (part : Machine → X) (g : Machine) (ticks : ℕ) (value : X) : Type 0 where
   pub left : part (run g ticks) ≡ value
 

@@ -1,4 +1,4 @@
--- The forms of the rows on one hypercall: who makes it, and what it comes to.
+-- The forms of the rows on one hypercall: who makes it, and its outcome.
 use Rattle.std.specs.Prelude.{◌≡◌, ℕ, ◌-◌, ◌^◌, Bool, true, false, List, [], ◌∷◌}
 use Rattle.guest_bus.specs.Memory.{Memory, with_bytes}
 use Rattle.sparc_step.specs.Registers.{with_register}
@@ -8,7 +8,7 @@ use Rattle.machine_model.specs.Caller.{Acts, Caller, Served}
 use Rattle.machine_model.specs.Hypercalls.{served}
 use Rattle.machine_model.specs.Partition.{PartitionState}
 use Rattle.machine_model.specs.Rows.{area, calling, plain_part}
-use Rattle.machine_model.specs.Told.{Act, Nothing, Sight, Unseen}
+use Rattle.machine_model.specs.Emission.{Act, Nothing, Sight, Unseen}
 use Rattle.machine_model.specs.View.{PartitionView, no_image}
 
 -- the negative results as words
@@ -62,9 +62,9 @@ with_o0 value ps = record ps { core = with_register ps.core 8 value }
 
 -- a call that reports nothing and has this act, with its result and what else it leaves of the partition
 abbrev pub served_so : ℕ → Act → PartitionState → Served
-served_so value act ps = record { after = with_o0 value ps; told = []; upshot = Acts act }
+served_so value act ps = record { after = with_o0 value ps; emitted = []; upshot = Acts act }
 
--- a call comes to this
+-- the outcome of a call is this
 abbrev pub ComesTo : Caller → Served → Type 0
 ComesTo caller comes = served caller ≡ comes
 

@@ -6,7 +6,7 @@ use Rattle.virt_clocks.specs.declared.timer.Timer.{Timer}
 use Rattle.machine_model.specs.Partition.{PartitionState}
 use Rattle.machine_model.specs.PartitionCallRows.{worn}
 use Rattle.machine_model.specs.ServedRows.{AnswersWith, ComesTo, Leads, WritesAnswer, call, made_by, minus, served_so, shown_call, view_for, with_call, written}
-use Rattle.machine_model.specs.Told.{Asked, Plans, Words}
+use Rattle.machine_model.specs.Emission.{Asked, Plans, Words}
 
 -- call 12: the hardware clock or the execution clock, in eight bytes that have to be writable
 abbrev pub ShowsClock : Type 0

@@ -12,7 +12,7 @@ use Rattle.virt_traps.specs.Virtual.{raised}
 use Rattle.xm_base.specs.Options.{on}
 use Rattle.machine_model.specs.Lists.{by_option, each, is_number, table}
 use Rattle.machine_model.specs.Partition.{PartitionState, is_halted, link_signal}
-use Rattle.machine_model.specs.Told.{Act, OwnPuts, OwnSignals, OwnStill, OwnTakes, OwnTraffic, reach_of}
+use Rattle.machine_model.specs.Emission.{Act, OwnPuts, OwnSignals, OwnStill, OwnTakes, OwnTraffic, reach_of}
 use Rattle.machine_model.specs.View.{PartitionView, PortChannel, linked, name_of, named}
 
 -- traffic on channels that go by their numbers in the system, and over links: none, a message that is put, the first one that is taken, or a signal over
@@ -34,11 +34,11 @@ puts_at channel bytes = by_option channel Still (λ number. Puts number bytes)
 abbrev pub takes_at : Option ℕ → Traffic
 takes_at channel = by_option channel Still Takes
 
-abbrev pub told_as : Conf → ℕ → OwnTraffic → Traffic
-told_as conf p OwnStill = Still
-told_as conf p (OwnPuts name bytes) = puts_at (named conf p name) bytes
-told_as conf p (OwnTakes name) = takes_at (named conf p name)
-told_as conf p (OwnSignals number) = Signals p number
+abbrev pub traffic_as : Conf → ℕ → OwnTraffic → Traffic
+traffic_as conf p OwnStill = Still
+traffic_as conf p (OwnPuts name bytes) = puts_at (named conf p name) bytes
+traffic_as conf p (OwnTakes name) = takes_at (named conf p name)
+traffic_as conf p (OwnSignals number) = Signals p number
 
 -- traffic of the system under a partition's names; none where the partition has no name for the channel, and none where a signal goes to another
 -- one

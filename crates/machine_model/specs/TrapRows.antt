@@ -42,7 +42,7 @@ timed_trap deadline memory = record (at 0x40000000 memory) {
   clocks = record no_clocks { hardware_timer = Some (record { deadline = deadline; interval = 0 }) };
 }
 
--- a timer that is due in the partition's own slot is delivered in that tick, in place of an instruction
+-- a timer that is due in the partition's own slot is delivered in that tick, instead of an instruction
 abbrev pub TimerIsDelivered : Type 0
 TimerIsDelivered = (one other : Memory)
     → Prints (two_parts 1 (timed_trap 1 one) (suspended_partition other)) 1 (EndPart 0 Ready 0 1 0x40001e00 ∷ EndPart 1 Suspended 0 0 0x40000100 ∷ EndWhole false 0 2 2 ∷ [])

@@ -51,7 +51,7 @@ no_image = record { entry = 0; segments = [] }
 unfoldable pub part_of : Conf → ℕ → Part
 part_of conf p = slice_index_or conf.parts p no_part
 
--- the lowest of so many ports of partition p, from port r on, whose channel is channel c
+-- the lowest of this many ports of partition p, from port r on, whose channel is channel c
 abbrev pub name_from : Conf → ℕ → ℕ → ℕ → ℕ → Option ℕ
 name_from conf p c zero r = None
 name_from conf p c (suc count) r =

@@ -4,8 +4,8 @@ use Rattle.xm_ports.specs.Channels.{Content, cleared}
 use Rattle.xm_report.specs.Report.{ReportLine, MovedLine, WholeLine}
 use Rattle.xm_report.specs.declared.line.Move.TheVariants as move
 use Rattle.machine_model.specs.Partition.{PartitionState, reset, reset_move, resets_after}
-use Rattle.machine_model.specs.Told.{Act, reach_of}
-pub use Rattle.machine_model.specs.Told.{AllHalted, AllReset, NoEvent, WholeEvent}
+use Rattle.machine_model.specs.Emission.{Act, reach_of}
+pub use Rattle.machine_model.specs.Emission.{AllHalted, AllReset, NoEvent, WholeEvent}
 use Rattle.machine_model.specs.View.{PartitionView}
 
 -- the hypervisor event of an act

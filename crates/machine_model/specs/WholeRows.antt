@@ -25,12 +25,12 @@ use Rattle.machine_model.specs.HealthRows.{IsIllegal, parts_at_ends, queue}
 use Rattle.machine_model.specs.Lines.{console}
 use Rattle.machine_model.specs.Machine.{Machine}
 use Rattle.machine_model.specs.OwnRows.{by_itself, tracer}
-use Rattle.machine_model.specs.Partition.{PartitionState, loaded_memory, ordered, ordered_told}
+use Rattle.machine_model.specs.Partition.{PartitionState, loaded_memory, ordered, ordered_emissions}
 use Rattle.machine_model.specs.PortCallRows.{all_made, view_of_ports, with_made}
 use Rattle.machine_model.specs.Rows.{Holds, Leaves, Prints, at, calling, entered_at, small_conf, halves, machine, plain_part, whole_frame}
 use Rattle.machine_model.specs.ServedRows.{view_for, with_call}
 use Rattle.machine_model.specs.TimeCallRows.{timer}
-use Rattle.machine_model.specs.Told.{Moved, OwnPuts, OwnTakes, Told}
+use Rattle.machine_model.specs.Emission.{Moved, OwnPuts, OwnTakes, Emission}
 use Rattle.machine_model.specs.Traffic.{hearing}
 use Rattle.machine_model.specs.View.{System, view_of}
 use Rattle.machine_model.specs.Whole.{AllReset, whole_resets_after}
@@ -59,12 +59,12 @@ pub record HearingRows : Type 0 where
 abbrev pub states : List State
 states = Ready ∷ Idle ∷ Suspended ∷ Halted ∷ []
 
--- the states that an order leaves in place of these, and what it tells in each
+-- the states that an order leaves instead of these, and what it emits in each
 abbrev pub LeavesStates : Order → List State → Memory → Type 0
 LeavesStates an_order after memory = map (λ state. (ordered (view_for false) an_order (in_state state no_ports memory)).state) states ≡ after
 
-abbrev pub TellsInEach : Order → List (List Told) → Memory → Type 0
-TellsInEach an_order told memory = map (λ state. ordered_told an_order (in_state state no_ports memory)) states ≡ told
+abbrev pub EmitsInEach : Order → List (List Emission) → Memory → Type 0
+EmitsInEach an_order emitted memory = map (λ state. ordered_emissions an_order (in_state state no_ports memory)) states ≡ emitted
 
 -- whether an order makes interrupt 2 pending in each
 abbrev pub RaisesInEach : Order → List ℕ → Memory → Type 0
@@ -72,16 +72,16 @@ RaisesInEach an_order pending memory = map (λ state. (ordered (view_for false) 
 
 pub record OrderRows : Type 0 where
   pub halt : (memory : Memory) → LeavesStates order.Halt (Halted ∷ Halted ∷ Halted ∷ Halted ∷ []) memory
-      × TellsInEach order.Halt ((Moved move.Halt ∷ []) ∷ (Moved move.Halt ∷ []) ∷ (Moved move.Halt ∷ []) ∷ [] ∷ []) memory
+      × EmitsInEach order.Halt ((Moved move.Halt ∷ []) ∷ (Moved move.Halt ∷ []) ∷ (Moved move.Halt ∷ []) ∷ [] ∷ []) memory
   pub suspend : (memory : Memory) → LeavesStates order.Suspend (Suspended ∷ Suspended ∷ Suspended ∷ Halted ∷ []) memory
-      × TellsInEach order.Suspend ((Moved move.Suspend ∷ []) ∷ (Moved move.Suspend ∷ []) ∷ [] ∷ [] ∷ []) memory
+      × EmitsInEach order.Suspend ((Moved move.Suspend ∷ []) ∷ (Moved move.Suspend ∷ []) ∷ [] ∷ [] ∷ []) memory
   pub resume : (memory : Memory) → LeavesStates order.Resume (Ready ∷ Idle ∷ Ready ∷ Halted ∷ []) memory
-      × TellsInEach order.Resume ([] ∷ [] ∷ (Moved move.Resume ∷ []) ∷ [] ∷ []) memory
+      × EmitsInEach order.Resume ([] ∷ [] ∷ (Moved move.Resume ∷ []) ∷ [] ∷ []) memory
   pub shutdown : (memory : Memory) → LeavesStates order.Shutdown states memory
-      × TellsInEach order.Shutdown ([] ∷ [] ∷ [] ∷ [] ∷ []) memory
+      × EmitsInEach order.Shutdown ([] ∷ [] ∷ [] ∷ [] ∷ []) memory
       × RaisesInEach order.Shutdown (4 ∷ 4 ∷ 4 ∷ 0 ∷ []) memory
   pub reset : (memory : Memory) → LeavesStates (order.Reset Cold 9) (Ready ∷ Ready ∷ Ready ∷ Ready ∷ []) memory
-      × TellsInEach (order.Reset Warm 9) ((Moved move.Warm ∷ []) ∷ (Moved move.Warm ∷ []) ∷ (Moved move.Warm ∷ []) ∷ (Moved move.Warm ∷ []) ∷ []) memory
+      × EmitsInEach (order.Reset Warm 9) ((Moved move.Warm ∷ []) ∷ (Moved move.Warm ∷ []) ∷ (Moved move.Warm ∷ []) ∷ (Moved move.Warm ∷ []) ∷ []) memory
 
 -- the counters of resets go on modulo 2^32: a partition's, and the hypervisor's
 pub record CounterRows : Type 0 where
@@ -128,7 +128,7 @@ used_machine an_action one other = record {
   halted = false;
 }
 
--- a partition that begins again after so many resets: it has its traces, these health entries and the input word that is left
+-- a partition that begins again after this many resets: it has its traces, these health entries and the input word that is left
 abbrev pub begun_again : ℕ → ℕ → Kept HealthEntry → ℕ → Memory → PartitionState
 begun_again entry resets health input memory = record (at entry memory) { resets = resets; traces = traces; health = health; inputs = input ∷ [] }
 
@@ -137,8 +137,8 @@ abbrev pub healths_after : Action → Kept HealthEntry
 healths_after an_action =
     kept_of 2 (healths.entries ++ record { time = 4; seq = 1; event = event.SparcIllegalInstruction; action = an_action; word = 0x40000000 } ∷ [])
 
--- an illegal instruction resets all in a mode: each partition begins again, also one that has halted, after so many resets of its own, with this memory by
--- its number; the queue is empty, plan 0 begins, nothing is asked for, and so many resets of all are counted
+-- an illegal instruction resets all in a mode: each partition begins again, also one that has halted, after this many resets of its own, with this memory by
+-- its number; the queue is empty, plan 0 begins, nothing is asked for, and this many resets of all are counted
 abbrev pub ResetsAll : Action → Move → ℕ → ℕ → (ℕ → Memory → Memory) → Type 0
 ResetsAll an_action to own_resets resets memory_of = (one other : Memory) → IsIllegal an_action one
     → Prints (used_machine an_action one other) 1

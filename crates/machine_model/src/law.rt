@@ -81,7 +81,7 @@ pub fn observes_as_tested()
     ensures runs { ShowsItsSizeInRuns }
 {}
 
-/// What a partition's part of a tick does beyond the partition is what its work comes to: no act is
+/// What a partition's part of a tick does beyond the partition is the outcome of its work: no act is
 /// left out for being on a channel or a partition that it may not reach. And that is within what the
 /// partition has: its ports, the links from it, the system flag and its health table.
 pub fn acts_within_bounds()
@@ -106,7 +106,7 @@ pub fn same_core_file()
     ensures law { SameCoreFile }
 {}
 
-/// Scripts that are equal for so many ticks are equal for fewer, and two runs in which a partition
+/// Scripts that are equal for this many ticks are equal for fewer, and two runs in which a partition
 /// meets the same script are the same for it after each of their ticks.
 pub fn earlier_ticks()
     ensures scripts { EarlierScripts }
@@ -166,7 +166,7 @@ pub fn keeps_shapes()
 
 /// Under a configuration that meets the rules a message that a tick puts is no longer than the longest that they allow; and what a
 /// partition is shown in a tick is no longer than an entry of a trace log.
-pub fn tells_few_bytes()
+pub fn trades_few_bytes()
     ensures messages { PutsFewBytes }
     ensures sights { ShowsFewBytes }
 {}
@@ -174,7 +174,7 @@ pub fn tells_few_bytes()
 /// Under a configuration that meets the rules a channel that gets a message in a tick takes one more, and in one that gives a message
 /// one waits, as each partition hears of it; and each observing call is answered, by as many bytes as it writes or, where it asks for
 /// an entry of a log, by that the entry is not kept.
-pub fn told_as_allowed()
+pub fn received_as_allowed()
     ensures traffic { HearsWhatIsAllowed }
     ensures answers { AnswersCalls }
 {}

@@ -13,8 +13,8 @@ pub use calls::{
 pub use law::{
     acts_within_bounds, all_ticks, boots_alone, earlier_ticks, effects_act_within_own, has_own_tag,
     keeps_facts, keeps_facts_alone, keeps_hardware_clock, keeps_numbers, keeps_plans, keeps_shapes,
-    never_upon_itself, observes_as_tested, one_tick, own_lines, same_core_file, scripts_end,
-    sees_nothing, serves_by_number, tells_few_bytes, told_as_allowed, two_runs,
+    never_upon_itself, observes_as_tested, one_tick, own_lines, received_as_allowed,
+    same_core_file, scripts_end, sees_nothing, serves_by_number, trades_few_bytes, two_runs,
 };
 pub use numbers::{Call, call_of, number_of_call};
 pub use rows::{

@@ -1,4 +1,4 @@
-//! Rows worked by hand: small systems, and what runs of them come to.
+//! Rows worked by hand: small systems, and the outcome of runs of them.
 
 ghost use Rattle.machine_model.specs.CallRows.{CountsWarm, HaltsAnother, IsRefusedAnother, KeepsLogsCold, OrdersNone, ResetsAnother, ResumesAnother, ResumesNothing, SeesAnother, ShutsDownAnother, SuspendsAnother};
 ghost use Rattle.machine_model.specs.HealthRows.{HaltsAll, HaltsAtIllegal, HaltsInLastTick, IgnoresIllegal, PropagatesToHalt, ResetsAllByCall, ResetsAllWarm, RestsInHaltingTick, SwitchesInMidFrame};
@@ -127,9 +127,9 @@ pub fn writes_samples()
     ensures unmade { UnmadePortIsSilent }
 {}
 
-/// A trace is told and entered where it has a bit in the mask.
+/// A trace is emitted and entered where it has a bit in the mask.
 pub fn traces_in_mask()
-    ensures told { TracesInMask }
+    ensures emitted { TracesInMask }
     ensures refused { TracesNotElse }
 {}
 

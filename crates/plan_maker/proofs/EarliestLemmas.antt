@@ -121,7 +121,7 @@ pub earliest_none : (jobs : List Job) → earliest jobs ≡ None → Each (λ k.
 unfolding earliest
 earliest_none jobs is = (first_none None jobs is).1
 
--- a job that keeps some of its ticks where its partition has so many
+-- a job that keeps some of its ticks where its partition has this many
 abbrev pub Keeps : ℕ → ℕ → Job → Type 0
 Keeps part ticks job = job.requirement.part ≡ part → ticks < job.left
 

@@ -14,7 +14,7 @@ use Rattle.plan_maker.proofs.EachLemmas.{Each, each_then}
 use Rattle.plan_maker.proofs.EarliestLemmas.{GoesBefore, Has, earliest_before, earliest_none, earliest_one, earliest_wants}
 use Rattle.plan_maker.proofs.JobLemmas.{spent_by}
 
--- the ticks of the whole windows of a requirement in so many ticks
+-- the ticks of the whole windows of a requirement in this many ticks
 abbrev pub portion : ℕ → Requirement → ℕ
 portion count requirement = requirement.duration * (count / requirement.period)
 
@@ -27,7 +27,7 @@ abbrev pub load : ℕ → List Job → ℕ
 load until [] = 0
 load until (job ∷ rest) = needs until job + load until rest
 
--- the ticks of all whole windows in so many ticks
+-- the ticks of all whole windows in this many ticks
 abbrev pub share : ℕ → List Job → ℕ
 share count [] = 0
 share count (job ∷ rest) = portion count job.requirement + share count rest

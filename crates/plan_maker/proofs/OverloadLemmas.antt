@@ -104,7 +104,7 @@ windows_time part period duration (suc windows) slots enough =
     let place : 0 + windows * period ≡ windows * period = omega arith in
     rw (number, split, place) (omega (arith, before, last))
 
--- a plan meets a requirement in a frame of so many ticks
+-- a plan meets a requirement in a frame of this many ticks
 pub record IsMetIn (slots : List Slot) (frame : ℕ) (requirement : Requirement) : Type 0 where
   pub period : 0 < requirement.period
   pub whole : frame % requirement.period ≡ 0

@@ -180,7 +180,7 @@ common_stops so_far rs i d r whole below is long sofar =
 pub common_ends : (so_far : ℕ) (rs : List Requirement) (i : ℕ) (whole : Result ℕ ℕ) → length rs ≤ i → common_from so_far (drop i rs) ≡ whole → Ok so_far ≡ whole
 common_ends so_far rs i whole past sofar = sym (at_drop_all (λ (rest : List Requirement). common_from so_far rest) rs i past) ∙ sofar
 
--- a configuration has at most so many partitions
+-- a configuration has at most this many partitions
 pub parts_few : (conf : Conf) → Fits (described conf) → length conf.parts ≤ most_parts
 unfolding described
 parts_few conf fits = fits.counts.parts.few

@@ -9,8 +9,8 @@ use Rattle.xm_conf.specs.declared.plan.Slot.{Slot}
 use Rattle.plan_maker.specs.Needed.{ArePossible, common_period, demand, longest_common}
 use Rattle.plan_maker.specs.Planned.{GivesPlan, AreNeverMet, IsHopeless, IsMet, IsPlanRefused, IsRequirementServed, KeepsRules, frame_slots, most_slots, need_of, plan_in, plan_over, plan_with, planned}
 use Rattle.plan_maker.specs.Served.{window_time}
-use Rattle.file_texts.specs.declared.fault.PlanFault.{PlanFault}
-use Rattle.file_texts.specs.declared.fault.PlanFault.TheVariants.{NoNeed, Period, Overload, Slots, Memory}
+use Rattle.fault_messages.specs.declared.fault.PlanFault.{PlanFault}
+use Rattle.fault_messages.specs.declared.fault.PlanFault.TheVariants.{NoNeed, Period, Overload, Slots, Memory}
 use Rattle.plan_maker.specs.declared.jobs.Requirement.{Requirement}
 use Rattle.plan_maker.proofs.CourseLemmas.{laid_in_turn, laid_inside}
 use Rattle.plan_maker.proofs.EachLemmas.{all_from_each, each_both, each_from_all}
@@ -159,7 +159,7 @@ overload_never rs demanded frame possible refused = λ plan rules met.
     (each_both (IsWhole frame) (λ r. IsMet plan r.part (need_of r)) (IsMetIn plan.slots plan.frame) rs (λ r whole is. record { period = whole.period; whole = is.whole; enough = is.each }) common.whole
     (each_from_all (λ r. IsMet plan r.part (need_of r)) rs met))
 
--- an answer that tells of an overload is one of requirements that are never met
+-- an answer that reports an overload is one of requirements that are never met
 pub answer_hopeless : (rs : List Requirement) (answer : Result Plan PlanFault) → ArePossible 0 rs → GivesPlan answer (planned rs) → IfErr answer (IsHopeless rs)
 answer_hopeless rs (Ok plan) possible is = tt
 answer_hopeless rs (Err NoNeed) possible is = tt

@@ -16,7 +16,7 @@ use Rattle.plan_maker.proofs.JobLemmas.{had, had_begins, had_ends, had_goes_on, 
 use Rattle.plan_maker.proofs.LoadLemmas.{Fits, IsAhead, IsDone, IsWhole, Spares, demand_fits, share_same, spares_done, spares_first, spares_renewed, spares_tick}
 use Rattle.plan_maker.proofs.TimeLemmas.{window_holds, window_is}
 
--- the slots after so many ticks
+-- the slots after this many ticks
 abbrev pub slots_at : List Requirement → ℕ → List Slot
 slots_at rs tick = slots_so_far (course_of rs tick)
 

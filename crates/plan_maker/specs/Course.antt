@@ -22,11 +22,11 @@ at_rest = record { ended = []; last = None }
 abbrev pub continues : ℕ → ℕ → Slot → Bool
 continues part tick slot = slot.part == part && slot.start + slot.duration == tick
 
--- the slot of a run of so many ticks
+-- the slot of a run of this many ticks
 abbrev pub run_slot : ℕ → ℕ → ℕ → Slot
 run_slot part tick count = record { start = tick; duration = count; part = part }
 
--- the slots after a run of so many ticks from a tick on: it makes the last slot longer, or it is the next one
+-- the slots after a run of this many ticks from a tick on: it makes the last slot longer, or it is the next one
 abbrev pub run_after : ℕ → ℕ → ℕ → List Slot → Option Slot → Course
 run_after part tick count ended None = record { ended = ended; last = Some (run_slot part tick count) }
 run_after part tick count ended (Some slot) =
@@ -34,7 +34,7 @@ run_after part tick count ended (Some slot) =
     then record { ended = ended; last = Some (record slot { duration = slot.duration + count }) }
     else record { ended = ended ++ slot ∷ []; last = Some (run_slot part tick count) }
 
--- the course after a partition ran for so many ticks from a tick on
+-- the course after a partition ran for this many ticks from a tick on
 abbrev pub with_run : ℕ → ℕ → ℕ → Course → Course
 with_run part tick count course = run_after part tick count course.ended course.last
 
@@ -75,7 +75,7 @@ course_after_tick tick (Some job) course = with_run job.requirement.part tick 1 
 abbrev pub tick_done : List Requirement → ℕ → Course → Course
 tick_done requirements tick course = course_after_tick tick (earliest (jobs_at requirements tick course)) course
 
--- the course after so many ticks
+-- the course after this many ticks
 abbrev pub course_of : List Requirement → ℕ → Course
 course_of requirements zero = at_rest
 course_of requirements (suc tick) = tick_done requirements tick (course_of requirements tick)

@@ -23,7 +23,7 @@ required_by number part = required number part.need
 unfoldable pub requirements : Conf → List Requirement
 requirements conf = added_by_each required_by conf.parts
 
--- the first of these numbers that another one divides: one, and so many that follow it step by step; or else the last
+-- the first of these numbers that another one divides: one, and this many that follow it step by step; or else the last
 abbrev pub first_divided : ℕ → ℕ → ℕ → ℕ → ℕ
 first_divided zero step divisor at = at
 first_divided (suc more) step divisor at = if at % divisor == 0 then at else first_divided more step divisor (at + step)

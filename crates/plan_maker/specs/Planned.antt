@@ -7,8 +7,8 @@ use Rattle.xm_conf.specs.declared.plan.Slot.{Slot}
 use Rattle.plan_maker.specs.Course.{course_of, slots_so_far}
 use Rattle.plan_maker.specs.Needed.{common_period, demand}
 use Rattle.plan_maker.specs.Served.{window_time}
-use Rattle.file_texts.specs.declared.fault.PlanFault.{PlanFault}
-use Rattle.file_texts.specs.declared.fault.PlanFault.TheVariants.{NoNeed, Period, Overload, Slots, Memory}
+use Rattle.fault_messages.specs.declared.fault.PlanFault.{PlanFault}
+use Rattle.fault_messages.specs.declared.fault.PlanFault.TheVariants.{NoNeed, Period, Overload, Slots, Memory}
 use Rattle.plan_maker.specs.declared.jobs.Requirement.{Requirement}
 use Rattle.plan_maker.specs.declared.answer.Met.{Met}
 use Rattle.plan_maker.specs.declared.answer.Met.TheVariants as met

@@ -2,10 +2,10 @@
 use Rattle.std.specs.Prelude.{◌≡◌, ℕ, List, [], ◌∷◌, Ok, Err}
 use Rattle.xm_conf.specs.declared.plan.Slot.{Slot}
 use Rattle.plan_maker.specs.Planned.{planned}
-use Rattle.file_texts.specs.declared.fault.PlanFault.TheVariants.{NoNeed, Period, Overload}
+use Rattle.fault_messages.specs.declared.fault.PlanFault.TheVariants.{NoNeed, Period, Overload}
 use Rattle.plan_maker.specs.declared.jobs.Requirement.{Requirement}
 
--- a partition needs so many ticks in each period
+-- a partition needs this many ticks in each period
 abbrev pub need : ℕ → ℕ → ℕ → Requirement
 need part duration period = record { part = part; duration = duration; period = period }
 

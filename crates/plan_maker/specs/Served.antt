@@ -12,12 +12,12 @@ gives part tick slot = slot.part == part && covers tick slot
 abbrev pub runs_in : ℕ → List Slot → ℕ → Bool
 runs_in part slots tick = list_any (gives part tick) slots
 
--- how many ticks pass a test, of so many from one on
+-- how many ticks pass a test, of this many from one on
 abbrev pub ticks_where : (ℕ → Bool) → ℕ → ℕ → ℕ
 ticks_where test start zero = 0
 ticks_where test start (suc count) = ticks_where test start count + (if test (start + count) then 1 else 0)
 
--- the time that slots give a partition in so many ticks from one on
+-- the time that slots give a partition in this many ticks from one on
 unfoldable pub time_in : ℕ → List Slot → ℕ → ℕ → ℕ
 time_in part slots start count = ticks_where (runs_in part slots) start count
 

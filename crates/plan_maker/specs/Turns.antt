@@ -13,7 +13,7 @@ pub record Moment : Type 0 where
   pub course : Course
   pub end : ℕ
 
--- a job after a partition had so many ticks
+-- a job after a partition had this many ticks
 abbrev pub spent : ℕ → ℕ → Job → Job
 spent part ticks job = if job.requirement.part == part then record job { left = job.left - ticks } else job
 
@@ -63,7 +63,7 @@ window_passed frame moment = record {
 abbrev pub come : ℕ → ℕ → Moment → Moment
 come frame tick moment = if tick == moment.end then window_passed frame moment else record moment { tick = tick }
 
--- jobs of which the first one of a partition had so many ticks
+-- jobs of which the first one of a partition had this many ticks
 abbrev pub spent_first : ℕ → ℕ → List Job → List Job
 spent_first part ticks [] = []
 spent_first part ticks (job ∷ rest) =
@@ -78,7 +78,7 @@ given part ticks moment = record {
   end = moment.end;
 }
 
--- a moment after a partition ran for so many ticks
+-- a moment after a partition ran for this many ticks
 abbrev pub moment_after_run : ℕ → ℕ → ℕ → Moment → Moment
 moment_after_run frame part ticks moment = come frame (moment.tick + ticks) (given part ticks moment)
 

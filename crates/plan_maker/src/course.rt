@@ -34,7 +34,7 @@ impl Course {
         }
     }
 
-    /// A partition runs for so many ticks from a tick on.
+    /// A partition runs for this many ticks from a tick on.
     pub(crate) fn run(&mut self, part: u8, tick: u32, count: u32) -> Result<(), Memory>
         requires { IfSome self.old.last (λ slot. slot.start + slot.duration + count < 2 ^ 32) }
         ensures { OnOk result (self.new ≡ with_run part tick count self.old) }
@@ -68,7 +68,7 @@ impl Course {
     }
 }
 
-/// The slot of a run of so many ticks.
+/// The slot of a run of this many ticks.
 fn run_slot(part: u8, tick: u32, count: u32) -> Slot
     ensures { result ≡ run_slot part tick count }
 {
@@ -87,7 +87,7 @@ fn continues(part: u8, tick: u32, slot: Slot) -> bool
     slot.part == part && slot.start + slot.duration == tick
 }
 
-/// A slot that lasts so many ticks longer.
+/// A slot that lasts this many ticks longer.
 fn longer(slot: Slot, count: u32) -> Slot
     requires { slot.duration + count < 2 ^ 32 }
     ensures { result ≡ record slot { duration = slot.duration + count } }

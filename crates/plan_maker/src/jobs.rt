@@ -3,7 +3,7 @@
 ghost use Rattle.std.specs.Prelude.{◌≡◌, ◌+◌, ◌^◌, ◌<◌, All, map, fold, min};
 ghost use Rattle.plan_maker.specs.Turns.{job_due_first, next_end, renewed, sooner_due, spent_first, due_of};
 
-/// What a partition requires: so many ticks in each period.
+/// What a partition requires: this many ticks in each period.
 #[derive(Clone, Copy, Debug, PartialEq, Eq)]
 pub struct Requirement {
     /// The partition's number.
@@ -88,7 +88,7 @@ pub(crate) fn next_end(frame: u32, jobs: &[Job]) -> u32
     jobs.iter().map(|job| job.end).fold(frame, u32::min)
 }
 
-/// The first job of a partition has so many ticks.
+/// The first job of a partition has this many ticks.
 pub(crate) fn spend(jobs: &mut [Job], part: u8, ticks: u32)
     ensures { jobs.new ≡ spent_first part ticks jobs.old }
 {

@@ -11,7 +11,7 @@ mod period;
 mod rows;
 
 pub use answer::Met;
-pub use file_texts::PlanFault;
+pub use fault_messages::PlanFault;
 pub use making::make;
 pub use meeting::met;
 pub use rows::worked_rows;

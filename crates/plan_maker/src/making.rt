@@ -11,7 +11,7 @@ ghost use Rattle.plan_maker.specs.Planned.{GivesPlan, IsHopeless, IsPlanRefused,
 use crate::jobs::Requirement;
 use crate::moment::Moment;
 use crate::period::{common_period, demand};
-use file_texts::PlanFault;
+use fault_messages::PlanFault;
 use std::alloc::Global;
 use xm_base::Memory;
 use xm_conf::{Conf, Need, Part, Plan, Slot};

@@ -76,7 +76,7 @@ fn lacks(plan: &Plan, need: Need, part: u8, window: u32) -> bool
     lacking(&plan.slots, need.duration, part, start, start + need.period) > 0
 }
 
-/// The ticks that a partition lacks of so many, from a tick on up to an end.
+/// The ticks that a partition lacks of this many, from a tick on up to an end.
 fn lacking(slots: &[Slot], ticks: u32, part: u8, start: u32, end: u32) -> u32
     requires { All (λ slot. slot.start + slot.duration < 2 ^ 32) slots.now }
     ensures { result ≡ ticks - sum_by (shared part start end) slots.now }

@@ -3,7 +3,7 @@ use Rattle.std.proofs.Common.{◌≡◌, ℕ, zero, suc, ◌+◌, ◌<◌, ◌�
 use Rattle.machine_model.specs.Lists.{each}
 use Rattle.machine_model.specs.Machine.{Machine}
 use Rattle.machine_model.specs.Partition.{PartitionState}
-use Rattle.whole_system.specs.State.{SysState, part_at, with_machine, with_part}
+use Rattle.system_state.specs.State.{SysState, part_at, with_machine, with_part}
 use Rattle.port_calls.specs.Traffic.{heard_at, notified}
 
 -- the first elements by f of their numbers and themselves, and the others as they are

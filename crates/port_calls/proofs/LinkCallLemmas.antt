@@ -14,17 +14,17 @@ use Rattle.xm_conf.specs.declared.link.Link.{Link}
 use Rattle.machine_model.specs.Caller.{Caller, Served, a_of, acting, answering, invalid_parameter, refused_if, tested, with_answer}
 use Rattle.machine_model.specs.LinkCalls.{raise_ipvi}
 use Rattle.machine_model.specs.LinkLemmas.{has_link}
-use Rattle.machine_model.specs.Told.{OwnSignals, Trades, Unseen}
+use Rattle.machine_model.specs.Emission.{OwnSignals, Trades, Unseen}
 use Rattle.machine_model.specs.Traffic.{Signals, hearing}
 use Rattle.machine_model.specs.View.{has_number, linked, unless_itself, view_of}
-use Rattle.slot_runs.specs.Passes.{with_traffic}
+use Rattle.span_model.specs.Passes.{with_traffic}
 use Rattle.port_calls.specs.Links.{GoesTo}
 use Rattle.port_calls.proofs.TradeLemmas.{signal_trades}
-use Rattle.whole_system.specs.Serving.{IsServed, caller_of}
-use Rattle.whole_system.specs.State.{SysState, part_at, with_machine, with_part}
-use Rattle.whole_system.specs.declared.call_site.CallSite.{CallSite}
-use Rattle.whole_system.specs.declared.served.Act.TheVariants as act
-use Rattle.whole_system.specs.declared.served.Note.TheVariants as note
+use Rattle.system_state.specs.Serving.{IsServed, caller_of}
+use Rattle.system_state.specs.State.{SysState, part_at, with_machine, with_part}
+use Rattle.system_state.specs.declared.call_site.CallSite.{CallSite}
+use Rattle.system_state.specs.declared.served.Act.TheVariants as act
+use Rattle.system_state.specs.declared.served.Note.TheVariants as note
 
 -- a link that is found is one of those that meet the rules
 found_fits : (parts q number dest : ℕ) (links : List Link) → All (IsLink parts) links → on (λ link. link.dest) (find (is_link_of q number) links) ≡ Some dest
@@ -114,7 +114,7 @@ signals site old set new number dest number_is found goes below set_is new_is =
       state = new_is
           ∙ ap (λ g. with_machine g set) (signal_trades set.machine site.part number dest goes_so below)
           ∙ ap (λ (s : SysState). with_machine (with_traffic (Signals site.part number) s.machine) s) set_is;
-      told = refl;
+      emitted = refl;
       upshot = refl;
       traffic = refl;
       seen = refl;

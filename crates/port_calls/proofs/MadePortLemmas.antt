@@ -24,12 +24,12 @@ use Rattle.machine_model.specs.PortCalls.{MadePort, made_port, with_channel}
 use Rattle.machine_model.specs.Traffic.{content_if, copies_of}
 use Rattle.machine_model.specs.View.{PortChannel, System, if_named, name_from, name_of, named, part_of, port_channel, view_of, with_its_name, with_name}
 use Rattle.port_calls.specs.MadePorts.{HasKind, IsMade, found_end, found_in, found_port, found_with, port_in, table_in}
-use Rattle.whole_system.specs.Serving.{caller_of}
-use Rattle.whole_system.specs.State.{SysState}
-use Rattle.whole_system.specs.declared.call_site.CallSite.{CallSite}
+use Rattle.system_state.specs.Serving.{caller_of}
+use Rattle.system_state.specs.State.{SysState}
+use Rattle.system_state.specs.declared.call_site.CallSite.{CallSite}
 use Rattle.port_calls.specs.declared.made_ports.MadePort as found
 
--- the lowest of so many ports on a channel, from port r on
+-- the lowest of this many ports on a channel, from port r on
 record IsName (conf : Conf) (p c count r : ℕ) : Type 0 where
   name : ℕ
   is : name_from conf p c count r ≡ Some name

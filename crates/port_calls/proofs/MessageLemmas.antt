@@ -1,4 +1,4 @@
--- What the calls on messages come to, by their tests.
+-- The outcome of the calls on messages, by their tests.
 use Rattle.std.proofs.Common.{◌≡◌, ℕ, ◌≤◌, Bool, true, false, List, [], ◌∷◌, None, Some, refl, sym, ap, ◌∙◌, arith, subst}
 use Rattle.std.specs.Prelude.{◌==◌, ◌||◌, not, length, nat_le, nat_lt, Option, IsSomeAnd, slice_get}
 use Rattle.std.proofs.lemmas.Bool.Decides.{nat_tests}
@@ -7,10 +7,10 @@ use Rattle.guest_bus.specs.Memory.{all_from, is_readable}
 use Rattle.machine_model.specs.Caller.{Caller, Served, Test, answering, b_of, caller_bytes, c_of, invalid_parameter, not_allowed, not_available, refused_if, tested, text, with_answer}
 use Rattle.machine_model.specs.Partition.{areas_of}
 use Rattle.machine_model.specs.PortCalls.{MadePort, is_full, is_source, made_port, on_port, putting, size_fits, source_only}
-use Rattle.machine_model.specs.Told.{Unseen}
+use Rattle.machine_model.specs.Emission.{Unseen}
 use Rattle.machine_model.specs.Traffic.{Puts, puts_at}
 use Rattle.machine_model.specs.View.{named, view_of}
-use Rattle.slot_runs.specs.Passes.{with_traffic}
+use Rattle.span_model.specs.Passes.{with_traffic}
 use Rattle.xm_conf.specs.declared.port.Kind.{Kind}
 use Rattle.xm_conf.specs.declared.port.Kind.TheVariants as kind
 use Rattle.xm_conf.specs.declared.channel.ChanKind.{ChanKind}
@@ -20,12 +20,12 @@ use Rattle.port_calls.specs.MadePorts.{IsMade, port_in, table_in}
 use Rattle.port_calls.specs.Messages.{HasRoomFor, first_refusal, put_tests}
 use Rattle.port_calls.specs.OnPorts.{done_on, is_filled, tests_on}
 use Rattle.port_calls.specs.declared.on_ports.PortWork.TheVariants as work
-use Rattle.whole_system.specs.Serving.{IsServed, MayRead, caller_of}
-use Rattle.whole_system.specs.State.{SysState, with_machine, with_part}
-use Rattle.whole_system.specs.declared.call_site.CallSite.{CallSite}
+use Rattle.system_state.specs.Serving.{IsServed, MayRead, caller_of}
+use Rattle.system_state.specs.State.{SysState, with_machine, with_part}
+use Rattle.system_state.specs.declared.call_site.CallSite.{CallSite}
 use Rattle.port_calls.specs.declared.made_ports.MadePort as found
-use Rattle.whole_system.specs.declared.served.Act.TheVariants as act
-use Rattle.whole_system.specs.declared.served.Note.TheVariants as note
+use Rattle.system_state.specs.declared.served.Act.TheVariants as act
+use Rattle.system_state.specs.declared.served.Note.TheVariants as note
 
 -- tests of which one refuses
 pub tested_refused : (tests : List Test) (caller : Caller) (served : Served) (code : ℕ) → Some code ≡ first_refusal tests → tested tests caller served ≡ answering code caller.state
@@ -111,7 +111,7 @@ put_served site old mid new port called readable mid_is new_is =
     let bytes = caller_bytes (caller_of site old) (b_of (caller_of site old)) (c_of (caller_of site old)) in
     record {
       state = new_is ∙ ap (λ (s : SysState). with_machine (with_traffic (Puts port.chan bytes) s.machine) s) mid_is;
-      told = refl;
+      emitted = refl;
       upshot = refl;
       traffic = ap (λ name. puts_at name bytes) called;
       seen = refl;

@@ -14,10 +14,10 @@ call_is : (the_kind : Kind) (the_work : PortWork) (caller : Caller) → call_on 
 unfolding get_queuing_port_status get_sampling_port_status read_sampling_message receive_queuing_message send_queuing_message write_sampling_message
 call_is kind.Sampling work.Send caller = refl
 call_is kind.Sampling work.Receive caller = refl
-call_is kind.Sampling work.Tell caller = refl
+call_is kind.Sampling work.Status caller = refl
 call_is kind.Queuing work.Send caller = refl
 call_is kind.Queuing work.Receive caller = refl
-call_is kind.Queuing work.Tell caller = refl
+call_is kind.Queuing work.Status caller = refl
 
 -- where it is not made
 pub call_unmade : (the_kind : Kind) (the_work : PortWork) (caller : Caller) → None ≡ made_port the_kind caller → call_on the_kind the_work caller ≡ answering invalid_parameter caller.state

@@ -15,11 +15,11 @@ use Rattle.machine_model.specs.Caller.{Caller, a_of, caller_bytes}
 use Rattle.machine_model.specs.Partition.{areas_of}
 use Rattle.machine_model.specs.PortCalls.{name_at, name_given, shape_at}
 use Rattle.machine_model.specs.View.{System, name_of, no_part, part_of, view_of, with_its_name, with_name}
-use Rattle.slot_runs.specs.Passes.{part_at}
+use Rattle.span_model.specs.Passes.{part_at}
 use Rattle.port_calls.specs.PortNames.{AreReadable, name_in}
-use Rattle.whole_system.specs.Serving.{caller_of}
-use Rattle.whole_system.specs.State.{SysState}
-use Rattle.whole_system.specs.declared.call_site.CallSite.{CallSite}
+use Rattle.system_state.specs.Serving.{caller_of}
+use Rattle.system_state.specs.State.{SysState}
+use Rattle.system_state.specs.declared.call_site.CallSite.{CallSite}
 use Rattle.port_calls.proofs.MadePortLemmas.{name_there, view_channel}
 
 -- bytes with a zero byte, and bytes without

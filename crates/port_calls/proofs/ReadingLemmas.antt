@@ -7,21 +7,21 @@ use Rattle.machine_model.specs.Caller.{Caller, acting, answering, b_of, c_of, d_
 use Rattle.machine_model.specs.Partition.{PartitionState, areas_of}
 use Rattle.machine_model.specs.PortCalls.{message_read, sample_read}
 use Rattle.machine_model.specs.Structures.{flag, is_valid, refresh_of, word}
-use Rattle.machine_model.specs.Told.{OwnTakes, Trades, Unseen}
+use Rattle.machine_model.specs.Emission.{OwnTakes, Trades, Unseen}
 use Rattle.machine_model.specs.Traffic.{Takes, takes_at}
 use Rattle.machine_model.specs.View.{named, view_of}
-use Rattle.slot_runs.specs.Passes.{with_traffic}
+use Rattle.span_model.specs.Passes.{with_traffic}
 use Rattle.port_calls.specs.MadePorts.{port_in}
 use Rattle.port_calls.specs.Messages.{first_refusal, message_tests, sample_tests}
-use Rattle.whole_system.specs.Serving.{IsServed, caller_of}
-use Rattle.whole_system.specs.State.{SysState, part_at, with_machine, with_part}
-use Rattle.whole_system.specs.declared.call_site.CallSite.{CallSite}
+use Rattle.system_state.specs.Serving.{IsServed, caller_of}
+use Rattle.system_state.specs.State.{SysState, part_at, with_machine, with_part}
+use Rattle.system_state.specs.declared.call_site.CallSite.{CallSite}
 use Rattle.port_calls.specs.declared.made_ports.MadePort as found
-use Rattle.whole_system.specs.declared.served.Act.TheVariants as act
-use Rattle.whole_system.specs.declared.served.Note.TheVariants as note
-use Rattle.whole_system.specs.declared.served.Served as code
+use Rattle.system_state.specs.declared.served.Act.TheVariants as act
+use Rattle.system_state.specs.declared.served.Note.TheVariants as note
+use Rattle.system_state.specs.declared.served.Served as code
 use Rattle.port_calls.proofs.MessageLemmas.{tested_passed}
-use Rattle.whole_system.specs.ServedLemmas.{served_as, served_changed}
+use Rattle.system_state.specs.ServedLemmas.{served_as, served_changed}
 
 -- a partition's state that is set, and then changed
 pub set_changed : (old mid new : SysState) (p : ℕ) (ps : PartitionState) (f : PartitionState → PartitionState) → p < length old.machine.parts → mid ≡ with_machine (with_part p ps old.machine) old
@@ -83,7 +83,7 @@ message_done site old mid set new port value to message below called passed to_i
     ∙ ap (λ b. acting (Trades (OwnTakes name)) value (with_written b message caller.state)) (sym to_is))
     (record {
       state = new_is ∙ ap (λ (s : SysState). with_machine (with_traffic (Takes port.chan) s.machine) s) state;
-      told = refl;
+      emitted = refl;
       upshot = refl;
       traffic = ap takes_at called;
       seen = refl;

@@ -15,12 +15,12 @@ use Rattle.machine_model.specs.NameLemmas.{name_is}
 use Rattle.machine_model.specs.Lists.{each, is_number, table, then_some}
 use Rattle.machine_model.specs.Machine.{Machine, booted_part}
 use Rattle.machine_model.specs.Partition.{PartitionState, link_signal}
-use Rattle.machine_model.specs.Told.{OwnSignals}
+use Rattle.machine_model.specs.Emission.{OwnSignals}
 use Rattle.machine_model.specs.Traffic.{Puts, Signals, Takes, after_message, after_traffic, first_heard, heard_as, heard_from, hearing, hears, interrupt_of, interrupted, is_destination, own_puts_at, own_signals_at, own_takes_at}
 use Rattle.machine_model.specs.View.{PortChannel, linked, name_from, name_of, part_of, port_channel, view_of, with_its_name, with_name}
-use Rattle.slot_runs.specs.Passes.{with_traffic}
+use Rattle.span_model.specs.Passes.{with_traffic}
 use Rattle.port_calls.specs.MadePorts.{table_in}
-use Rattle.whole_system.specs.State.{SysState, part_at, with_machine, with_part}
+use Rattle.system_state.specs.State.{SysState, part_at, with_machine, with_part}
 use Rattle.port_calls.specs.Traffic.{Brings, heard_at, hears_from, hears_in, is_on, notified}
 
 -- two passes that do the same to each element

@@ -10,7 +10,7 @@ use Rattle.xm_ports.specs.Channels.{ChannelTable, HasQueue, HasSampling, IsTable
 use Rattle.xm_ports.specs.Ports.{are_same_kind}
 use Rattle.machine_model.specs.PortCalls.{MadePort}
 use Rattle.machine_model.specs.View.{name_of, named, part_of}
-use Rattle.whole_system.specs.State.{SysState}
+use Rattle.system_state.specs.State.{SysState}
 use Rattle.port_calls.specs.declared.made_ports.MadePort as found
 
 -- the channels of a system with what they hold

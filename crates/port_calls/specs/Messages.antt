@@ -6,7 +6,7 @@ use Rattle.xm_ports.specs.Channels.{content_at, messages_of}
 use Rattle.machine_model.specs.Caller.{Caller, Test, b_of, c_of, d_of, invalid_parameter, refused_if, room, text}
 use Rattle.machine_model.specs.PortCalls.{MadePort, size_fits, source_only}
 use Rattle.port_calls.specs.MadePorts.{table_in}
-use Rattle.whole_system.specs.State.{SysState}
+use Rattle.system_state.specs.State.{SysState}
 
 -- the result of the first test that refuses, where one does
 abbrev pub first_refusal : List Test → Option ℕ
@@ -18,11 +18,11 @@ first_refusal (None ∷ tests) = first_refusal tests
 abbrev pub put_tests : Caller → MadePort → List Test
 put_tests caller port = source_only port ∷ size_fits port (c_of caller) ∷ text caller (b_of caller) (c_of caller) ∷ []
 
--- the tests on a sample of so many bytes that is to be read to b, and its validity to d
+-- the tests on a sample of this many bytes that is to be read to b, and its validity to d
 abbrev pub sample_tests : Caller → ℕ → List Test
 sample_tests caller size = refused_if (nat_lt (c_of caller) size) invalid_parameter ∷ room caller (b_of caller) size ∷ room caller (d_of caller) 4 ∷ []
 
--- the tests on a message of so many bytes that is to be taken to b
+-- the tests on a message of this many bytes that is to be taken to b
 abbrev pub message_tests : Caller → ℕ → List Test
 message_tests caller size = refused_if (nat_lt (c_of caller) size) invalid_parameter ∷ room caller (b_of caller) size ∷ []
 

@@ -14,10 +14,10 @@ use Rattle.port_calls.specs.declared.on_ports.PortWork.TheVariants as work
 abbrev pub call_on : Kind → PortWork → Caller → Served
 call_on kind.Sampling work.Send = write_sampling_message
 call_on kind.Sampling work.Receive = read_sampling_message
-call_on kind.Sampling work.Tell = get_sampling_port_status
+call_on kind.Sampling work.Status = get_sampling_port_status
 call_on kind.Queuing work.Send = send_queuing_message
 call_on kind.Queuing work.Receive = receive_queuing_message
-call_on kind.Queuing work.Tell = get_queuing_port_status
+call_on kind.Queuing work.Status = get_queuing_port_status
 
 -- whether a port has no room for a further message; a sampling port always has
 abbrev pub is_filled : Kind → MadePort → Bool
@@ -43,10 +43,10 @@ abbrev pub status_bytes : Kind → ℕ
 status_bytes kind.Sampling = 16
 status_bytes kind.Queuing = 8
 
--- what a call comes to on the port that it names, where that is made
+-- the outcome of a call on the port that it names, where that is made
 abbrev pub done_on : Kind → PortWork → Caller → MadePort → Served
 done_on the_kind work.Send caller port = tested (tests_on the_kind caller port) caller (putting caller port)
 done_on the_kind work.Receive caller port = tested (destination_only port ∷ []) caller (held_in the_kind caller port)
-done_on the_kind work.Tell caller port =
+done_on the_kind work.Status caller port =
     tested (room caller (b_of caller) (status_bytes the_kind) ∷ []) caller
     (answering 0 (with_written (b_of caller) (status_in the_kind caller.time port) caller.state))

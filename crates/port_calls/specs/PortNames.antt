@@ -17,7 +17,7 @@ abbrev pub name_in : List ℕ → Option (List ℕ)
 name_in [] = None
 name_in (byte ∷ bytes) = if byte == 0 then Some [] else on (λ rest. byte ∷ rest) (name_in bytes)
 
--- so many bytes from an address on may be read: as many as are wanted, or all up to one that may not
+-- this many bytes from an address on may be read: as many as are wanted, or all up to one that may not
 pub record AreReadable (allowed : ℕ → Bool) (address most count : ℕ) : Type 0 where
   pub few : count ≤ most
   pub all : all_from allowed address count ≡ true

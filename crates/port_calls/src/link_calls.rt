@@ -3,15 +3,15 @@
 ghost use Rattle.std.specs.Prelude.{◌≡◌, ◌<◌, IfSome, None, Some};
 ghost use Rattle.machine_model.specs.Caller.{a_of};
 ghost use Rattle.machine_model.specs.LinkCalls.{raise_ipvi};
-ghost use Rattle.machine_model.specs.Told.{Unseen};
+ghost use Rattle.machine_model.specs.Emission.{Unseen};
 ghost use Rattle.xm_conf.specs.View.{link_of};
 ghost use Rattle.port_calls.specs.Links.{GoesTo};
-ghost use Rattle.whole_system.specs.Serving.{IsCaller, IsServed, caller_of};
+ghost use Rattle.system_state.specs.Serving.{IsCaller, IsServed, caller_of};
 
 use crate::message_calls::set_result;
 use crate::traffic::signal;
-use whole_system::answering::{A, INVALID_PARAMETER, answer, argument};
-use whole_system::{Act, CallSite, Note, Served, Sys};
+use system_state::answering::{A, INVALID_PARAMETER, answer, argument};
+use system_state::{Act, CallSite, Note, Served, Sys};
 use xm_base::PartId;
 use xm_conf::{Conf, LINK_NUMBERS};
 
@@ -32,7 +32,7 @@ fn found_link(conf: &Conf, p: PartId, number: u32) -> Option<PartId>
     ensures value { result ≡ link_of conf.now p number }
     ensures goes { IfSome result (λ dest. GoesTo conf.now p number dest) }
 {
-    // It tells that the links meet the rules.
+    // Its contract says that the links meet the rules.
     let _links = &conf.raw().links;
     if number < u32::from(LINK_NUMBERS) {
         conf.link_of(p, number as u8)

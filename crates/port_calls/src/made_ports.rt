@@ -13,11 +13,11 @@ ghost use Rattle.xm_ports.specs.Channels.{IsTable, most_of, shapes_of};
 ghost use Rattle.xm_ports.specs.Ports.{are_same_kind, is_made};
 ghost use Rattle.xm_base.specs.Options.{on};
 ghost use Rattle.port_calls.specs.MadePorts.{HasKind, IsMade, found_end, found_in, port_in};
-ghost use Rattle.whole_system.specs.Serving.{IsCaller, caller_of};
+ghost use Rattle.system_state.specs.Serving.{IsCaller, caller_of};
 
 use machine_model::keeps_shapes;
-use whole_system::answering::{A, argument};
-use whole_system::{CallSite, Sys};
+use system_state::answering::{A, argument};
+use system_state::{CallSite, Sys};
 use xm_base::PartId;
 use xm_conf::{ChanKind, Conf, Kind, Port, Way};
 use xm_ports::Channels;
@@ -62,7 +62,7 @@ fn made_number(sys: &Sys, site: CallSite) -> Option<u8>
 }
 
 /// Whether the caller has made a port.
-#[tactic(auto, unfolding(whole_system::specs::Serving::caller_of))]
+#[tactic(auto, unfolding(system_state::specs::Serving::caller_of))]
 fn is_made(sys: &Sys, site: CallSite, port: u8) -> bool
     requires { IsCaller site sys.now }
     ensures value { result ≡ is_made port (caller_of site sys.now).state.made }

@@ -2,11 +2,11 @@
 
 ghost use Rattle.std.specs.Prelude.{◌≡◌, ◌≤◌, ◌-◌, ◌++◌, IfSome, None, Some, drop, length, option_map, slice_get, take};
 ghost use Rattle.xm_ports.specs.Channels.{HasQueue, HasSampling, IsMessage, IsTable, content_at, first_message, sample_of, shapes_of};
-ghost use Rattle.slot_runs.specs.Passes.{with_traffic};
+ghost use Rattle.span_model.specs.Passes.{with_traffic};
 ghost use Rattle.machine_model.specs.Caller.{c_of, with_answer};
 ghost use Rattle.machine_model.specs.PortCalls.{is_full, is_source, message_read, putting, sample_read};
 ghost use Rattle.machine_model.specs.Structures.{flag, is_valid, refresh_of};
-ghost use Rattle.machine_model.specs.Told.{Unseen};
+ghost use Rattle.machine_model.specs.Emission.{Unseen};
 ghost use Rattle.machine_model.specs.Traffic.{Puts};
 ghost use Rattle.machine_model.specs.View.{named};
 ghost use Rattle.xm_conf.specs.declared.port.Kind.TheVariants as the_kind;
@@ -14,17 +14,17 @@ ghost use Rattle.port_calls.specs.MadePorts.{HasKind, IsMade, port_in, table_in}
 ghost use Rattle.port_calls.specs.Messages.{HasRoomFor, first_refusal, message_tests, put_tests, sample_tests};
 ghost use Rattle.port_calls.specs.OnPorts.{done_on, held_in, is_filled};
 ghost use Rattle.port_calls.specs.declared.on_ports.PortWork.TheVariants as work;
-ghost use Rattle.whole_system.specs.Serving.{IsCaller, IsServed, caller_of};
-ghost use Rattle.whole_system.specs.State.{with_machine, with_part};
+ghost use Rattle.system_state.specs.Serving.{IsCaller, IsServed, caller_of};
+ghost use Rattle.system_state.specs.State.{with_machine, with_part};
 
 use crate::made_ports::{MadePort, most_of, refresh_of};
 use crate::traffic::{MESSAGE_BYTES, drop_first, put_sampling, send};
-use whole_system::answering::{
+use system_state::answering::{
     B, C, D, INVALID_PARAMETER, NO_ACTION, NOT_ALLOWED, NOT_AVAILABLE, answer, answer_written,
     argument, read, room, text, write,
 };
-use whole_system::structures::validity;
-use whole_system::{Act, CallSite, Note, Served, Sys, engine};
+use system_state::structures::validity;
+use system_state::{Act, CallSite, Note, Served, Sys, engine};
 use xm_conf::{ChanKind, Kind, Way};
 
 /// Calls 17, XM_write_sampling_message(a, b, c), and 21, XM_send_queuing_message(a, b, c), on a made port: c bytes at b.
@@ -118,7 +118,7 @@ fn put_read(sys: &mut Sys, site: CallSite, port: MadePort, message: &mut [u8]) -
     let size = argument(sys, site, C);
     read(sys, site, at, message);
     set_result(sys, site, 0);
-    put(sys, port, message);
+    put_bytes(sys, port, message);
     Served {
         note: Note::Put {
             chan: port.chan,
@@ -130,7 +130,7 @@ fn put_read(sys: &mut Sys, site: CallSite, port: MadePort, message: &mut [u8]) -
 }
 
 /// Puts a message into a port's channel.
-fn put(sys: &mut Sys, port: MadePort, bytes: &[u8])
+fn put_bytes(sys: &mut Sys, port: MadePort, bytes: &[u8])
     requires shapes { sys.old.shapes ≡ shapes_of sys.old.machine.system.conf }
     requires shaped { slice_get sys.old.shapes port.chan ≡ Some (record { kind = port.kind; length = port.length }) }
     requires bytes { IsMessage port.length bytes.now }
@@ -147,7 +147,7 @@ fn put(sys: &mut Sys, port: MadePort, bytes: &[u8])
 }
 
 /// Sets the result of a call.
-#[tactic(auto, unfolding(whole_system::specs::Serving::caller_of, machine_model::specs::Caller::with_answer))]
+#[tactic(auto, unfolding(system_state::specs::Serving::caller_of, machine_model::specs::Caller::with_answer))]
 pub(crate) fn set_result(sys: &mut Sys, site: CallSite, value: u32)
     requires { IsCaller site sys.old }
     ensures { sys.new ≡ with_machine (with_part site.part (with_answer value (caller_of site sys.old).state) sys.old.machine) sys.old }
@@ -208,7 +208,7 @@ fn read_sample(sys: &mut Sys, site: CallSite, port: MadePort, time: u64, message
     answer_written(sys, site, at, &valid.to_be_bytes(), message.len() as u32)
 }
 
-/// Why a message of so many bytes is not written to the caller's memory, with its validity, where that is refused.
+/// Why a message of this many bytes is not written to the caller's memory, with its validity, where that is refused.
 fn sample_refusal(sys: &Sys, site: CallSite, size: u32) -> Option<u32>
     requires { IsCaller site sys.now }
     ensures { result ≡ first_refusal (sample_tests (caller_of site sys.now) size) }
@@ -286,7 +286,7 @@ fn read_message(sys: &mut Sys, site: CallSite, port: MadePort, message: &[u8]) -
     }
 }
 
-/// Why a message of so many bytes is not written to the caller's memory, where that is refused.
+/// Why a message of this many bytes is not written to the caller's memory, where that is refused.
 fn message_refusal(sys: &Sys, site: CallSite, size: u32) -> Option<u32>
     requires { IsCaller site sys.now }
     ensures { result ≡ first_refusal (message_tests (caller_of site sys.now) size) }

@@ -2,15 +2,15 @@
 
 ghost use Rattle.std.specs.Prelude.{◌≡◌};
 ghost use Rattle.xm_ports.specs.Channels.{shapes_of};
-ghost use Rattle.machine_model.specs.Told.{Unseen};
+ghost use Rattle.machine_model.specs.Emission.{Unseen};
 ghost use Rattle.port_calls.specs.OnPorts.{call_on};
-ghost use Rattle.whole_system.specs.Serving.{IsCaller, IsServed, caller_of};
+ghost use Rattle.system_state.specs.Serving.{IsCaller, IsServed, caller_of};
 
 use crate::made_ports::made_port;
 use crate::message_calls::{receive_on, send_on};
-use crate::port_status::tell_on;
-use whole_system::answering::{INVALID_PARAMETER, answer};
-use whole_system::{CallSite, Served, Sys};
+use crate::port_status::status_on;
+use system_state::answering::{INVALID_PARAMETER, answer};
+use system_state::{CallSite, Served, Sys};
 use xm_conf::Kind;
 
 /// What a call does with a made port.
@@ -21,7 +21,7 @@ pub enum PortWork {
     /// It reads a message from the channel.
     Receive,
     /// It writes the port's status.
-    Tell,
+    Status,
 }
 
 /// A call on the made port of a kind that it names by a: 17, 18 and 19 on a sampling port, 21, 22 and 23 on a queuing port.
@@ -36,6 +36,6 @@ pub fn call_port(sys: &mut Sys, site: CallSite, kind: Kind, work: PortWork) -> S
     match work {
         PortWork::Send => send_on(sys, site, kind, port),
         PortWork::Receive => receive_on(sys, site, kind, port),
-        PortWork::Tell => tell_on(sys, site, kind, port),
+        PortWork::Status => status_on(sys, site, kind, port),
     }
 }

@@ -6,14 +6,14 @@ ghost use Rattle.guest_bus.specs.Memory.{all_from, is_readable};
 ghost use Rattle.machine_model.specs.Caller.{a_of};
 ghost use Rattle.machine_model.specs.Partition.{areas_of};
 ghost use Rattle.machine_model.specs.PortCalls.{create_refusal, creating, name_given};
-ghost use Rattle.machine_model.specs.Told.{Unseen};
+ghost use Rattle.machine_model.specs.Emission.{Unseen};
 ghost use Rattle.port_calls.specs.PortNames.{AreReadable, creation_on, name_in};
-ghost use Rattle.whole_system.specs.Serving.{IsCaller, IsServed, caller_of};
+ghost use Rattle.system_state.specs.Serving.{IsCaller, IsServed, caller_of};
 
-use whole_system::answering::{
+use system_state::answering::{
     A, B, C, D, INVALID_CONFIGURATION, INVALID_PARAMETER, NO_ACTION, answer, argument, read, text,
 };
-use whole_system::{CallSite, Served, Sys};
+use system_state::{CallSite, Served, Sys};
 use xm_conf::Kind;
 use xm_ports::CreateFault;
 
@@ -102,7 +102,7 @@ fn create_named(sys: &mut Sys, site: CallSite, name: &[u8], wanted: Wanted) -> S
     }
 }
 
-/// The result that tells why a port was not made.
+/// The result that says why a port was not made.
 fn create_refusal(fault: CreateFault) -> u32
     ensures { result ≡ create_refusal fault }
 {
@@ -127,7 +127,7 @@ fn readable(sys: &Sys, site: CallSite, address: u32) -> usize
     NAME_BYTES
 }
 
-/// Whether the caller may read so many bytes from an address on.
+/// Whether the caller may read this many bytes from an address on.
 fn may_read(sys: &Sys, site: CallSite, address: u32, size: u32) -> bool
     requires { IsCaller site sys.now }
     ensures { result ≡ all_from (is_readable (areas_of (caller_of site sys.now).view)) address size }

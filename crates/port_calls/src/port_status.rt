@@ -1,27 +1,27 @@
-//! The calls that tell the status of ports: numbers 19 and 23.
+//! The calls that write the status of ports: numbers 19 and 23.
 
 ghost use Rattle.std.specs.Prelude.{◌≡◌, length};
 ghost use Rattle.xm_ports.specs.Channels.{content_at};
 ghost use Rattle.machine_model.specs.Structures.{queuing_status, sampling_status};
-ghost use Rattle.machine_model.specs.Told.{Unseen};
+ghost use Rattle.machine_model.specs.Emission.{Unseen};
 ghost use Rattle.xm_conf.specs.declared.port.Kind.TheVariants as the_kind;
 ghost use Rattle.port_calls.specs.MadePorts.{IsMade, port_in, table_in};
 ghost use Rattle.port_calls.specs.OnPorts.{done_on, status_bytes, status_in};
 ghost use Rattle.port_calls.specs.declared.on_ports.PortWork.TheVariants as work;
-ghost use Rattle.whole_system.specs.Serving.{IsCaller, IsServed, caller_of};
+ghost use Rattle.system_state.specs.Serving.{IsCaller, IsServed, caller_of};
 
 use crate::made_ports::{MadePort, most_of, refresh_of};
-use whole_system::answering::{B, answer, answer_written, argument, room};
-use whole_system::structures::{Structure, queuing_status, sampling_status};
-use whole_system::{CallSite, Served, Sys};
+use system_state::answering::{B, answer, answer_written, argument, room};
+use system_state::structures::{Structure, queuing_status, sampling_status};
+use system_state::{CallSite, Served, Sys};
 use xm_base::PartId;
 use xm_conf::Kind;
 
 /// Calls 19, XM_get_sampling_port_status(a, b), and 23, XM_get_queuing_port_status(a, b), on a made port.
-pub(crate) fn tell_on(sys: &mut Sys, site: CallSite, kind: Kind, port: MadePort) -> Served
+pub(crate) fn status_on(sys: &mut Sys, site: CallSite, kind: Kind, port: MadePort) -> Served
     requires caller { IsCaller site sys.old }
     requires made { IsMade kind site.part sys.old port }
-    ensures { IsServed site.part Unseen (done_on kind work.Tell (caller_of site sys.old) (port_in site.part sys.old port)) result sys.old sys.new }
+    ensures { IsServed site.part Unseen (done_on kind work.Status (caller_of site sys.old) (port_in site.part sys.old port)) result sys.old sys.new }
 {
     let at = argument(sys, site, B);
     let status = status_of(sys, site.part, kind, port);

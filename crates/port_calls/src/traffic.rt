@@ -2,16 +2,16 @@
 
 ghost use Rattle.std.specs.Prelude.{◌≡◌, ◌↔◌, ◌<◌, ◌≤◌, IsErr, IsSomeAnd, OnErr, OnOk, Some, length};
 ghost use Rattle.xm_ports.specs.Channels.{FitsChannel, HasQueue, HasSampling, IsFull, content_at, first_message, shapes_of};
-ghost use Rattle.slot_runs.specs.Passes.{with_traffic};
-ghost use Rattle.machine_model.specs.Told.{OwnSignals};
+ghost use Rattle.span_model.specs.Passes.{with_traffic};
+ghost use Rattle.machine_model.specs.Emission.{OwnSignals};
 ghost use Rattle.machine_model.specs.Traffic.{Puts, Takes, hearing, interrupted, is_destination};
 ghost use Rattle.machine_model.specs.View.{part_of, view_of};
 ghost use Rattle.port_calls.specs.MadePorts.{table_in};
-ghost use Rattle.whole_system.specs.State.{part_at, with_machine, with_part};
+ghost use Rattle.system_state.specs.State.{part_at, with_machine, with_part};
 ghost use Rattle.port_calls.specs.Traffic.{heard_at, hears_from, hears_in, is_on, notified};
 
-use whole_system::Sys;
-use whole_system::interrupts::{LINK_SIGNAL, QUEUING_MESSAGE, SAMPLING_MESSAGE};
+use system_state::Sys;
+use system_state::interrupts::{LINK_SIGNAL, QUEUING_MESSAGE, SAMPLING_MESSAGE};
 use xm_base::{PartId, State};
 use xm_conf::{Port, Way};
 use xm_ports::Full;
@@ -74,12 +74,12 @@ pub(crate) fn notify(sys: &mut Sys, chan: u8, interrupt: u8)
     ensures { sys.new ≡ with_machine (notified chan interrupt sys.old.machine) sys.old }
 {
     for q in 0..sys.count() {
-        hear(sys, q, chan, interrupt);
+        interrupt_hearer(sys, q, chan, interrupt);
     }
 }
 
 /// Makes an interrupt pending at a partition, where it hears what is put into a channel.
-fn hear(sys: &mut Sys, q: PartId, chan: u8, interrupt: u8)
+fn interrupt_hearer(sys: &mut Sys, q: PartId, chan: u8, interrupt: u8)
     requires there { q < length sys.old.machine.parts }
     requires interrupt { interrupt < 32 }
     ensures { sys.new ≡ with_machine (with_part q (heard_at sys.old.machine.system.conf chan interrupt q (part_at q sys.old.machine)) sys.old.machine) sys.old }

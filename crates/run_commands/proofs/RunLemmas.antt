@@ -6,11 +6,11 @@ use Rattle.std.proofs.lemmas.List.{append-nil}
 use Rattle.machine_model.specs.Cue.{Cue, cue, script, script_unless}
 use Rattle.machine_model.specs.Facts.{RunsKeepNumbers}
 use Rattle.machine_model.specs.Machine.{Machine, after, happened, run, step, step_unless}
-use Rattle.machine_model.specs.Told.{AllHalted, AllReset, NoEvent, WholeEvent}
+use Rattle.machine_model.specs.Emission.{AllHalted, AllReset, NoEvent, WholeEvent}
 use Rattle.machine_model.specs.Whole.{ticks_after}
-use Rattle.slot_runs.specs.RunLemmas.{run_add}
+use Rattle.span_model.specs.RunLemmas.{run_add}
 use Rattle.cue_scripts.specs.Written.{IsWritten, Written}
-use Rattle.told_scripts.specs.Telling.{HasNumbers}
+use Rattle.recording_model.specs.Receiving.{HasNumbers}
 
 -- a machine that has halted stays as it is
 step_halted : (g : Machine) → g.halted ≡ true → step g ≡ g
@@ -62,7 +62,7 @@ pub ticks_most : (count : ℕ) (g : Machine) → (run g count).ticks ≤ g.ticks
 ticks_most zero g = omega arith
 ticks_most (suc count) g = omega (arith, ticks_most count (step g), step_most g)
 
--- so many of the ticks asked were done, and what partition p was told in them is written and has its numbers
+-- this many of the ticks asked were done, and what partition p received in them is written and has its numbers
 pub record IsRecorded (g : Machine) (p asked done : ℕ) (now : Machine) (w : Written) : Type 0 where
   pub within : done ≤ asked
   pub state : now ≡ run g done
@@ -83,13 +83,13 @@ pub one_recorded : (g : Machine) (p asked done : ℕ) (now next : Machine) (w mo
     → HasNumbers (cue now p) → ((cues : List Cue) → IsWritten cues w → IsWritten (cues ++ cue now p ∷ []) more) → IsRecorded g p asked (done + 1) next more
 one_recorded g p asked done now next w more below runs is goes has adds =
     let one : script now p 1 ≡ cue now p ∷ [] = ap (λ b. script_unless b (cue now p) []) runs in
-    let told : script g p done ++ cue now p ∷ [] ≡ script g p (done + 1) =
+    let received : script g p done ++ cue now p ∷ [] ≡ script g p (done + 1) =
     ap (λ cues. script g p done ++ cues) (sym one) ∙ ap (λ (m : Machine). script g p done ++ script m p 1) is.state ∙ sym (script_add done 1 g p) in
     record {
       within = omega (arith, below);
       state = goes ∙ ap (λ (m : Machine). run m 1) is.state ∙ sym (run_add g done 1);
-      written = subst (λ cues. IsWritten cues more) told (adds (script g p done) is.written);
-      numbers = subst (AllByRecursion HasNumbers) told (one_numbered (script g p done) (cue now p) is.numbers has);
+      written = subst (λ cues. IsWritten cues more) received (adds (script g p done) is.written);
+      numbers = subst (AllByRecursion HasNumbers) received (one_numbered (script g p done) (cue now p) is.numbers has);
     }
 
 -- all are done

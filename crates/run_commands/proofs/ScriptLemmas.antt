@@ -7,22 +7,22 @@ use Rattle.xm_outside.specs.Causes.{Rose}
 use Rattle.xm_outside.specs.Files.{OthersStay}
 use Rattle.loaded_system.specs.System.{System}
 use Rattle.machine_model.specs.View.{System as Booted}
-use Rattle.whole_system.specs.State.{with_inputs}
-use Rattle.xm_words.specs.Words.{PartFile, RunOption, cores_in, scripts_in, span_in}
+use Rattle.system_state.specs.State.{with_inputs}
+use Rattle.command_line.specs.Words.{PartFile, RunOption, cores_in, scripts_in, span_in}
 use Rattle.std.specs.String.{string_bytes}
-use Rattle.file_texts.specs.Texts.{script_fault_text}
+use Rattle.fault_messages.specs.Texts.{script_fault_text}
 use Rattle.cue_scripts.specs.Written.{IsScriptFile}
-use Rattle.file_texts.specs.declared.fault.ScriptFault.{ScriptFault}
-use Rattle.file_texts.specs.declared.fault.ScriptFault.TheVariants as fault
-use Rattle.file_maker.specs.Makes.{IsRefusalText}
-use Rattle.file_maker.specs.declared.unmade.Unmade.{Unmade}
-use Rattle.file_maker.specs.declared.unmade.Unmade.TheVariants as unmade
+use Rattle.fault_messages.specs.declared.fault.ScriptFault.{ScriptFault}
+use Rattle.fault_messages.specs.declared.fault.ScriptFault.TheVariants as fault
+use Rattle.builders.specs.Makes.{IsRefusalText}
+use Rattle.builders.specs.declared.unmade.Unmade.{Unmade}
+use Rattle.builders.specs.declared.unmade.Unmade.TheVariants as unmade
 use Rattle.file_commands.specs.Makes.{IsUnmadeOf}
 use Rattle.file_commands.specs.Denial.{Denial}
-use Rattle.file_commands.specs.Ending.{Ending, Finished, Misused, Unread, Denied, Unwritten, Unsaved, Unheard, Starved, ticks_text}
+use Rattle.file_commands.specs.Ending.{Ending, Done, Usage, ReadFault, Refused, WriteFaultReport, WriteFaultFile, UartFault, NoMemory, ticks_text}
 use Rattle.file_commands.specs.Outcome.{Output, ran_for, ran_scripted, ran_within, command_refused, script_before, script_bytes, script_denial, script_output, scripts_for, ticks_asked, unless_denied}
 use Rattle.run_commands.specs.Scripts.{script_or}
-use Rattle.file_commands.specs.Told.{AreSaved, IsDenied, ending_of}
+use Rattle.file_commands.specs.EndingValues.{AreSaved, IsDenied, ending_of}
 use Rattle.file_commands.specs.declared.ending.Ending as code
 use Rattle.file_commands.specs.Work.{Outside, AreNotSaved, IsLostOf, SavesAll, after_store_call, with_files, wrote}
 use Rattle.run_commands.specs.CoreLemmas.{saves_after}
@@ -47,20 +47,20 @@ script_long system ticks part file found is long =
 pub script_unmade : {X : Type 0} (view : X → List ℕ) (system : Booted) (ticks part : ℕ) (file : List ℕ) (why : ScriptFault) (said : Unmade) (e : Ending)
     → IsScriptFile view (script_bytes system ticks part) (Err why) → IsRefusalText said (script_fault_text why) → (why ≡ fault.Memory → said ≡ unmade.Memory) → IsUnmadeOf e file said
     → IsDenied e (script_or (script_denial system ticks (record { part = part; file = file })) (script_output system ticks (record { part = part; file = file })))
-script_unmade view system ticks part file (fault.Length found) (unmade.Refused words) e is told memory ends =
-    let text_is : string_bytes words ≡ script_fault_text (fault.Length found) = told in
+script_unmade view system ticks part file (fault.Length found) (unmade.Refused words) e is stated memory ends =
+    let text_is : string_bytes words ≡ script_fault_text (fault.Length found) = stated in
     rw (ends, text_is) (script_long system ticks part file found is.0 is.1)
-script_unmade view system ticks part file (fault.Length found) unmade.Memory e is told memory ends = rw ends tt
-script_unmade view system ticks part file fault.Memory said e is told memory ends =
+script_unmade view system ticks part file (fault.Length found) unmade.Memory e is stated memory ends = rw ends tt
+script_unmade view system ticks part file fault.Memory said e is stated memory ends =
     let starved : said ≡ unmade.Memory = memory refl in
-    let ended : e ≡ Starved = subst (IsUnmadeOf e file) starved ends in
+    let ended : e ≡ NoMemory = subst (IsUnmadeOf e file) starved ends in
     rw ended tt
-script_unmade view system ticks part file fault.Magic said e is told memory ends = absurd is
-script_unmade view system ticks part file (fault.Version found) said e is told memory ends = absurd is
-script_unmade view system ticks part file (fault.Short at) said e is told memory ends = absurd is
-script_unmade view system ticks part file (fault.Trailing at) said e is told memory ends = absurd is
-script_unmade view system ticks part file (fault.Field at) said e is told memory ends = absurd is
-script_unmade view system ticks part file (fault.Cue tick) said e is told memory ends = absurd is
+script_unmade view system ticks part file fault.Magic said e is stated memory ends = absurd is
+script_unmade view system ticks part file (fault.Version found) said e is stated memory ends = absurd is
+script_unmade view system ticks part file (fault.Short at) said e is stated memory ends = absurd is
+script_unmade view system ticks part file (fault.Trailing at) said e is stated memory ends = absurd is
+script_unmade view system ticks part file (fault.Field at) said e is stated memory ends = absurd is
+script_unmade view system ticks part file (fault.Cue tick) said e is stated memory ends = absurd is
 
 -- Scripts, one after another.
 
@@ -104,15 +104,15 @@ next_made system ticks all rest others named first next output is made more goes
         ∙ ap (λ (o : Output). scripts_before (first ++ o ∷ []) (scripts_for system ticks others)) same
     at (Some refusal) made goes = absurd (cc)
 
--- the next one is refused, or there was no memory for it
+-- the next one is refused, or memory ran out for it
 pub next_denied : (system : Booted) (ticks : ℕ) (all rest others : List PartFile) (named : PartFile) (first : List Output) (e : Ending)
     → rest ≡ named ∷ others → IsDenied e (script_or (script_denial system ticks named) (script_output system ticks named))
     → scripts_for system ticks all ≡ scripts_before first (scripts_for system ticks rest)
     → IsDenied e (scripts_for system ticks all)
-next_denied system ticks all rest others named first Finished is denied goes = absurd denied
-next_denied system ticks all rest others named first Misused is denied goes = absurd denied
-next_denied system ticks all rest others named first (Unread file) is denied goes = absurd denied
-next_denied system ticks all rest others named first (Denied file text) is denied goes =
+next_denied system ticks all rest others named first Done is denied goes = absurd denied
+next_denied system ticks all rest others named first Usage is denied goes = absurd denied
+next_denied system ticks all rest others named first (ReadFault file) is denied goes = absurd denied
+next_denied system ticks all rest others named first (Refused file text) is denied goes =
     at (script_denial system ticks named) denied (goes ∙ ap (λ (names : List PartFile). scripts_before first (scripts_for system ticks names)) is)
   where
     at : (refusal : Option Denial) → script_or refusal (script_output system ticks named) ≡ Err (record { file = file; text = text })
@@ -120,10 +120,10 @@ next_denied system ticks all rest others named first (Denied file text) is denie
         → scripts_for system ticks all ≡ Err (record { file = file; text = text })
     at None denied goes = absurd (cc)
     at (Some refusal) denied goes = (let same : refusal ≡ record { file = file; text = text } = cc in goes ∙ ap Err same)
-next_denied system ticks all rest others named first Unwritten is denied goes = absurd denied
-next_denied system ticks all rest others named first (Unsaved file) is denied goes = absurd denied
-next_denied system ticks all rest others named first (Unheard place) is denied goes = absurd denied
-next_denied system ticks all rest others named first Starved is denied goes = tt
+next_denied system ticks all rest others named first WriteFaultReport is denied goes = absurd denied
+next_denied system ticks all rest others named first (WriteFaultFile file) is denied goes = absurd denied
+next_denied system ticks all rest others named first (UartFault place) is denied goes = absurd denied
+next_denied system ticks all rest others named first NoMemory is denied goes = tt
 
 -- all were made
 pub all_made : (system : Booted) (ticks : ℕ) (all rest : List PartFile) (first : List Output) → rest ≡ [] → scripts_for system ticks all ≡ scripts_before first (scripts_for system ticks rest)
@@ -133,7 +133,7 @@ all_made system ticks all rest first none goes =
 
 -- A run with scripts.
 
--- a run that may have so many ticks comes to what it comes to with its scripts
+-- a run that may have this many ticks has its outcome, with its scripts
 pub within_is : (file : List ℕ) (options : List RunOption) (system : System) (inputs : List (List ℕ)) (asked : ℕ) (made : Result (List Output) Denial) → asked ≡ ticks_asked (span_in options) system.conf → asked ≤ TICKS
     → scripts_for (with_inputs system inputs) asked (scripts_in options) ≡ made → ran_within file options system inputs ≡ ran_scripted asked (cores_in options) system inputs made
 unfolding ran_within
@@ -187,24 +187,24 @@ lost_before file first later before after lost = record {
 }
 
 pub not_saved_before : (e : Ending) (first later : List Output) (before after : Outside) → AreNotSaved e first before after → AreNotSaved e (first ++ later) before after
-not_saved_before Finished first later before after lost = absurd lost
-not_saved_before Misused first later before after lost = absurd lost
-not_saved_before (Unread file) first later before after lost = absurd lost
-not_saved_before (Denied file text) first later before after lost = absurd lost
-not_saved_before Unwritten first later before after lost = absurd lost
-not_saved_before (Unsaved file) first later before after lost = lost_before file first later before after lost
-not_saved_before (Unheard place) first later before after lost = absurd lost
-not_saved_before Starved first later before after lost = absurd lost
+not_saved_before Done first later before after lost = absurd lost
+not_saved_before Usage first later before after lost = absurd lost
+not_saved_before (ReadFault file) first later before after lost = absurd lost
+not_saved_before (Refused file text) first later before after lost = absurd lost
+not_saved_before WriteFaultReport first later before after lost = absurd lost
+not_saved_before (WriteFaultFile file) first later before after lost = lost_before file first later before after lost
+not_saved_before (UartFault place) first later before after lost = absurd lost
+not_saved_before NoMemory first later before after lost = absurd lost
 
 not_saved_after : (e : Ending) (first later : List Output) (before mid after : Outside) → SavesAll None first before mid → AreNotSaved e later mid after → AreNotSaved e (first ++ later) before after
-not_saved_after Finished first later before mid after saved lost = absurd lost
-not_saved_after Misused first later before mid after saved lost = absurd lost
-not_saved_after (Unread file) first later before mid after saved lost = absurd lost
-not_saved_after (Denied file text) first later before mid after saved lost = absurd lost
-not_saved_after Unwritten first later before mid after saved lost = absurd lost
-not_saved_after (Unsaved file) first later before mid after saved lost = saves_both (Some file) first later before mid after saved lost
-not_saved_after (Unheard place) first later before mid after saved lost = absurd lost
-not_saved_after Starved first later before mid after saved lost = absurd lost
+not_saved_after Done first later before mid after saved lost = absurd lost
+not_saved_after Usage first later before mid after saved lost = absurd lost
+not_saved_after (ReadFault file) first later before mid after saved lost = absurd lost
+not_saved_after (Refused file text) first later before mid after saved lost = absurd lost
+not_saved_after WriteFaultReport first later before mid after saved lost = absurd lost
+not_saved_after (WriteFaultFile file) first later before mid after saved lost = saves_both (Some file) first later before mid after saved lost
+not_saved_after (UartFault place) first later before mid after saved lost = absurd lost
+not_saved_after NoMemory first later before mid after saved lost = absurd lost
 
 -- files after files that all were, by how that ended
 pub saved_after : {T : Type 0} (result : Result T code.Ending) (first later : List Output) (before mid after : Outside) → SavesAll None first before mid → AreSaved result later mid after → AreSaved result (first ++ later) before after

@@ -1,4 +1,4 @@
--- What a run comes to.
+-- The outcome of a run.
 use Rattle.std.proofs.Common.{◌≡◌, ℕ, ◌<◌, ◌≤◌, ◌⊎◌, ⊎_elim, true, false, ◌||◌, nat_lt, nat_eq, List, [], ◌∷◌, ◌++◌, length, Option, None, Result, Ok, Err, refl, ap, ◌∙◌, subst, arith}
 use Rattle.std.specs.Prelude.{IsSome}
 use Rattle.std.specs.String.{string_bytes}
@@ -10,7 +10,7 @@ use Rattle.xm_outside.specs.Growth.{grown, GrewByPrefix}
 use Rattle.xm_conf.specs.Configuration.{Conf}
 use Rattle.xm_conf.specs.Description.{described}
 use Rattle.xm_conf.specs.Fits.{Fits}
-use Rattle.whole_system.specs.State.{with_inputs}
+use Rattle.system_state.specs.State.{with_inputs}
 use Rattle.xm_machine.specs.Outcome.{IsRun}
 use Rattle.machine_model.specs.Lines.{report}
 use Rattle.machine_model.specs.Machine.{Machine, run, start}
@@ -22,19 +22,19 @@ use Rattle.uart_board.specs.Views.{BoardView}
 use Rattle.xm_report.specs.Report.{ReportLine, texts}
 use Rattle.xm_report.specs.declared.output.WriteFault.{WriteFault}
 use Rattle.xm_container.specs.Reading.{unpacked}
-use Rattle.file_texts.specs.Texts.{box_fault_text}
-use Rattle.file_texts.specs.declared.fault.BoxFault.{BoxFault}
-use Rattle.xm_words.specs.Words.{PartFile, RunOption, Bare}
+use Rattle.fault_messages.specs.Texts.{box_fault_text}
+use Rattle.fault_messages.specs.declared.fault.BoxFault.{BoxFault}
+use Rattle.command_line.specs.Words.{PartFile, RunOption, Bare}
 use Rattle.run_commands.specs.EndsAfter.{EndsAfter}
 use Rattle.run_commands.specs.EndsAfterLemmas.{outcome_and_after}
-use Rattle.file_commands.specs.Ending.{Ending, Unwritten, length_text}
+use Rattle.file_commands.specs.Ending.{Ending, WriteFaultReport, length_text}
 use Rattle.file_commands.specs.Outcome.{Output, bare_outcome, core_outputs, outcome_of, outcome_of_run, ran_with, command_refused, run_by, run_outcome}
 use Rattle.file_commands.specs.Inputs.{inputs_for, no_inputs}
-use Rattle.file_maker.specs.Makes.{IsUnmade}
+use Rattle.builders.specs.Makes.{IsUnmade}
 use Rattle.file_commands.specs.Makes.{IsUnmadeOf}
-use Rattle.file_maker.specs.declared.unmade.Unmade.{Unmade}
-use Rattle.file_maker.specs.declared.unmade.Unmade.TheVariants as unmade
-use Rattle.file_commands.specs.Work.{Outside, Comes, outside, told_all}
+use Rattle.builders.specs.declared.unmade.Unmade.{Unmade}
+use Rattle.builders.specs.declared.unmade.Unmade.TheVariants as unmade
+use Rattle.file_commands.specs.Work.{Outside, Comes, outside, reported_all}
 use Rattle.file_commands.specs.CommandLemmas.{one-short, refused_comes}
 use Rattle.run_commands.specs.BoardLemmas.{reports_same}
 
@@ -50,7 +50,7 @@ pub started-halted : (system : Booted) → (start system).halted ≡ false
 unfolding start
 started-halted system = refl
 
--- a run that reached its end told its report
+-- a run that reached its end printed its report
 pub finished : {from to : BoardView} (r : Ran) (cores : List PartFile) (scripts : List Output) (system : System) (inputs : List (List ℕ)) (ticks : ℕ) (new : Machine) (had got : Option (List ℕ)) → IsRun (Ok r) ticks (start (with_inputs system inputs)) new had got from to → got ≡ grown had (outcome_of_run ticks cores scripts system inputs).report
 unfolding outcome_of_run
 finished r cores scripts system inputs ticks new had got is = is.report ∙ ap (λ (lines : List ReportLine). grown had (texts lines)) (reports_same (with_inputs system inputs) ticks)
@@ -58,7 +58,7 @@ finished r cores scripts system inputs ticks new had got is = is.report ∙ ap (
 -- a run whose report was not taken whole
 pub unwritten : {from to : BoardView} (fault : WriteFault) (cores : List PartFile) (scripts : List Output) (system : System) (inputs : List (List ℕ)) (ticks : ℕ) (new : Machine) (had got : Option (List ℕ)) (before now : ℕ) (files : Option Files) (reads writes calls : ℕ)
     → IsRun (Err fault) ticks (start (with_inputs system inputs)) new had got from to → Rose before now
-    → Comes Unwritten (outcome_of_run ticks cores scripts system inputs) (outside files reads writes calls had before) (outside files reads writes calls got now)
+    → Comes WriteFaultReport (outcome_of_run ticks cores scripts system inputs) (outside files reads writes calls had before) (outside files reads writes calls got now)
 unfolding outcome_of_run
 unwritten fault cores scripts system inputs ticks new had got before now files reads writes calls is rose =
     (rose, subst (λ (lines : List ReportLine). GrewByPrefix had (texts lines) got) (reports_same (with_inputs system inputs) ticks) is.report, refl)
@@ -80,13 +80,13 @@ files_and_after cores scripts system inputs ticks new is = ap (λ (g : Machine).
 
 -- the outside as its report leaves it
 report_and_after : {from to : BoardView} (r : Ran) (cores : List PartFile) (scripts : List Output) (system : System) (inputs : List (List ℕ)) (ticks : ℕ) (new : Machine) (had got : Option (List ℕ)) (before now : ℕ) (files : Option Files) (reads writes calls : ℕ)
-    → IsRun (Ok r) ticks (start (with_inputs system inputs)) new had got from to → now ≡ before → outside files reads writes calls got now ≡ told_all (outcome_of_run ticks cores scripts system inputs) (outside files reads writes calls had before)
+    → IsRun (Ok r) ticks (start (with_inputs system inputs)) new had got from to → now ≡ before → outside files reads writes calls got now ≡ reported_all (outcome_of_run ticks cores scripts system inputs) (outside files reads writes calls had before)
 unfolding outcome_of_run
 report_and_after r cores scripts system inputs ticks new had got before now files reads writes calls is same =
-    let told = finished r cores scripts system inputs ticks new had got is in
-    rw (told, same) refl
+    let reported = finished r cores scripts system inputs ticks new had got is in
+    rw (reported, same) refl
 
--- a run whose whole report went out comes to what is done after it
+-- the outcome of a run whose whole report went out is what is done after it
 pub run_and_after : {from to : BoardView} (e : Ending) (board : BoardView) (r : Ran) (cores : List PartFile) (scripts : List Output) (system : System) (inputs : List (List ℕ)) (ticks : ℕ) (new : Machine) (had got : Option (List ℕ)) (before now : ℕ) (files : Option Files) (reads writes calls : ℕ) (after : Outside)
     → EndsAfter e (core_outputs new cores ++ scripts) board (outside files reads writes calls got now) after → IsRun (Ok r) ticks (start (with_inputs system inputs)) new had got from to → now ≡ before
     → Comes e (outcome_of_run ticks cores scripts system inputs) (outside files reads writes calls had before) after

@@ -2,9 +2,9 @@
 use Rattle.std.proofs.Common.{◌≡◌, ℕ, List, [], ◌∷◌, Option, Some, None, refl, sym, subst}
 use Rattle.std.specs.Prelude.{IsSome}
 use Rattle.uart_board.specs.Views.{BoardView}
-use Rattle.xm_words.specs.Words.{Command}
+use Rattle.command_line.specs.Words.{Command}
 use Rattle.file_commands.specs.CommandLemmas.{does_by, not_all_of_one, not_all_read_does}
-use Rattle.file_commands.specs.Ending.{Ending, Finished, Misused, Unread, Denied, Unwritten, Unsaved, Unheard, Starved}
+use Rattle.file_commands.specs.Ending.{Ending, Done, Usage, ReadFault, Refused, WriteFaultReport, WriteFaultFile, UartFault, NoMemory}
 use Rattle.file_commands.specs.Outcome.{Running, inputs_of, outcome_of}
 use Rattle.file_commands.specs.Work.{AreNotRead, Comes, Does, IsDone, IsNotRead, Outside, ReadsFiles, called_for}
 use Rattle.run_commands.specs.Accounts.{HasAccount}
@@ -22,14 +22,14 @@ accounted_by e command contents before after board left read comes leaves = reco
 
 -- a command whose files were not all read leaves the board
 unread_leaves : (e : Ending) (files : List (List ℕ)) (run : Option Running) (before after : Outside) (had got : Option (List ℕ)) (board : BoardView) → AreNotRead e files before after → LeavesBoard e run had got board board
-unread_leaves Finished files run before after had got board not_read = absurd not_read
-unread_leaves Misused files run before after had got board not_read = absurd not_read
-unread_leaves (Unread other) files run before after had got board not_read = refl
-unread_leaves (Denied other text) files run before after had got board not_read = absurd not_read
-unread_leaves Unwritten files run before after had got board not_read = absurd not_read
-unread_leaves (Unsaved other) files run before after had got board not_read = absurd not_read
-unread_leaves (Unheard place) files run before after had got board not_read = absurd not_read
-unread_leaves Starved files run before after had got board not_read = refl
+unread_leaves Done files run before after had got board not_read = absurd not_read
+unread_leaves Usage files run before after had got board not_read = absurd not_read
+unread_leaves (ReadFault other) files run before after had got board not_read = refl
+unread_leaves (Refused other text) files run before after had got board not_read = absurd not_read
+unread_leaves WriteFaultReport files run before after had got board not_read = absurd not_read
+unread_leaves (WriteFaultFile other) files run before after had got board not_read = absurd not_read
+unread_leaves (UartFault place) files run before after had got board not_read = absurd not_read
+unread_leaves NoMemory files run before after had got board not_read = refl
 
 -- so its account needs no contents
 pub accounted_unread : (e : Ending) (command : Command) (before after : Outside) (board : BoardView) → AreNotRead e (inputs_of command) before after → HasAccount e (Some command) before after board board
@@ -47,14 +47,14 @@ accounted_not_one e command file before after board one not_read =
 -- a command that runs nothing leaves the board, whatever it did
 still_leaves : (e : Ending) (contents : List (List ℕ)) (command : Command) (before after : Outside) (board : BoardView) → (outcome_of command contents).run ≡ None → Does e contents command before after
     → LeavesBoard e (outcome_of command contents).run before.got after.got board board
-still_leaves Finished contents command before after board none does = subst (λ (run : Option Running). LeavesBoard Finished run before.got after.got board board) (sym none) refl
-still_leaves Misused contents command before after board none does = absurd does
-still_leaves (Unread file) contents command before after board none does = refl
-still_leaves (Denied file text) contents command before after board none does = refl
-still_leaves Unwritten contents command before after board none does = subst (λ (run : Option Running). LeavesBoard Unwritten run before.got after.got board board) (sym none) refl
-still_leaves (Unsaved file) contents command before after board none does = subst (λ (run : Option Running). LeavesBoard (Unsaved file) run before.got after.got board board) (sym none) refl
-still_leaves (Unheard place) contents command before after board none does = absurd (let some : IsSome {T = Running} None = subst (λ (run : Option Running). IsSome run) none does.run in cc)
-still_leaves Starved contents command before after board none does = refl
+still_leaves Done contents command before after board none does = subst (λ (run : Option Running). LeavesBoard Done run before.got after.got board board) (sym none) refl
+still_leaves Usage contents command before after board none does = absurd does
+still_leaves (ReadFault file) contents command before after board none does = refl
+still_leaves (Refused file text) contents command before after board none does = refl
+still_leaves WriteFaultReport contents command before after board none does = subst (λ (run : Option Running). LeavesBoard WriteFaultReport run before.got after.got board board) (sym none) refl
+still_leaves (WriteFaultFile file) contents command before after board none does = subst (λ (run : Option Running). LeavesBoard (WriteFaultFile file) run before.got after.got board board) (sym none) refl
+still_leaves (UartFault place) contents command before after board none does = absurd (let some : IsSome {T = Running} None = subst (λ (run : Option Running). IsSome run) none does.run in cc)
+still_leaves NoMemory contents command before after board none does = refl
 
 -- so what it did is its account
 pub still_accounted : (e : Ending) (command : Command) (before after : Outside) (board : BoardView) → ((contents : List (List ℕ)) → (outcome_of command contents).run ≡ None)

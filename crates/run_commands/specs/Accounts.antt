@@ -1,7 +1,7 @@
 -- One account of a call: by the same contents, what it did and what it left of the board.
 use Rattle.std.specs.Prelude.{ℕ, List, Option}
 use Rattle.uart_board.specs.Views.{BoardView}
-use Rattle.xm_words.specs.Words.{Command}
+use Rattle.command_line.specs.Words.{Command}
 use Rattle.file_commands.specs.Ending.{Ending}
 use Rattle.file_commands.specs.Work.{Outside, Works}
 use Rattle.run_commands.specs.Boards.{Plays}

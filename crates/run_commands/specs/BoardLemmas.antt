@@ -5,27 +5,27 @@ use Rattle.machine_model.specs.Machine.{Machine, start}
 use Rattle.loaded_system.specs.System.{System}
 use Rattle.uart_board.specs.Heard.{IsHeard}
 use Rattle.uart_board.specs.Views.{BoardView, without_marks}
-use Rattle.whole_system.specs.State.{with_inputs}
+use Rattle.system_state.specs.State.{with_inputs}
 use Rattle.xm_machine.specs.Outcome.{IsRun}
 use Rattle.xm_machine.specs.declared.run.Ran.{Ran}
 use Rattle.xm_report.specs.Report.{ReportLine, texts}
 use Rattle.xm_report.specs.declared.output.WriteFault.{WriteFault}
 use Rattle.xm_outside.specs.Growth.{grown}
-use Rattle.xm_words.specs.Words.{PartFile}
+use Rattle.command_line.specs.Words.{PartFile}
 use Rattle.run_commands.specs.EndsAfter.{EndsAfter}
 use Rattle.run_commands.specs.EndsAfterLemmas.{leaves_and_after}
 use Rattle.run_commands.specs.Boards.{IsRunTo, LeavesBoard}
-use Rattle.file_commands.specs.Ending.{Ending, Unwritten}
+use Rattle.file_commands.specs.Ending.{Ending, WriteFaultReport}
 use Rattle.file_commands.specs.Makes.{IsUnmadeOf}
 use Rattle.file_commands.specs.Outcome.{Output, Running, Together, outcome_of_run}
 use Rattle.file_commands.specs.Work.{Outside}
-use Rattle.file_maker.specs.declared.unmade.Unmade.{Unmade}
-use Rattle.file_maker.specs.declared.unmade.Unmade.TheVariants as unmade
+use Rattle.builders.specs.declared.unmade.Unmade.{Unmade}
+use Rattle.builders.specs.declared.unmade.Unmade.TheVariants as unmade
 use Rattle.xm_machine.specs.Outcome.{report_of}
 use Rattle.machine_model.specs.Lines.{report}
 use Rattle.machine_model.specs.Machine.{run}
 use Rattle.machine_model.specs.View.{System as Booted}
-use Rattle.file_maker.specs.declared.unmade.Unmade.TheVariants as unmade
+use Rattle.builders.specs.declared.unmade.Unmade.TheVariants as unmade
 
 -- the report of a run from the start is that of the system
 pub reports_same : (system : Booted) (ticks : ℕ) → report_of (start system) ticks ≡ report system ticks
@@ -54,7 +54,7 @@ left_by_ending e outputs from to r cores scripts system inputs ticks new had got
 -- a run whose report was cut
 pub left_cut : (fault : WriteFault) (cores : List PartFile) (scripts : List Output) (system : System) (inputs : List (List ℕ)) (ticks : ℕ) (new : Machine) (had got : Option (List ℕ)) (before mid after : BoardView)
     → IsRun (Err fault) ticks (start (with_inputs system inputs)) new had got mid after → mid ≡ without_marks before
-    → LeavesBoard Unwritten (outcome_of_run ticks cores scripts system inputs).run had got before after
+    → LeavesBoard WriteFaultReport (outcome_of_run ticks cores scripts system inputs).run had got before after
 unfolding outcome_of_run
 left_cut fault cores scripts system inputs ticks new had got before mid after is begins = record {
   front = record {

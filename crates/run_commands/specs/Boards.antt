@@ -8,10 +8,10 @@ use Rattle.uart_board.specs.Views.{BoardView, without_marks, mark_at}
 use Rattle.xm_machine.specs.Outcome.{report_to}
 use Rattle.xm_outside.specs.Growth.{GrewByPrefix}
 use Rattle.xm_report.specs.Report.{ReportLine, texts}
-use Rattle.told_scripts.specs.Replayed.{cue_lines, replay_lines}
-use Rattle.told_scripts.specs.Lone.{booted_alone, replay_said}
-use Rattle.xm_words.specs.Words.{Command}
-use Rattle.file_commands.specs.Ending.{Ending, Finished, Misused, Unread, Denied, Unwritten, Unsaved, Unheard, Starved}
+use Rattle.recording_model.specs.Replayed.{cue_lines, replay_lines}
+use Rattle.recording_model.specs.Lone.{booted_alone, replay_said}
+use Rattle.command_line.specs.Words.{Command}
+use Rattle.file_commands.specs.Ending.{Ending, Done, Usage, ReadFault, Refused, WriteFaultReport, WriteFaultFile, UartFault, NoMemory}
 use Rattle.file_commands.specs.Outcome.{Running, Together, Apart, outcome_of}
 
 -- no place has a mark
@@ -28,7 +28,7 @@ abbrev pub ticks_of_run : Running → ℕ
 ticks_of_run (Together system ticks) = ticks
 ticks_of_run (Apart system p cues) = length cues
 
--- the console bytes of so many ticks of a run that each UART gets
+-- the console bytes of this many ticks of a run that each UART gets
 abbrev pub said_in_run : Running → ℕ → ℕ → List ℕ
 said_in_run (Together system ticks) done = console (start system) done
 said_in_run (Apart system p cues) done = replay_said (booted_alone system p) (take done cues)
@@ -38,7 +38,7 @@ abbrev pub lines_in : Running → List ReportLine
 lines_in (Together system ticks) = report system ticks
 lines_in (Apart system p cues) = replay_lines (view_of system p) cues
 
--- from a board without marks on, each UART got the console bytes of so many ticks of the run
+-- from a board without marks on, each UART got the console bytes of this many ticks of the run
 abbrev pub IsRunTo : ℕ → Running → BoardView → BoardView → Type 0
 IsRunTo done run before after = IsHeard (said_in_run run done) (without_marks before) after
 
@@ -52,7 +52,7 @@ pub record IsRunMarked (place : ℕ) (run : Running) (before after : BoardView) 
   pub heard : IsRunTo (ticks_of_run run) run before after
   pub marked : IsLowestMark place after
 
--- the sink of the report, which took so many bytes of it, took all lines of the ticks before this one, and not all that it has with those of this
+-- the sink of the report, which took this many bytes of it, took all lines of the ticks before this one, and not all that it has with those of this
 -- one, unless these are all ticks of the run: then lines of the end may be all that is missing
 abbrev pub IsCutAt : Running → ℕ → ℕ → Type 0
 IsCutAt (Together system ticks) done count =
@@ -72,30 +72,30 @@ pub record IsRunCut (run : Running) (had got : Option (List ℕ)) (before after 
 
 -- a run all of whose writes are done ends so: well where no place has a mark, else with the lowest that has one
 abbrev pub EndsRun : Ending → BoardView → Type 0
-EndsRun Finished board = HasNoMark board
-EndsRun Misused board = ⊥
-EndsRun (Unread file) board = ⊥
-EndsRun (Denied file text) board = ⊥
-EndsRun Unwritten board = ⊥
-EndsRun (Unsaved file) board = ⊥
-EndsRun (Unheard place) board = IsLowestMark place board
-EndsRun Starved board = ⊥
+EndsRun Done board = HasNoMark board
+EndsRun Usage board = ⊥
+EndsRun (ReadFault file) board = ⊥
+EndsRun (Refused file text) board = ⊥
+EndsRun WriteFaultReport board = ⊥
+EndsRun (WriteFaultFile file) board = ⊥
+EndsRun (UartFault place) board = IsLowestMark place board
+EndsRun NoMemory board = ⊥
 
 -- a call that ended so leaves this of the board: a command that runs nothing, and a call that ended before its first tick, leave it
 -- as it was; where a file was not written after a run, the run had reached its end
 abbrev pub LeavesBoard : Ending → Option Running → Option (List ℕ) → Option (List ℕ) → BoardView → BoardView → Type 0
-LeavesBoard Finished None had got before after = after ≡ before
-LeavesBoard Finished (Some run) had got before after = IsRunWell run before after
-LeavesBoard Misused run had got before after = after ≡ before
-LeavesBoard (Unread file) run had got before after = after ≡ before
-LeavesBoard (Denied file text) run had got before after = after ≡ before
-LeavesBoard Unwritten None had got before after = after ≡ before
-LeavesBoard Unwritten (Some run) had got before after = IsRunCut run had got before after
-LeavesBoard (Unsaved file) None had got before after = after ≡ before
-LeavesBoard (Unsaved file) (Some run) had got before after = IsRunTo (ticks_of_run run) run before after
-LeavesBoard (Unheard place) None had got before after = ⊥
-LeavesBoard (Unheard place) (Some run) had got before after = IsRunMarked place run before after
-LeavesBoard Starved run had got before after = after ≡ before
+LeavesBoard Done None had got before after = after ≡ before
+LeavesBoard Done (Some run) had got before after = IsRunWell run before after
+LeavesBoard Usage run had got before after = after ≡ before
+LeavesBoard (ReadFault file) run had got before after = after ≡ before
+LeavesBoard (Refused file text) run had got before after = after ≡ before
+LeavesBoard WriteFaultReport None had got before after = after ≡ before
+LeavesBoard WriteFaultReport (Some run) had got before after = IsRunCut run had got before after
+LeavesBoard (WriteFaultFile file) None had got before after = after ≡ before
+LeavesBoard (WriteFaultFile file) (Some run) had got before after = IsRunTo (ticks_of_run run) run before after
+LeavesBoard (UartFault place) None had got before after = ⊥
+LeavesBoard (UartFault place) (Some run) had got before after = IsRunMarked place run before after
+LeavesBoard NoMemory run had got before after = after ≡ before
 
 -- what a call leaves of the board, by its command, its ending and the contents of the files that it read, and by what the sink of the report had and
 -- has got; words that are no command leave it as it was

@@ -9,10 +9,10 @@ use Rattle.loaded_system.specs.System.{System}
 use Rattle.machine_model.specs.Facts.{BootsComplete, RunsKeepNumbers}
 use Rattle.machine_model.specs.Machine.{Machine, run, start}
 use Rattle.machine_model.specs.View.{System as Booted, view_of}
-use Rattle.whole_system.specs.State.{with_inputs}
-use Rattle.xm_words.specs.Words.{PartFile, RunOption, Length, ForPart, asked, cores_in, files_in, inputs_in, kind_place, scripts_in}
-use Rattle.xm_words.specs.declared.run_options.FileKind.{FileKind}
-use Rattle.xm_words.specs.declared.run_options.FileKind.TheVariants.{Core, Input, Script}
+use Rattle.system_state.specs.State.{with_inputs}
+use Rattle.command_line.specs.Words.{PartFile, RunOption, Length, ForPart, asked, cores_in, files_in, inputs_in, kind_place, scripts_in}
+use Rattle.command_line.specs.declared.run_options.FileKind.{FileKind}
+use Rattle.command_line.specs.declared.run_options.FileKind.TheVariants.{Core, Input, Script}
 use Rattle.run_commands.specs.Cores.{AreForPartitions, FitInto}
 use Rattle.file_commands.specs.Inputs.{first_beyond, or_later}
 use Rattle.file_commands.specs.Outcome.{Output, core_output, core_outputs}

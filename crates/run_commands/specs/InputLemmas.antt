@@ -3,8 +3,8 @@ use Rattle.std.proofs.Common.{◌≡◌, ◌≢◌, ◌↔◌, ℕ, ◌%◌, Boo
 use Rattle.std.proofs.lemmas.Bool.Decides.{nat_tests}
 use Rattle.std.specs.Prelude.{nat_eq, slice_set}
 use Rattle.xm_base.specs.declared.limits.TheConstants.{FILE_BYTES}
-use Rattle.xm_words.specs.Words.{PartFile}
-use Rattle.whole_system.specs.Inputs.{words_in}
+use Rattle.command_line.specs.Words.{PartFile}
+use Rattle.system_state.specs.Inputs.{words_in}
 use Rattle.file_commands.specs.Ending.{input_text}
 use Rattle.file_commands.specs.Inputs.{inputs_with}
 use Rattle.file_commands.specs.Outcome.{first_long}

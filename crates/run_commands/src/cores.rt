@@ -5,16 +5,16 @@ ghost use Rattle.core_files.specs.Length.{core_length_of};
 ghost use Rattle.machine_model.specs.View.{view_of};
 ghost use Rattle.run_commands.specs.Cores.{AreForPartitions, FitInto};
 ghost use Rattle.file_commands.specs.Outcome.{core_output, core_outputs};
-ghost use Rattle.file_commands.specs.Told.{AreSaved};
+ghost use Rattle.file_commands.specs.EndingValues.{AreSaved};
 ghost use Rattle.file_commands.specs.Work.{Saves, outside};
-ghost use Rattle.xm_words.specs.Seen.{seen_file, seen_files};
+ghost use Rattle.command_line.specs.Seen.{seen_file, seen_files};
 
+use command_line::{PartFile, PartFiles};
 use file_commands::Ending;
 use std::alloc::Global;
 use xm_base::Memory;
 use xm_machine::Machine;
 use xm_outside::{Failed, Store};
-use xm_words::{PartFile, PartFiles};
 
 /// Room for the longest of these core files of a machine.
 pub(crate) fn core_room(
@@ -68,7 +68,7 @@ pub(crate) fn write_cores<'a, S: Store>(
     while let Some((first, others)) = rest.split_first() {
         match write_core(machine, first, room, files) {
             Ok(()) => {}
-            Err(Failed) => return Err(Ending::Unsaved { file: first.file }),
+            Err(Failed) => return Err(Ending::WriteFaultFile { file: first.file }),
         }
         rest = others;
     }

@@ -5,16 +5,16 @@ ghost use Rattle.run_commands.specs.Cores.{AreForPartitions};
 ghost use Rattle.file_commands.specs.Inputs.{first_beyond, inputs_for, inputs_with, no_inputs, named_beyond};
 ghost use Rattle.file_commands.specs.Outcome.{first_long};
 ghost use Rattle.file_commands.specs.Packing.{file_names};
-ghost use Rattle.file_commands.specs.Told.{IsDenied, MakesOr, vector_bytes, ending_of};
-ghost use Rattle.xm_words.specs.Seen.{seen_file, seen_files, seen_option, seen_options, seen_part_file};
-ghost use Rattle.xm_words.specs.Words.{cores_in, inputs_in, scripts_in};
+ghost use Rattle.file_commands.specs.EndingValues.{IsDenied, MakesOr, vector_bytes, ending_of};
+ghost use Rattle.command_line.specs.Seen.{seen_file, seen_files, seen_option, seen_options, seen_part_file};
+ghost use Rattle.command_line.specs.Words.{cores_in, inputs_in, scripts_in};
 
+use command_line::{PartFile, PartFiles, RunOption, RunOptions};
 use file_commands::{Ending, Refusal};
 use std::alloc::Global;
 use xm_machine::{InputFault, Inputs};
-use xm_words::{PartFile, PartFiles, RunOption, RunOptions};
 
-/// The input words of so many partitions, by options of a run none of whose inputs is too long; or the first refusal.
+/// The input words of this many partitions, by options of a run none of whose inputs is too long; or the first refusal.
 #[tactic(auto, unfolding(file_commands::specs::Inputs::inputs_for))]
 pub(crate) fn inputs_for<'a>(
     alloc: Global,
@@ -29,7 +29,7 @@ pub(crate) fn inputs_for<'a>(
     ensures scripts { OnOk result (AreForPartitions parts (scripts_in (seen_options options.entry))) }
 {
     match first_beyond(parts, options) {
-        Some(named) => Err(Ending::Denied {
+        Some(named) => Err(Ending::Refused {
             file: named.file,
             why: Refusal::Partition { id: named.part },
         }),
@@ -37,7 +37,7 @@ pub(crate) fn inputs_for<'a>(
     }
 }
 
-// The first of the files that options name whose partition is none of so many.
+// The first of the files that options name whose partition is none of this many.
 fn first_beyond<'a>(parts: u8, options: RunOptions<'a>) -> Option<PartFile<'a>>
     ensures value { seen_part_file result ≡ first_beyond parts (seen_options options.entry) }
 {
@@ -51,7 +51,7 @@ fn first_beyond<'a>(parts: u8, options: RunOptions<'a>) -> Option<PartFile<'a>>
     None
 }
 
-// The file that an option names, where its partition is none of so many.
+// The file that an option names, where its partition is none of this many.
 fn named_beyond(parts: u8, option: RunOption<'_>) -> Option<PartFile<'_>>
     ensures value { seen_part_file result ≡ named_beyond parts (seen_option option.entry) }
 {
@@ -67,7 +67,7 @@ fn named_beyond(parts: u8, option: RunOption<'_>) -> Option<PartFile<'_>>
     }
 }
 
-// The input words of so many partitions, by files each of which is for one of them.
+// The input words of this many partitions, by files each of which is for one of them.
 fn read_inputs<'a>(
     alloc: Global,
     parts: u8,
@@ -81,7 +81,7 @@ fn read_inputs<'a>(
 {
     let mut inputs = match Inputs::new(alloc, parts) {
         Ok(inputs) => inputs,
-        Err(_) => return Err(Ending::Starved),
+        Err(_) => return Err(Ending::NoMemory),
     };
     let mut rest = files;
     for bytes in contents {
@@ -105,10 +105,10 @@ fn give<'a>(inputs: &mut Inputs, named: PartFile<'a>, bytes: &[u8]) -> Result<()
 {
     match inputs.set(named.part, bytes) {
         Ok(()) => Ok(()),
-        Err(InputFault::Length { found }) => Err(Ending::Denied {
+        Err(InputFault::Length { found }) => Err(Ending::Refused {
             file: named.file,
             why: Refusal::Input { found },
         }),
-        Err(InputFault::Memory) => Err(Ending::Starved),
+        Err(InputFault::Memory) => Err(Ending::NoMemory),
     }
 }

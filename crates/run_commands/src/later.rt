@@ -6,17 +6,17 @@ ghost use Rattle.run_commands.specs.Boards.{EndsRun};
 ghost use Rattle.run_commands.specs.Cores.{AreForPartitions, FitInto};
 ghost use Rattle.file_commands.specs.Outcome.{Output, core_outputs};
 ghost use Rattle.run_commands.specs.Scripts.{made_output};
-ghost use Rattle.file_commands.specs.Told.{AreSaved, ending_of};
+ghost use Rattle.file_commands.specs.EndingValues.{AreSaved, ending_of};
 ghost use Rattle.file_commands.specs.Work.{Outside, outside};
-ghost use Rattle.xm_words.specs.Seen.{seen_files};
+ghost use Rattle.command_line.specs.Seen.{seen_files};
 
 use crate::cores::write_cores;
 use crate::scripts::{MadeScript, write_scripts};
+use command_line::PartFiles;
 use file_commands::Ending;
 use uart_board::{Board, ViewBoard};
 use xm_machine::Machine;
 use xm_outside::Store;
-use xm_words::PartFiles;
 
 /// Writes core files of a machine, and these scripts after them; or how the call ends at the first that is not written.
 pub(crate) fn write_later<'a, S: Store>(
@@ -53,7 +53,7 @@ fn heard<'a>(board: &Board) -> Ending<'a>
     ensures { EndsRun (ending_of result) (⟦<Board as ViewBoard>⟧.board_view board.now) }
 {
     match board.failed() {
-        Some(place) => Ending::Unheard { place },
-        None => Ending::Finished,
+        Some(place) => Ending::UartFault { place },
+        None => Ending::Done,
     }
 }

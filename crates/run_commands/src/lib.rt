@@ -5,10 +5,10 @@ mod cores;
 mod inputs;
 mod later;
 mod readiness;
+mod received;
 mod recording;
 mod running;
 mod scripts;
-mod told;
 mod unpacking;
 
 pub use later::ended;

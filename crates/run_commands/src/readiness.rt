@@ -5,26 +5,26 @@ ghost use Rattle.xm_base.specs.declared.limits.TheConstants.{TICKS};
 ghost use Rattle.cyclic_plans.specs.Slots.{frame_of};
 ghost use Rattle.xm_container.specs.Reading.{unpacked};
 ghost use Rattle.run_commands.specs.Cores.{AreForPartitions};
-ghost use Rattle.whole_system.specs.State.{with_inputs};
-ghost use Rattle.run_commands.specs.Numbers.{HaveTold};
+ghost use Rattle.system_state.specs.State.{with_inputs};
+ghost use Rattle.run_commands.specs.Numbers.{AllReceiveNumbers};
 ghost use Rattle.run_commands.specs.ReadyRuns.{IsReadyFor};
 ghost use Rattle.file_commands.specs.Inputs.{inputs_for};
 ghost use Rattle.file_commands.specs.Outcome.{content, first_long, ran_with, ran_within, ticks_asked};
 ghost use Rattle.file_commands.specs.Packing.{file_names};
-ghost use Rattle.file_commands.specs.Told.{vector_bytes};
-ghost use Rattle.xm_words.specs.Grammar.{count_of};
-ghost use Rattle.xm_words.specs.Seen.{seen_options};
-ghost use Rattle.xm_words.specs.Words.{cores_in, inputs_in, scripts_in, span_in};
+ghost use Rattle.file_commands.specs.EndingValues.{vector_bytes};
+ghost use Rattle.command_line.specs.Grammar.{count_of};
+ghost use Rattle.command_line.specs.Seen.{seen_options};
+ghost use Rattle.command_line.specs.Words.{cores_in, inputs_in, scripts_in, span_in};
 
 use crate::inputs::inputs_for;
 use crate::scripts::{MadeScript, make_scripts};
+use command_line::{RunOptions, Span};
 use file_commands::{Ending, Refusal, split_contents};
 use std::alloc::Global;
 use xm_base::TICKS;
 use xm_conf::Conf;
 use xm_container::System;
 use xm_machine::Inputs;
-use xm_words::{RunOptions, Span};
 
 /// What a run of a system is given.
 #[derive(Debug, Drop)]
@@ -51,7 +51,7 @@ pub(crate) fn ready_run<'a>(
     ensures given { IfOk result (λ ready. length ready.inputs ≡ length system.now.conf.parts) }
     ensures inside { OnOk result (AreForPartitions (length system.now.conf.parts) (cores_in (seen_options options.entry))) }
     ensures numbers { (inputs : List (List ℕ)) → inputs_for (length system.now.conf.parts) (seen_options options.entry) (drop 1 (map vector_bytes contents.now)) ≡ Ok inputs
-        → IfOk result (λ _. HaveTold (with_inputs system.now inputs) (ticks_asked (span_in (seen_options options.entry)) system.now.conf) (scripts_in (seen_options options.entry))) }
+        → IfOk result (λ _. AllReceiveNumbers (with_inputs system.now inputs) (ticks_asked (span_in (seen_options options.entry)) system.now.conf) (scripts_in (seen_options options.entry))) }
 {
     let (_, words) = split_contents(contents);
     match inputs_for(alloc, part_count(system.conf()), options, words) {
@@ -78,11 +78,11 @@ fn ready_with<'a>(
     ensures value { IsReadyFor result (seen_options options.entry) system.now (ran_within container.now (seen_options options.entry) system.now inputs) }
     ensures most { IfOk result (λ ready. ready.ticks ≤ TICKS) }
     ensures same { IfOk result (λ ready. ready.inputs ≡ inputs) }
-    ensures numbers { IfOk result (λ _. HaveTold (with_inputs system.now inputs) (ticks_asked (span_in (seen_options options.entry)) system.now.conf) (scripts_in (seen_options options.entry))) }
+    ensures numbers { IfOk result (λ _. AllReceiveNumbers (with_inputs system.now inputs) (ticks_asked (span_in (seen_options options.entry)) system.now.conf) (scripts_in (seen_options options.entry))) }
 {
     let asked = ticks_asked(options.span(), system.conf());
     if asked > TICKS {
-        return Err(Ending::Denied {
+        return Err(Ending::Refused {
             file: container,
             why: Refusal::Ticks { asked },
         });

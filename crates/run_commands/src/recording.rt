@@ -8,22 +8,22 @@ ghost use Rattle.cue_scripts.specs.Values as kept;
 ghost use Rattle.cue_scripts.specs.Written.{IsScriptFile, IsWritten};
 ghost use Rattle.machine_model.specs.Cue.{cue, script};
 ghost use Rattle.machine_model.specs.Machine.{run, start};
-ghost use Rattle.told_scripts.specs.Telling.{HasNumbers};
-ghost use Rattle.whole_system.specs.State.{with_inputs};
+ghost use Rattle.recording_model.specs.Receiving.{HasNumbers};
+ghost use Rattle.system_state.specs.State.{with_inputs};
 
-use crate::told::kept_cue;
+use crate::received::kept_cue;
 use cue_scripts::{ScriptCue, ScriptFault, ScriptWriter};
 use loaded_system::System;
-use machine_model::{keeps_numbers, tells_few_bytes};
+use machine_model::{keeps_numbers, trades_few_bytes};
+use recording_model::has_numbers;
 use std::alloc::Global;
-use told_scripts::has_numbers;
 use uart_board::Board;
 use xm_base::{Memory, PartId, TICKS};
 use xm_machine::{Inputs, Machine};
 use xm_outside::SureSink;
 
-/// The file of all that partition `p` is told in a run of so many ticks. A machine of its own does the run, and its lines and console
-/// bytes go nowhere. What is told has its numbers in the ranges of a memory and of a register, so the file is read back.
+/// The file of all that partition `p` receives in a run of `ticks` ticks. A machine of its own does the run, and its lines and console
+/// bytes go nowhere. What is received has its numbers in the ranges of a memory and of a register, so the file is read back.
 pub fn script_of(
     alloc: Global,
     system: System,
@@ -43,7 +43,7 @@ pub fn script_of(
     writer.finish(alloc, p)
 }
 
-/// What partition `p` of a machine is told in so many ticks, written cue by cue.
+/// What partition `p` of a machine receives in `ticks` ticks, written cue by cue.
 fn written(
     alloc: Global,
     machine: &mut Machine,
@@ -64,7 +64,7 @@ fn written(
         if machine.halted() {
             return Ok(writer);
         }
-        let cue = told_in(alloc, machine, p, &mut board)?;
+        let cue = received_in_tick(alloc, machine, p, &mut board)?;
         has_numbers(&cue);
         writer.add(&cue)?;
         done += 1;
@@ -72,8 +72,8 @@ fn written(
     Ok(writer)
 }
 
-/// Does one tick of a machine, and tells what partition `p` is told in it.
-fn told_in(
+/// Does one tick of a machine, and returns what partition `p` receives in it.
+fn received_in_tick(
     alloc: Global,
     machine: &mut Machine,
     p: PartId,
@@ -83,8 +83,8 @@ fn told_in(
     requires running { machine.old.state.halted ≡ false }
     requires more { machine.old.state.ticks < TICKS }
     ensures state { machine.new.state ≡ run machine.old.state 1 }
-    ensures cue { IfOk result (λ told. kept.script_cue_value told ≡ cue machine.old.state p) }
-    ensures ranges { IfOk result (λ told. HasCueRanges (kept.script_cue_value told)) }
+    ensures cue { IfOk result (λ received. kept.script_cue_value received ≡ cue machine.old.state p) }
+    ensures ranges { IfOk result (λ received. HasCueRanges (kept.script_cue_value received)) }
 {
     keeps_numbers();
     has_ranges(machine, p);
@@ -93,11 +93,11 @@ fn told_in(
     kept_cue(alloc, machine.cue(p))
 }
 
-/// Shows that what a machine tells partition `p` in its next tick is in the ranges of its fields.
+/// Shows that what partition `p` receives in the next tick of a machine is in the ranges of its fields.
 fn has_ranges(machine: &Machine, p: PartId)
     ensures { HasCueRanges (cue machine.now.state p) }
 {
-    tells_few_bytes();
+    trades_few_bytes();
     let _counted = machine.done();
     let _fits = machine.sys().conf().raw();
 }

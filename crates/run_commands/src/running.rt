@@ -4,20 +4,21 @@ ghost use Rattle.std.specs.Prelude.{◌≡◌, ◌≤◌, ℕ, false, List, [], 
 ghost use Rattle.xm_base.specs.declared.limits.TheConstants.{TICKS};
 ghost use Rattle.loaded_system.specs.System.{System as Loaded};
 ghost use Rattle.machine_model.specs.Machine.{start};
-ghost use Rattle.whole_system.specs.State.{with_inputs};
+ghost use Rattle.system_state.specs.State.{with_inputs};
 ghost use Rattle.run_commands.specs.Accounts.{HasAccount};
 ghost use Rattle.run_commands.specs.Boards.{LeavesBoard};
 ghost use Rattle.run_commands.specs.Cores.{AreForPartitions, FitInto};
 ghost use Rattle.file_commands.specs.Outcome.{outcome_of, outcome_of_run};
 ghost use Rattle.run_commands.specs.Scripts.{made_output};
-ghost use Rattle.file_commands.specs.Told.{ending_of};
+ghost use Rattle.file_commands.specs.EndingValues.{ending_of};
 ghost use Rattle.file_commands.specs.Work.{Comes, outside};
-ghost use Rattle.xm_words.specs.Seen.{seen_files};
-ghost use Rattle.xm_words.specs.Words.{Bare};
+ghost use Rattle.command_line.specs.Seen.{seen_files};
+ghost use Rattle.command_line.specs.Words.{Bare};
 
 use crate::cores::core_room;
 use crate::later::{ended, write_later};
 use crate::scripts::MadeScript;
+use command_line::PartFiles;
 use file_commands::{Ending, Refusal, read_file};
 use machine_model::keeps_numbers;
 use std::alloc::Global;
@@ -26,9 +27,8 @@ use xm_base::{FILE_BYTES, Memory};
 use xm_container::{BareFault, System, bare};
 use xm_machine::{Inputs, Machine, WriteFault};
 use xm_outside::{Sink, Store};
-use xm_words::PartFiles;
 
-/// Reads a raw image and runs it for so many ticks.
+/// Reads a raw image and runs it for this many ticks.
 pub fn run_file<'a, S: Store, O: Sink>(
     alloc: Global,
     image: &'a str,
@@ -66,7 +66,7 @@ fn run_bytes<'a, S: Store, O: Sink>(
     ensures board { LeavesBoard (ending_of result) (outcome_of (Bare image.now ticks) (bytes.now ∷ [])).run (O.got out.old) (O.got out.new) (⟦<Board as ViewBoard>⟧.board_view board.old) (⟦<Board as ViewBoard>⟧.board_view board.new) }
 {
     if bytes.len() > FILE_BYTES {
-        return Ending::Denied {
+        return Ending::Refused {
             file: image,
             why: Refusal::TooLong,
         };
@@ -80,10 +80,10 @@ fn run_bytes<'a, S: Store, O: Sink>(
                     alloc, ticks, cores, &scripts, system, inputs, files, out, board,
                 )
             }
-            Err(_) => Ending::Starved,
+            Err(_) => Ending::NoMemory,
         },
-        Err(BareFault::Memory) => Ending::Starved,
-        Err(BareFault::Length { found }) => Ending::Denied {
+        Err(BareFault::Memory) => Ending::NoMemory,
+        Err(BareFault::Length { found }) => Ending::Refused {
             file: image,
             why: Refusal::Length { found },
         },
@@ -117,7 +117,7 @@ pub(crate) fn run_system<'a, S: Store, O: Sink>(
             let machine = &mut machine;
             run_booted(alloc, ticks, cores, scripts, machine, files, out, board)
         }
-        Err(Memory) => Ending::Starved,
+        Err(Memory) => Ending::NoMemory,
     }
 }
 
@@ -145,7 +145,7 @@ fn run_booted<'a, S: Store, O: Sink>(
 {
     match core_room(alloc, machine, cores) {
         Ok(mut room) => run_into(ticks, cores, scripts, machine, &mut room, files, out, board),
-        Err(Memory) => Ending::Starved,
+        Err(Memory) => Ending::NoMemory,
     }
 }
 
@@ -176,6 +176,6 @@ fn run_into<'a, S: Store, O: Sink>(
     board.begin();
     match machine.run(ticks, out, board) {
         Ok(_) => ended(write_later(machine, cores, scripts, room, files), board),
-        Err(WriteFault) => Ending::Unwritten,
+        Err(WriteFault) => Ending::WriteFaultReport,
     }
 }

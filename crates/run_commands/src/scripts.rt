@@ -2,33 +2,33 @@
 
 ghost use Rattle.std.specs.Prelude.{◌≡◌, ◌<◌, ◌≤◌, ◌++◌, ◌∷◌, [], ℕ, List, IfOk, None, Ok, OnOk, Option, drop, length, map};
 ghost use Rattle.xm_base.specs.declared.limits.TheConstants.{TICKS};
-ghost use Rattle.whole_system.specs.State.{with_inputs};
+ghost use Rattle.system_state.specs.State.{with_inputs};
 ghost use Rattle.cue_scripts.specs.Written.{IsScriptFile};
 ghost use Rattle.machine_model.specs.View.{System as Booted};
 ghost use Rattle.xm_container.specs.Reading.{unpacked};
 ghost use Rattle.run_commands.specs.Cores.{AreForPartitions};
 ghost use Rattle.file_commands.specs.Inputs.{inputs_for};
-ghost use Rattle.run_commands.specs.Numbers.{HasTold, HaveTold};
+ghost use Rattle.run_commands.specs.Numbers.{ReceivesNumbers, AllReceiveNumbers};
 ghost use Rattle.file_commands.specs.Outcome.{content, first_long, script_bytes, script_denial, script_output, scripts_for};
 ghost use Rattle.file_commands.specs.Packing.{file_names};
 ghost use Rattle.run_commands.specs.Scripts.{made_output, made_outputs, script_or};
-ghost use Rattle.file_commands.specs.Told.{AreSaved, MakesOr, vector_bytes};
+ghost use Rattle.file_commands.specs.EndingValues.{AreSaved, MakesOr, vector_bytes};
 ghost use Rattle.file_commands.specs.Work.{Saves, outside};
-ghost use Rattle.xm_words.specs.Seen.{seen_file, seen_options};
-ghost use Rattle.xm_words.specs.Words.{inputs_in, scripts_in};
+ghost use Rattle.command_line.specs.Seen.{seen_file, seen_options};
+ghost use Rattle.command_line.specs.Words.{inputs_in, scripts_in};
 
 use crate::inputs::inputs_for;
 use crate::readiness::part_count;
 use crate::recording::script_of;
+use builders::no_script;
+use command_line::{PartFile, RunOptions};
 use cue_scripts::ScriptFault;
 use file_commands::{Ending, split_contents, unmade};
-use file_maker::no_script;
 use std::alloc::Global;
 use xm_base::Memory;
 use xm_container::{System, unpack};
 use xm_machine::Inputs;
 use xm_outside::{Failed, Store};
-use xm_words::{PartFile, RunOptions};
 
 /// A script, and where it is written.
 #[derive(Debug, Drop)]
@@ -37,7 +37,7 @@ pub(crate) struct MadeScript<'a> {
     pub(crate) bytes: Vec<u8>,
 }
 
-/// The scripts that options of a run of so many ticks ask for, in their order; or the first that is too long for a file. A run of its own
+/// The scripts that options of a run of this many ticks ask for, in their order; or the first that is too long for a file. A run of its own
 /// makes each, of the same files.
 pub(crate) fn make_scripts<'a>(
     alloc: Global,
@@ -51,7 +51,7 @@ pub(crate) fn make_scripts<'a>(
     requires same { unpacked (content 0 (map vector_bytes contents.now)) ≡ Ok system.now }
     requires inside { AreForPartitions (length system.now.conf.parts) (scripts_in (seen_options options)) }
     ensures numbers { (inputs : List (List ℕ)) → inputs_for (length system.now.conf.parts) (seen_options options.entry) (drop 1 (map vector_bytes contents.now)) ≡ Ok inputs
-        → IfOk result (λ _. HaveTold (with_inputs system.now inputs) ticks (scripts_in (seen_options options.entry))) }
+        → IfOk result (λ _. AllReceiveNumbers (with_inputs system.now inputs) ticks (scripts_in (seen_options options.entry))) }
     ensures made { (inputs : List (List ℕ)) → inputs_for (length system.now.conf.parts) (seen_options options.entry) (drop 1 (map vector_bytes contents.now)) ≡ Ok inputs
         → MakesOr made_outputs result (scripts_for (with_inputs system.now inputs) ticks (scripts_in (seen_options options.entry))) }
 {
@@ -64,7 +64,7 @@ pub(crate) fn make_scripts<'a>(
         };
         match put_made(&mut made, script) {
             Ok(()) => {}
-            Err(Memory) => return Err(Ending::Starved),
+            Err(Memory) => return Err(Ending::NoMemory),
         }
         rest = others;
     }
@@ -81,7 +81,7 @@ fn put_made<'a>(made: &mut Vec<MadeScript<'a>>, script: MadeScript<'a>) -> Resul
     }
 }
 
-// The script of a partition in a run of so many ticks of these files.
+// The script of a partition in a run of this many ticks of these files.
 fn make_script<'a>(
     alloc: Global,
     ticks: u64,
@@ -95,17 +95,17 @@ fn make_script<'a>(
     requires same { unpacked (content 0 (map vector_bytes contents.now)) ≡ Ok system.now }
     requires inside { (seen_file named).part < length system.now.conf.parts }
     ensures numbers { (inputs : List (List ℕ)) → inputs_for (length system.now.conf.parts) (seen_options options.entry) (drop 1 (map vector_bytes contents.now)) ≡ Ok inputs
-        → IfOk result (λ _. HasTold (with_inputs system.now inputs) ticks (seen_file named.entry).part) }
+        → IfOk result (λ _. ReceivesNumbers (with_inputs system.now inputs) ticks (seen_file named.entry).part) }
     ensures made { (inputs : List (List ℕ)) → inputs_for (length system.now.conf.parts) (seen_options options.entry) (drop 1 (map vector_bytes contents.now)) ≡ Ok inputs
         → MakesOr made_output result (script_or (script_denial (with_inputs system.now inputs) ticks (seen_file named.entry)) (script_output (with_inputs system.now inputs) ticks (seen_file named.entry))) }
 {
     match made_again(alloc, options, contents, system) {
-        Ok((system, inputs)) => tell_script(
+        Ok((system, inputs)) => script_or_ending(
             alloc,
             named.file,
             script_of(alloc, system, inputs, named.part, ticks),
         ),
-        Err(Memory) => Err(Ending::Starved),
+        Err(Memory) => Err(Ending::NoMemory),
     }
 }
 
@@ -133,12 +133,12 @@ fn made_again(
 }
 
 // A script that was made, or how the call ends without it.
-fn tell_script<'a>(
+fn script_or_ending<'a>(
     alloc: Global,
     file: &'a str,
     script: Result<Vec<u8>, ScriptFault>,
 ) -> Result<MadeScript<'a>, Ending<'a>>
-    ensures numbers { (system : Booted) (ticks : ℕ) (part : ℕ) → IfOk script (λ _. HasTold system ticks part) → IfOk result (λ _. HasTold system ticks part) }
+    ensures numbers { (system : Booted) (ticks : ℕ) (part : ℕ) → IfOk script (λ _. ReceivesNumbers system ticks part) → IfOk result (λ _. ReceivesNumbers system ticks part) }
     ensures made { (system : Booted) (ticks : ℕ) (part : ℕ) → IsScriptFile vector_bytes (script_bytes system ticks part) script
         → MakesOr made_output result (script_or (script_denial system ticks (record { part = part; file = file.now })) (script_output system ticks (record { part = part; file = file.now }))) }
 {
@@ -160,7 +160,7 @@ pub(crate) fn write_scripts<'a, S: Store>(
     for script in scripts {
         match write_script(script, files) {
             Ok(()) => {}
-            Err(Failed) => return Err(Ending::Unsaved { file: script.file }),
+            Err(Failed) => return Err(Ending::WriteFaultFile { file: script.file }),
         }
     }
     Ok(())

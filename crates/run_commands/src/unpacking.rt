@@ -3,30 +3,30 @@
 ghost use Rattle.std.specs.Prelude.{◌≡◌, ◌≤◌, ◌∷◌, ℕ, List, None, Ok, Some, drop, length, map};
 ghost use Rattle.xm_base.specs.declared.limits.TheConstants.{TICKS};
 ghost use Rattle.xm_container.specs.Reading.{unpacked};
-ghost use Rattle.whole_system.specs.State.{with_inputs};
+ghost use Rattle.system_state.specs.State.{with_inputs};
 ghost use Rattle.run_commands.specs.Accounts.{HasAccount};
 ghost use Rattle.run_commands.specs.Boards.{LeavesBoard};
 ghost use Rattle.run_commands.specs.Cores.{AreForPartitions};
-ghost use Rattle.run_commands.specs.Numbers.{HaveTold, HasScripts, TellsIn, TellsOf, TellsShort};
+ghost use Rattle.run_commands.specs.Numbers.{AllReceiveNumbers, HasScripts, ReceivesIn, ReceivesOf, ReceivesShort};
 ghost use Rattle.run_commands.specs.Scripts.{made_output};
 ghost use Rattle.file_commands.specs.Inputs.{inputs_for};
 ghost use Rattle.file_commands.specs.Outcome.{content, first_long, outcome_of, outcome_of_run, ran_with, run_outcome, ticks_asked};
 ghost use Rattle.file_commands.specs.Packing.{file_names};
-ghost use Rattle.file_commands.specs.Told.{vector_bytes, ending_of};
+ghost use Rattle.file_commands.specs.EndingValues.{vector_bytes, ending_of};
 ghost use Rattle.file_commands.specs.Work.{Comes, outside};
-ghost use Rattle.xm_words.specs.Grammar.{count_of};
-ghost use Rattle.xm_words.specs.Seen.{seen_files, seen_options};
-ghost use Rattle.xm_words.specs.Words.{Run, inputs_in, scripts_in, span_in};
+ghost use Rattle.command_line.specs.Grammar.{count_of};
+ghost use Rattle.command_line.specs.Seen.{seen_files, seen_options};
+ghost use Rattle.command_line.specs.Words.{Run, inputs_in, scripts_in, span_in};
 
 use crate::readiness::{ReadyRun, ready_run};
 use crate::running::run_system;
+use builders::no_container;
+use command_line::{PartFiles, RunOptions};
 use file_commands::{Ending, Refusal, first_long, read_files, split_contents, unmade};
-use file_maker::no_container;
 use std::alloc::Global;
 use uart_board::{Board, ViewBoard};
 use xm_container::{System, unpack};
 use xm_outside::{Sink, Store};
-use xm_words::{PartFiles, RunOptions};
 
 /// Reads a container and the inputs of a run, and runs it.
 pub fn run_container<'a, S: Store, O: Sink>(
@@ -42,7 +42,7 @@ pub fn run_container<'a, S: Store, O: Sink>(
         (outside (S.files files.old) (S.read_faults files.old) (S.write_faults files.old) (S.calls files.old) (O.got out.old) (O.faults out.old))
         (outside (S.files files.new) (S.read_faults files.new) (S.write_faults files.new) (S.calls files.new) (O.got out.new) (O.faults out.new))
         (⟦<Board as ViewBoard>⟧.board_view board.old) (⟦<Board as ViewBoard>⟧.board_view board.new) }
-    ensures numbers { HasScripts (ending_of result) → TellsOf container.now (seen_options options.entry) (S.files files.old) }
+    ensures numbers { HasScripts (ending_of result) → ReceivesOf container.now (seen_options options.entry) (S.files files.old) }
 {
     match read_files(alloc, container, options.inputs(), files) {
         Ok(contents) => run_files(alloc, container, options, &contents, files, out, board),
@@ -65,10 +65,10 @@ fn run_files<'a, S: Store, O: Sink>(
         (outside (S.files files.old) (S.read_faults files.old) (S.write_faults files.old) (S.calls files.old) (O.got out.old) (O.faults out.old))
         (outside (S.files files.new) (S.read_faults files.new) (S.write_faults files.new) (S.calls files.new) (O.got out.new) (O.faults out.new)) }
     ensures board { LeavesBoard (ending_of result) (outcome_of (Run container.now (seen_options options.entry)) (map vector_bytes contents.now)).run (O.got out.old) (O.got out.new) (⟦<Board as ViewBoard>⟧.board_view board.old) (⟦<Board as ViewBoard>⟧.board_view board.new) }
-    ensures numbers { HasScripts (ending_of result) → TellsShort container.now (seen_options options.entry) (map vector_bytes contents.now) }
+    ensures numbers { HasScripts (ending_of result) → ReceivesShort container.now (seen_options options.entry) (map vector_bytes contents.now) }
 {
     match first_long(container, options.inputs(), contents) {
-        Some(file) => Ending::Denied {
+        Some(file) => Ending::Refused {
             file,
             why: Refusal::TooLong,
         },
@@ -93,7 +93,7 @@ fn run_packed<'a, S: Store, O: Sink>(
         (outside (S.files files.new) (S.read_faults files.new) (S.write_faults files.new) (S.calls files.new) (O.got out.new) (O.faults out.new)) }
     ensures board { LeavesBoard (ending_of result) (run_outcome container.now (seen_options options.entry) (content 0 (map vector_bytes contents.now)) (drop 1 (map vector_bytes contents.now))).run (O.got out.old) (O.got out.new)
         (⟦<Board as ViewBoard>⟧.board_view board.old) (⟦<Board as ViewBoard>⟧.board_view board.new) }
-    ensures numbers { HasScripts (ending_of result) → TellsIn (seen_options options.entry) (map vector_bytes contents.now) }
+    ensures numbers { HasScripts (ending_of result) → ReceivesIn (seen_options options.entry) (map vector_bytes contents.now) }
 {
     let (bytes, _) = split_contents(contents);
     match unpack(alloc, bytes) {
@@ -125,7 +125,7 @@ fn run_unpacked<'a, S: Store, O: Sink>(
     ensures board { LeavesBoard (ending_of result)
         (ran_with container.now (seen_options options.entry) system (inputs_for (length system.conf.parts) (seen_options options.entry) (drop 1 (map vector_bytes contents.now)))).run (O.got out.old) (O.got out.new) (⟦<Board as ViewBoard>⟧.board_view board.old) (⟦<Board as ViewBoard>⟧.board_view board.new) }
     ensures numbers { HasScripts (ending_of result) → (inputs : List (List ℕ)) → inputs_for (length system.conf.parts) (seen_options options.entry) (drop 1 (map vector_bytes contents.now)) ≡ Ok inputs
-        → HaveTold (with_inputs system inputs) (ticks_asked (span_in (seen_options options.entry)) system.conf) (scripts_in (seen_options options.entry)) }
+        → AllReceiveNumbers (with_inputs system inputs) (ticks_asked (span_in (seen_options options.entry)) system.conf) (scripts_in (seen_options options.entry)) }
 {
     match ready_run(alloc, container, options, contents, &system) {
         Ok(ready) => run_ready(alloc, ready, options.cores(), system, files, out, board),

@@ -187,7 +187,7 @@ work_low arith.Srl word source spelled = shift_low word source spelled
 work_low arith.Sra word source spelled = shift_low word source spelled
 work_low operation word source spelled = signed_low word source spelled
 
--- a word of format 3 is at least what its fields come to
+-- a word of format 3 is at least the sum of its fields
 format3_least : (word format target selector first low : ℕ) → op word ≡ format → target ≤ rd word → op3 word ≡ selector → first ≤ rs1 word → low ≤ word % 2 ^ 14 → format3_word format target selector first low ≤ word
 unfolding format3_word op rd op3 rs1
 format3_least word format target selector first low a b c d e = omega arith

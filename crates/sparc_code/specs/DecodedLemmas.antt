@@ -169,7 +169,7 @@ spells_no_memory_work word selector listed format selected = selects_no_memory_w
 spells_eight : (word : ℕ) (a b c d e f g h : Arith) → SpellsWork word a × SpellsWork word b × SpellsWork word c × SpellsWork word d × SpellsWork word e × SpellsWork word f × SpellsWork word g × SpellsWork word h
 spells_eight word a b c d e f g h = (spells_work a word, spells_work b word, spells_work c word, spells_work d word, spells_work e word, spells_work f word, spells_work g word, spells_work h word)
 
--- the words of six operations, with a selector that has no instruction behind the first of them, and one behind the fourth
+-- the words of six operations, with a selector that has no instruction after the first of them, and one after the fourth
 spells_six : (word : ℕ) (a b c d e f : Arith) → IsOneOf unassigned_selectors.on_registers (opcode_of a + 1) → IsOneOf unassigned_selectors.on_registers (opcode_of d + 1) → SpellsWork word a × SpellsNoWork word (opcode_of a + 1) × SpellsWork word b × SpellsWork word c × SpellsWork word d × SpellsNoWork word (opcode_of d + 1) × SpellsWork word e × SpellsWork word f
 spells_six word a b c d e f second sixth = (spells_work a word, spells_no_work word _ second, spells_work b word, spells_work c word, spells_work d word, spells_no_work word _ sixth, spells_work e word, spells_work f word)
 

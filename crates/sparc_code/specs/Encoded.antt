@@ -6,7 +6,7 @@ use Rattle.sparc_code.specs.declared.instruction.Src.TheVariants.{Reg, Imm}
 use Rattle.sparc_code.specs.declared.instruction.Instr.{Instr}
 use Rattle.sparc_code.specs.declared.instruction.Instr.TheVariants as instr
 
--- a signed number as a field of so many bits
+-- a signed number as a field of this many bits
 abbrev pub bits_of : ℕ → ℤ → ℕ
 bits_of width (pos n) = n
 bits_of width (negsuc n) = 2 ^ width - suc n

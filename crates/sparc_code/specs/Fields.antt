@@ -5,7 +5,7 @@ use Rattle.std.specs.Prelude.{ℕ, ℤ, pos, ◌-◌, ◌/◌, ◌%◌, ◌^◌,
 abbrev pub field : ℕ → ℕ → ℕ → ℕ
 field low width word = word / 2 ^ low % 2 ^ width
 
--- a field of so many bits as a signed number: its highest bit counts less than nothing
+-- a field of this many bits as a signed number: its highest bit counts less than nothing
 unfoldable pub signed : ℕ → ℕ → ℤ
 signed width n = if nat_lt n (2 ^ (width - 1)) then pos n else pos n -ℤ pos (2 ^ width)
 

@@ -8,11 +8,11 @@ use Rattle.sparc_code.specs.declared.instruction.Src.TheVariants.{Reg, Imm}
 use Rattle.sparc_code.specs.declared.instruction.Instr.{Instr}
 use Rattle.sparc_code.specs.declared.instruction.Instr.TheVariants as instr
 
--- a signed number of so many bits
+-- a signed number of this many bits
 abbrev pub IsSigned : ℕ → ℤ → Type 0
 IsSigned width number = (negsuc (2 ^ (width - 1) - 1) ≤ℤ number) × (number <ℤ pos (2 ^ (width - 1)))
 
--- a number of so many bits
+-- a number of this many bits
 abbrev pub IsUnsigned : ℕ → ℤ → Type 0
 IsUnsigned width number = (pos 0 ≤ℤ number) × (number <ℤ pos (2 ^ width))
 

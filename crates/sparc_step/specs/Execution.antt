@@ -14,7 +14,7 @@ use Rattle.sparc_step.specs.Transfers.{transfer_row}
 use Rattle.sparc_step.specs.declared.outcome.Turn.{Turn}
 pub use Rattle.sparc_step.specs.Transfers.{Turned, done, refused}
 
--- what an instruction comes to that touches no memory
+-- the outcome of an instruction that touches no memory
 abbrev pub keeping_memory : Memory → RegisterOutcome → Turned
 keeping_memory memory o = record { turn = o.turn; core = o.core; memory = memory }
 
@@ -38,7 +38,7 @@ executed instr.Float areas core memory = refused 0x04 core memory
 executed instr.Coproc areas core memory = refused 0x24 core memory
 executed instr.Illegal areas core memory = refused 0x02 core memory
 
--- what an instruction comes to that touches no memory, and the registers after it, whatever the memory is
+-- the outcome of an instruction that touches no memory, and the registers after it, whatever the memory is
 abbrev pub TurnsTo : Instr → Registers → Turn → Registers → Type 0
 TurnsTo i before turn after =
     (areas : List Area) (memory : Memory) → executed i areas before memory ≡ record { turn = turn; core = after; memory = memory }

@@ -9,7 +9,7 @@ use Rattle.sparc_step.specs.Words.{residue}
 use Rattle.sparc_step.specs.declared.outcome.Turn.{Turn}
 use Rattle.sparc_step.specs.declared.outcome.Turn.TheVariants.{Went, Trap, Call}
 
--- so many words from an address on; addresses wrap
+-- this many words from an address on; addresses wrap
 unfoldable pub branch_target : ℕ → ℤ → ℕ
 branch_target pc words = (pc + 4 * residue 32 words) % 2 ^ 32
 
@@ -50,11 +50,11 @@ jump_row rd rs1 source core = jumped rd (sum_of rs1 source core) core
 unfoldable pub trap_type : ℕ → ℕ
 trap_type number = 0x80 + number % 128
 
--- what a software trap comes to: one type is the call of the hypervisor
+-- the outcome of a software trap: one type is the call of the hypervisor
 abbrev pub turn_of_type : ℕ → Turn
 turn_of_type type = if type == 0xf0 then Call else Trap type
 
--- what a Ticc comes to
+-- the outcome of a Ticc
 unfoldable pub trap_turn : ℕ → ℕ → Src → Registers → Turn
 trap_turn condition rs1 source core =
     if holds condition core.icc then turn_of_type (trap_type (sum_of rs1 source core)) else Went

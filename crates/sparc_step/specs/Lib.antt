@@ -1,8 +1,8 @@
 pub use Rattle.guest_bus.specs.Access
 pub use Rattle.guest_bus.specs.Memory
 pub mod Registers
-pub mod AtHand
-pub mod AtHandLemmas
+pub mod Cached
+pub mod CachedLemmas
 pub mod Words
 pub mod Conditions
 pub mod Operands

@@ -1,10 +1,10 @@
--- What an instruction comes to that touches no memory.
+-- The outcome of an instruction that touches no memory.
 use Rattle.std.specs.Prelude.{ℕ}
 use Rattle.sparc_step.specs.Registers.{Registers, advanced, with_icc, with_register}
 use Rattle.sparc_step.specs.declared.outcome.Turn.{Turn}
 use Rattle.sparc_step.specs.declared.outcome.Turn.TheVariants.{Went, Trap}
 
--- what an instruction came to, and the registers that it left
+-- the outcome of an instruction, and the registers that it left
 pub record RegisterOutcome : Type 0 where
   pub turn : Turn
   pub core : Registers

@@ -17,7 +17,7 @@ use Rattle.sparc_step.specs.Words.{residue}
 use Rattle.sparc_step.specs.declared.outcome.Turn.{Turn}
 use Rattle.sparc_step.specs.declared.outcome.Turn.TheVariants.{Went, Trap}
 
--- what an instruction came to, and what it left
+-- the outcome of an instruction, and what it left
 pub record Turned : Type 0 where
   pub turn : Turn
   pub core : Registers

@@ -222,7 +222,7 @@ pub turned-IsOrderly : (areas : List Area) (core : Registers) (memory : Memory) 
 unfolding turned
 turned-IsOrderly areas core memory = turned_after_orderly (fetched areas memory core.pc) areas core memory
 
--- so what an instruction came to is orderly, piece by piece
+-- so the outcome of an instruction is orderly, piece by piece
 pub undone_pieces : (areas : List Area) (core after : Registers) (old new : Memory) (t : Turn) → t ≡ (turned areas core old).turn → after ≡ (turned areas core old).core → new ≡ (turned areas core old).memory → IsUndone t core after old new
 undone_pieces areas core after old new t turn_is core_is memory_is = rw (turn_is, core_is, memory_is) (turned-IsOrderly areas core old).undone
 

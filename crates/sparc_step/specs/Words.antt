@@ -2,7 +2,7 @@
 use Rattle.std.specs.Prelude.{ℕ, ◌+◌, ◌-◌, ◌*◌, ◌/◌, ◌%◌, ◌^◌, ℤ, pos, negsuc, ◌+ℤ◌, ◌-ℤ◌, ◌*ℤ◌, Bool, not, ◌||◌, nat_lt, nat_le, min, ◌==◌, if◌then◌else◌, int_div}
 use Rattle.std.specs.Int.{w32, w64, cast_signed, cast_unsigned, saturate_signed, int_shr}
 
--- the lowest so many bits of a whole number, in two's complement
+-- the lowest this many bits of a whole number, in two's complement
 abbrev pub residue : ℕ → ℤ → ℕ
 residue width (pos n) = n % 2 ^ width
 residue width (negsuc n) = 2 ^ width - 1 - n % 2 ^ width
@@ -84,7 +84,7 @@ signed_quotient_overflows dividend divisor = not (is_signed_word (exact_quotient
 unfoldable pub is_tagged : ℕ → ℕ → Bool
 is_tagged a b = not (a % 4 == 0) || not (b % 4 == 0)
 
--- a word moved by so many places to the left, to the right, and to the right with copies of its sign
+-- a word moved by this many places to the left, to the right, and to the right with copies of its sign
 unfoldable pub shifted_left : ℕ → ℕ → ℕ
 shifted_left a count = (a * 2 ^ (count % 32)) % 2 ^ 32
 

@@ -28,7 +28,7 @@ use crate::conditions::{
     carry, codes_of_comparison, codes_of_difference, codes_of_result, codes_of_sum,
     codes_of_tagged_difference, codes_of_tagged_sum, negative, overflow,
 };
-use crate::operands::{first, places, put, put_with_codes, second};
+use crate::operands::{first, places, put_with_codes, second, set_result};
 use crate::outcome::Turn;
 use crate::processor::Processor;
 use crate::words::{
@@ -71,23 +71,23 @@ pub(crate) fn plain(core: &mut Processor, selector: u32, word: u32) -> Turn
     if selector < 4 {
         if selector < 2 {
             if selector == 0x00 {
-                put(core, word, sum(a, b, false));
+                set_result(core, word, sum(a, b, false));
             } else {
-                put(core, word, a & b);
+                set_result(core, word, a & b);
             }
         } else if selector == 0x02 {
-            put(core, word, a | b);
+            set_result(core, word, a | b);
         } else {
-            put(core, word, a ^ b);
+            set_result(core, word, a ^ b);
         }
     } else if selector == 0x04 {
-        put(core, word, difference(a, b, false));
+        set_result(core, word, difference(a, b, false));
     } else if selector < 6 {
-        put(core, word, a & !b);
+        set_result(core, word, a & !b);
     } else if selector == 0x06 {
-        put(core, word, a | !b);
+        set_result(core, word, a | !b);
     } else {
-        put(core, word, !(a ^ b));
+        set_result(core, word, !(a ^ b));
     }
     Turn::Went
 }
@@ -156,9 +156,9 @@ fn extended(core: &mut Processor, selector: u32, word: u32) -> Turn
     let b = second(core, word);
     let carry = carry(core.icc());
     match selector {
-        0x08 => put(core, word, sum(a, b, carry)),
+        0x08 => set_result(core, word, sum(a, b, carry)),
         0x18 => put_sum(core, word, a, b, carry),
-        0x0c => put(core, word, difference(a, b, carry)),
+        0x0c => set_result(core, word, difference(a, b, carry)),
         0x1c => put_difference(core, word, a, b, carry),
         0x0a => put_product(core, word, u64::from(a) * u64::from(b)),
         0x1a => put_product_with_codes(core, word, u64::from(a) * u64::from(b)),
@@ -211,11 +211,11 @@ fn shift(core: &mut Processor, selector: u32, word: u32) -> Turn
     let a = first(core, word);
     let count = places(core, word);
     if selector == 0x25 {
-        put(core, word, shifted_left(a, count));
+        set_result(core, word, shifted_left(a, count));
     } else if selector == 0x26 {
-        put(core, word, shifted_right(a, count));
+        set_result(core, word, shifted_right(a, count));
     } else {
-        put(core, word, shifted_arithmetically(a, count));
+        set_result(core, word, shifted_arithmetically(a, count));
     }
     Turn::Went
 }
@@ -240,7 +240,7 @@ fn put_product(core: &mut Processor, word: u32, product: u64)
     ensures { core.new ≡ with_result (rd word) (product % 2 ^ 32) (with_y core.old (product / 2 ^ 32)) }
 {
     core.set_y((product >> 32) as u32);
-    put(core, word, (product % 0x1_0000_0000) as u32);
+    set_result(core, word, (product % 0x1_0000_0000) as u32);
 }
 
 // The same with the condition codes of the low half.
@@ -271,9 +271,9 @@ fn divide(core: &mut Processor, selector: u32, word: u32) -> Turn
         return Turn::Trap(0x2a);
     }
     if selector == 0x0e {
-        put(core, word, quotient(dividend, divisor));
+        set_result(core, word, quotient(dividend, divisor));
     } else if selector == 0x0f {
-        put(core, word, signed_quotient(dividend, divisor));
+        set_result(core, word, signed_quotient(dividend, divisor));
     } else if selector == 0x1e {
         let overflows = quotient_overflows(dividend, divisor);
         put_result(core, word, quotient(dividend, divisor), overflows);

@@ -53,7 +53,7 @@ impl Processor {
     }
 }
 
-// Executes an instruction word: which instruction it is, is told here by compares, without a value for it in between.
+// Executes an instruction word: which instruction it is, is decided here by compares, without a value for it in between.
 #[tactic(auto, unfolding(sparc_code::specs::Decoded::decoded))]
 #[inline(always)]
 pub(crate) fn execute<B: Bus>(core: &mut Processor, bus: &mut B, word: u32) -> Turn

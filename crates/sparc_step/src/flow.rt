@@ -22,7 +22,7 @@ ghost use Rattle.sparc_step.specs.Operands.{sum_of};
 ghost use Rattle.sparc_step.specs.Outcome.{with_result};
 
 use crate::conditions::holds;
-use crate::operands::{branch_bytes, call_bytes, first, put, second, sum_of, trap_number};
+use crate::operands::{branch_bytes, call_bytes, first, second, set_result, sum_of, trap_number};
 use crate::outcome::Turn;
 use crate::processor::Processor;
 use sparc_code::fields::{annul, cond, imm22, rd};
@@ -38,7 +38,7 @@ pub(crate) fn call(core: &mut Processor, word: u32)
     core.branch(target(pc, call_bytes(word)));
 }
 
-// Where a call or a branch goes, so many bytes on.
+// Where a call or a branch goes, this many bytes on.
 fn target(pc: u32, bytes: u32) -> u32
     requires pc { pc % 4 ≡ 0 }
     requires bytes { bytes % 4 ≡ 0 }
@@ -95,7 +95,7 @@ fn pass(core: &mut Processor, annul: bool)
 pub(crate) fn sethi(core: &mut Processor, word: u32)
     ensures { core.new ≡ sethi_row (rd word) (imm22 word) core.old }
 {
-    put(core, word, imm22(word) << 10);
+    set_result(core, word, imm22(word) << 10);
 }
 
 // RDY.
@@ -103,7 +103,7 @@ pub(crate) fn read_y(core: &mut Processor, word: u32)
     ensures { core.new ≡ with_result (rd word) core.old.y core.old }
 {
     let y = core.y();
-    put(core, word, y);
+    set_result(core, word, y);
 }
 
 // WRY.
@@ -185,5 +185,5 @@ fn enter(core: &mut Processor, window: u8, word: u32, value: u32)
     ensures { core.new ≡ window_entered window (rd word) value core.old }
 {
     core.enter(window);
-    put(core, word, value);
+    set_result(core, word, value);
 }

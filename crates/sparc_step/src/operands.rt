@@ -98,7 +98,7 @@ pub(crate) fn call_bytes(word: u32) -> u32
 // Puts a result, and goes on.
 #[tactic(auto, unfolding(crate::specs::Outcome::with_result))]
 #[inline(always)]
-pub(crate) fn put(core: &mut Processor, word: u32, value: u32)
+pub(crate) fn set_result(core: &mut Processor, word: u32, value: u32)
     ensures { core.new ≡ with_result (rd word) value core.old }
 {
     core.set(rd(word), value);

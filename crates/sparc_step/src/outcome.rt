@@ -1,6 +1,6 @@
-//! What an instruction came to.
+//! The outcome of an instruction.
 
-/// What one instruction came to.
+/// The outcome of one instruction.
 #[derive(Clone, Copy, Debug, PartialEq, Eq)]
 pub enum Turn {
     /// It was executed.

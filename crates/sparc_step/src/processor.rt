@@ -2,8 +2,8 @@
 
 ghost use borrow.Rule.Slice.PartMut.{put_mid};
 ghost use Rattle.std.specs.Prelude.{ℕ, ◌≡◌, ◌≢◌, ◌*◌, ◌+◌, ◌%◌, ◌<◌, ◌≤◌, drop, length, slice_index, take};
-ghost use Rattle.sparc_step.specs.AtHand.{windows_with, with_first};
-ghost use Rattle.sparc_step.specs.AtHandLemmas.{put_at};
+ghost use Rattle.sparc_step.specs.Cached.{windows_with, with_first};
+ghost use Rattle.sparc_step.specs.CachedLemmas.{put_at};
 ghost use Rattle.sparc_step.specs.Registers.{
   advanced,
   branched,
@@ -30,7 +30,7 @@ use std::marker::Model;
 #[derive(Debug, Drop)]
 pub struct Processor {
     // The registers of the current window. They stand first, so that one address serves for them and for all else.
-    hand: [u32; 32],
+    cached: [u32; 32],
     pc: u32,
     npc: u32,
     y: u32,
@@ -42,25 +42,25 @@ pub struct Processor {
 }
 
 impl Model for Processor {
-    ghost use Rattle.sparc_step.specs.AtHand.{IsAtHand, gathered};
+    ghost use Rattle.sparc_step.specs.Cached.{IsCached, gathered};
     ghost use Rattle.sparc_step.specs.Registers.{Registers};
 
     ghost Value = { Registers };
 
-    ghost view = { λ p. gathered p.pc p.npc p.y p.icc p.cwp p.inv p.hand p.windows };
+    ghost view = { λ p. gathered p.pc p.npc p.y p.icc p.cwp p.inv p.cached p.windows };
 
-    ghost invariant = { λ p. IsAtHand p.pc p.npc p.y p.icc p.cwp p.inv p.hand p.windows };
+    ghost invariant = { λ p. IsCached p.pc p.npc p.y p.icc p.cwp p.inv p.cached p.windows };
 }
 
 impl Processor {
     /// Takes registers to hand.
-    #[tactic(auto, unfolding(crate::specs::AtHand::gathered))]
+    #[tactic(auto, unfolding(crate::specs::Cached::gathered))]
     pub fn of(core: &Core) -> Processor
         ensures { result ≡ core.now }
     {
-        let mut hand = [0; 32];
-        take_globals(&mut hand, &core.globals);
-        take_window(&mut hand, &core.windows, core.cwp);
+        let mut cached = [0; 32];
+        take_globals(&mut cached, &core.globals);
+        take_window(&mut cached, &core.windows, core.cwp);
         Processor {
             pc: core.pc,
             npc: core.npc,
@@ -68,20 +68,20 @@ impl Processor {
             icc: core.icc,
             cwp: core.cwp,
             inv: core.inv,
-            hand,
+            cached,
             windows: core.windows,
         }
     }
 
     /// The registers as they are now.
-    #[tactic(auto, unfolding(crate::specs::AtHand::gathered))]
+    #[tactic(auto, unfolding(crate::specs::Cached::gathered))]
     pub fn core(&self) -> Core
         ensures { result ≡ self.now }
     {
         let mut globals = [0; 8];
-        give_globals(&mut globals, &self.hand);
+        give_globals(&mut globals, &self.cached);
         let mut windows = self.windows;
-        write_window(&mut windows, &self.hand, self.cwp);
+        write_window(&mut windows, &self.cached, self.cwp);
         Core {
             pc: self.pc,
             npc: self.npc,
@@ -95,17 +95,17 @@ impl Processor {
     }
 
     /// The program counter.
-    #[tactic(auto, unfolding(crate::specs::AtHand::gathered))]
+    #[tactic(auto, unfolding(crate::specs::Cached::gathered))]
     pub fn pc(&self) -> u32
         ensures value { result ≡ self.now.pc }
         ensures aligned { result % 4 ≡ 0 }
     {
-        // The two low bits are 0, and the compiler is told so.
+        // The two low bits are 0, and the compiler needs to know.
         self.pc & 0xffff_fffc
     }
 
     /// Where the program goes on after the instruction at `pc`.
-    #[tactic(auto, unfolding(crate::specs::AtHand::gathered))]
+    #[tactic(auto, unfolding(crate::specs::Cached::gathered))]
     pub fn npc(&self) -> u32
         ensures value { result ≡ self.now.npc }
         ensures aligned { result % 4 ≡ 0 }
@@ -114,7 +114,7 @@ impl Processor {
     }
 
     /// Puts the program counters.
-    #[tactic(auto, unfolding(crate::specs::Registers::placed, crate::specs::AtHand::gathered))]
+    #[tactic(auto, unfolding(crate::specs::Registers::placed, crate::specs::Cached::gathered))]
     pub fn place(&mut self, pc: u32, npc: u32)
         requires pc { pc % 4 ≡ 0 }
         requires npc { npc % 4 ≡ 0 }
@@ -125,7 +125,7 @@ impl Processor {
     }
 
     /// The Y register.
-    #[tactic(auto, unfolding(crate::specs::AtHand::gathered))]
+    #[tactic(auto, unfolding(crate::specs::Cached::gathered))]
     pub fn y(&self) -> u32
         ensures { result ≡ self.now.y }
     {
@@ -133,7 +133,7 @@ impl Processor {
     }
 
     /// The condition codes.
-    #[tactic(auto, unfolding(crate::specs::AtHand::gathered))]
+    #[tactic(auto, unfolding(crate::specs::Cached::gathered))]
     pub fn icc(&self) -> u8
         ensures value { result ≡ self.now.icc }
         ensures four { result < 16 }
@@ -142,7 +142,7 @@ impl Processor {
     }
 
     /// The current window.
-    #[tactic(auto, unfolding(crate::specs::AtHand::gathered))]
+    #[tactic(auto, unfolding(crate::specs::Cached::gathered))]
     pub fn cwp(&self) -> u8
         ensures value { result ≡ self.now.cwp }
         ensures below { result < 8 }
@@ -151,7 +151,7 @@ impl Processor {
     }
 
     /// The window that a program may not enter.
-    #[tactic(auto, unfolding(crate::specs::AtHand::gathered))]
+    #[tactic(auto, unfolding(crate::specs::Cached::gathered))]
     pub fn inv(&self) -> u8
         ensures value { result ≡ self.now.inv }
         ensures below { result < 8 }
@@ -160,7 +160,7 @@ impl Processor {
     }
 
     /// Makes another window that which a program may not enter.
-    #[tactic(auto, unfolding(crate::specs::Registers::with_inv, crate::specs::AtHand::gathered))]
+    #[tactic(auto, unfolding(crate::specs::Registers::with_inv, crate::specs::Cached::gathered))]
     pub fn set_inv(&mut self, window: u8)
         requires window { window < 8 }
         requires other { window ≢ self.old.cwp }
@@ -197,37 +197,37 @@ impl Processor {
     }
 
     /// The value of a register of the current window.
-    #[tactic(auto, using(crate::specs::AtHandLemmas::register_at_gathered))]
+    #[tactic(auto, using(crate::specs::CachedLemmas::register_at_gathered))]
     pub fn get(&self, r: u8) -> u32
         requires { r < 32 }
         ensures value { result ≡ register_at self.now r }
         ensures zero { r ≡ 0 → result ≡ 0 }
     {
-        self.hand[usize::from(r)]
+        self.cached[usize::from(r)]
     }
 
     /// Sets a register of the current window.
-    #[tactic(auto, using(crate::specs::AtHandLemmas::with_register_gathered))]
+    #[tactic(auto, using(crate::specs::CachedLemmas::with_register_gathered))]
     pub fn set(&mut self, r: u8, value: u32)
         requires { r < 32 }
         ensures { self.new ≡ with_register self.old r value }
     {
-        put(&mut self.hand, r, value);
+        set_cached(&mut self.cached, r, value);
     }
 
     /// Sets a register of the current window that is not register 0.
     #[inline(always)]
-    #[tactic(auto, using(crate::specs::AtHandLemmas::with_register_gathered))]
+    #[tactic(auto, using(crate::specs::CachedLemmas::with_register_gathered))]
     pub fn set_held(&mut self, r: u8, value: u32)
         requires r { r < 32 }
         requires held { 0 < r }
         ensures { self.new ≡ with_register self.old r value }
     {
-        put_held(&mut self.hand, r, value);
+        put_held(&mut self.cached, r, value);
     }
 
     /// Goes on to the next instruction.
-    #[tactic(auto, unfolding(crate::specs::Registers::advanced, crate::specs::AtHand::gathered))]
+    #[tactic(auto, unfolding(crate::specs::Registers::advanced, crate::specs::Cached::gathered))]
     pub(crate) fn advance(&mut self)
         ensures { self.new ≡ advanced self.old }
     {
@@ -236,7 +236,7 @@ impl Processor {
     }
 
     /// Goes on to the next instruction, and after it to the target.
-    #[tactic(auto, unfolding(crate::specs::Registers::branched, crate::specs::AtHand::gathered))]
+    #[tactic(auto, unfolding(crate::specs::Registers::branched, crate::specs::Cached::gathered))]
     pub(crate) fn branch(&mut self, target: u32)
         requires { target % 4 ≡ 0 }
         ensures { self.new ≡ branched self.old target }
@@ -246,7 +246,7 @@ impl Processor {
     }
 
     /// Goes on after the next instruction, which is annulled.
-    #[tactic(auto, unfolding(crate::specs::Registers::skipped, crate::specs::AtHand::gathered))]
+    #[tactic(auto, unfolding(crate::specs::Registers::skipped, crate::specs::Cached::gathered))]
     pub(crate) fn skip(&mut self)
         ensures { self.new ≡ skipped self.old }
     {
@@ -255,7 +255,7 @@ impl Processor {
     }
 
     /// Goes on at the target, the next instruction being annulled.
-    #[tactic(auto, unfolding(crate::specs::Registers::sent, crate::specs::AtHand::gathered))]
+    #[tactic(auto, unfolding(crate::specs::Registers::sent, crate::specs::Cached::gathered))]
     pub(crate) fn send(&mut self, target: u32)
         requires { target % 4 ≡ 0 }
         ensures { self.new ≡ sent self.old target }
@@ -266,33 +266,33 @@ impl Processor {
 
     /// Enters a window that is valid.
     #[inline(never)]
-    #[tactic(auto, unfolding(crate::specs::Registers::in_window, crate::specs::AtHand::gathered))]
+    #[tactic(auto, unfolding(crate::specs::Registers::in_window, crate::specs::Cached::gathered))]
     pub fn enter(&mut self, window: u8)
         requires window { window < 8 }
         requires valid { window ≢ self.old.inv }
         ensures { self.new ≡ in_window self.old window }
     {
-        write_window(&mut self.windows, &self.hand, self.cwp);
-        take_window(&mut self.hand, &self.windows, window);
+        write_window(&mut self.windows, &self.cached, self.cwp);
+        take_window(&mut self.cached, &self.windows, window);
         self.cwp = window;
     }
 
     /// Enters the window below, which is valid: what a SAVE does.
     #[inline(always)]
-    #[tactic(auto, unfolding(crate::specs::Registers::in_window, crate::specs::AtHand::gathered))]
+    #[tactic(auto, unfolding(crate::specs::Registers::in_window, crate::specs::Cached::gathered))]
     pub fn enter_below(&mut self)
         requires valid { (self.old.cwp + 7) % 8 ≢ self.old.inv }
         ensures { self.new ≡ in_window self.old ((self.old.cwp + 7) % 8) }
     {
         let below = (self.cwp + 7) % 8;
-        go_below(&mut self.hand, &mut self.windows, self.cwp, below);
+        go_below(&mut self.cached, &mut self.windows, self.cwp, below);
         self.cwp = below;
     }
 
     /// Enters the window above, which is the invalid one, with its locals and after them its ins: what a RESTORE does whose window is
     /// filled. The window above it becomes the invalid one.
     #[inline(always)]
-    #[tactic(auto, unfolding(crate::specs::Registers::in_window, crate::specs::Registers::with_inv, crate::specs::Registers::with_saved, crate::specs::Registers::window_filled, crate::specs::AtHand::gathered))]
+    #[tactic(auto, unfolding(crate::specs::Registers::in_window, crate::specs::Registers::with_inv, crate::specs::Registers::with_saved, crate::specs::Registers::window_filled, crate::specs::Cached::gathered))]
     pub fn enter_filled(&mut self, words: &[u32; 16])
         requires needed { (self.old.cwp + 1) % 8 ≡ self.old.inv }
         ensures entered { self.new ≡ in_window (window_filled self.old words.now) self.old.inv }
@@ -300,13 +300,13 @@ impl Processor {
         ensures whole { length self.old.windows ≡ 128 }
     {
         let above = self.inv;
-        go_filled(&mut self.hand, &mut self.windows, self.cwp, above, words);
+        go_filled(&mut self.cached, &mut self.windows, self.cwp, above, words);
         self.inv = (above + 1) % 8;
         self.cwp = above;
     }
 
     /// Sets Y.
-    #[tactic(auto, unfolding(crate::specs::Registers::with_y, crate::specs::AtHand::gathered))]
+    #[tactic(auto, unfolding(crate::specs::Registers::with_y, crate::specs::Cached::gathered))]
     pub fn set_y(&mut self, y: u32)
         ensures { self.new ≡ with_y self.old y }
     {
@@ -314,7 +314,7 @@ impl Processor {
     }
 
     /// Sets the condition codes.
-    #[tactic(auto, unfolding(crate::specs::Registers::with_icc, crate::specs::AtHand::gathered))]
+    #[tactic(auto, unfolding(crate::specs::Registers::with_icc, crate::specs::Cached::gathered))]
     pub fn set_icc(&mut self, icc: u8)
         requires { icc < 16 }
         ensures { self.new ≡ with_icc self.old icc }
@@ -324,99 +324,99 @@ impl Processor {
 }
 
 // Sets a register; register 0 stays zero.
-fn put(hand: &mut [u32; 32], r: u8, value: u32)
+fn set_cached(cached: &mut [u32; 32], r: u8, value: u32)
     requires { r < 32 }
-    ensures { hand.new ≡ put_at hand.old r value }
+    ensures { cached.new ≡ put_at cached.old r value }
 {
-    hand[usize::from(r)] = value;
-    hand[0] = 0;
+    cached[usize::from(r)] = value;
+    cached[0] = 0;
 }
 
 // Sets a register that is not register 0, which is zero.
 #[inline(always)]
-#[tactic(auto, using(crate::specs::AtHandLemmas::put_at_held))]
-fn put_held(hand: &mut [u32; 32], r: u8, value: u32)
+#[tactic(auto, using(crate::specs::CachedLemmas::put_at_held))]
+fn put_held(cached: &mut [u32; 32], r: u8, value: u32)
     requires r { r < 32 }
     requires held { 0 < r }
-    requires zero { slice_index hand.old 0 ≡ 0 }
-    ensures { hand.new ≡ put_at hand.old r value }
+    requires zero { slice_index cached.old 0 ≡ 0 }
+    ensures { cached.new ≡ put_at cached.old r value }
 {
-    hand[usize::from(r)] = value;
+    cached[usize::from(r)] = value;
 }
 
 // Takes the globals to hand.
-fn take_globals(hand: &mut [u32], globals: &[u32])
-    requires hand { length hand.old ≡ 32 }
+fn take_globals(cached: &mut [u32], globals: &[u32])
+    requires cached { length cached.old ≡ 32 }
     requires globals { length globals.now ≡ 8 }
-    ensures { take 8 hand.new ≡ globals.now }
+    ensures { take 8 cached.new ≡ globals.now }
 {
-    hand[..8].copy_from_slice(globals);
+    cached[..8].copy_from_slice(globals);
 }
 
 // Gives the globals back.
-fn give_globals(globals: &mut [u32], hand: &[u32])
+fn give_globals(globals: &mut [u32], cached: &[u32])
     requires globals { length globals.old ≡ 8 }
-    requires hand { length hand.now ≡ 32 }
-    ensures { globals.new ≡ take 8 hand.now }
+    requires cached { length cached.now ≡ 32 }
+    ensures { globals.new ≡ take 8 cached.now }
 {
-    globals.copy_from_slice(&hand[..8]);
+    globals.copy_from_slice(&cached[..8]);
 }
 
 // Takes a window to hand: its outs and locals, and its ins.
 #[inline(always)]
-fn take_window(hand: &mut [u32], windows: &[u32], window: u8)
-    requires hand { length hand.old ≡ 32 }
+fn take_window(cached: &mut [u32], windows: &[u32], window: u8)
+    requires cached { length cached.old ≡ 32 }
     requires windows { length windows.now ≡ 128 }
     requires window { window < 8 }
-    ensures windows { windows_with window hand.new windows.now ≡ windows.now }
-    ensures globals { take 8 hand.new ≡ take 8 hand.old }
+    ensures windows { windows_with window cached.new windows.now ≡ windows.now }
+    ensures globals { take 8 cached.new ≡ take 8 cached.old }
 {
-    copy_words(hand, 8, windows, 16 * usize::from(window), 16);
-    copy_words(hand, 24, windows, 16 * usize::from((window + 1) % 8), 8);
+    copy_words(cached, 8, windows, 16 * usize::from(window), 16);
+    copy_words(cached, 24, windows, 16 * usize::from((window + 1) % 8), 8);
 }
 
 // Writes what is cached of a window back to the windows.
 #[inline(always)]
-fn write_window(windows: &mut [u32], hand: &[u32], window: u8)
-    requires hand { length hand.now ≡ 32 }
+fn write_window(windows: &mut [u32], cached: &[u32], window: u8)
+    requires cached { length cached.now ≡ 32 }
     requires windows { length windows.old ≡ 128 }
     requires window { window < 8 }
-    ensures { windows.new ≡ windows_with window hand.now windows.old }
+    ensures { windows.new ≡ windows_with window cached.now windows.old }
 {
-    copy_words(windows, 16 * usize::from(window), hand, 8, 16);
-    copy_words(windows, 16 * usize::from((window + 1) % 8), hand, 24, 8);
+    copy_words(windows, 16 * usize::from(window), cached, 8, 16);
+    copy_words(windows, 16 * usize::from((window + 1) % 8), cached, 24, 8);
 }
 
 // Takes the window below to hand. Its ins are the outs of the one that is cached, and stay in hand.
 #[inline(always)]
-fn go_below(hand: &mut [u32], windows: &mut [u32], window: u8, below: u8)
-    requires hand { length hand.old ≡ 32 }
+fn go_below(cached: &mut [u32], windows: &mut [u32], window: u8, below: u8)
+    requires cached { length cached.old ≡ 32 }
     requires windows { length windows.old ≡ 128 }
     requires window { window < 8 }
     requires below { below ≡ (window + 7) % 8 }
-    ensures windows { windows_with below hand.new windows.new ≡ windows_with window hand.old windows.old }
-    ensures globals { take 8 hand.new ≡ take 8 hand.old }
+    ensures windows { windows_with below cached.new windows.new ≡ windows_with window cached.old windows.old }
+    ensures globals { take 8 cached.new ≡ take 8 cached.old }
 {
-    copy_words(windows, 16 * usize::from(window) + 8, hand, 16, 8);
-    copy_words(windows, 16 * usize::from((window + 1) % 8), hand, 24, 8);
-    move_eight(hand, 8, 24);
-    copy_words(hand, 8, windows, 16 * usize::from(below), 16);
+    copy_words(windows, 16 * usize::from(window) + 8, cached, 16, 8);
+    copy_words(windows, 16 * usize::from((window + 1) % 8), cached, 24, 8);
+    move_eight(cached, 8, 24);
+    copy_words(cached, 8, windows, 16 * usize::from(below), 16);
 }
 
 // Takes the window above to hand with other locals and ins. Its outs are the ins of the one that is cached, and stay in hand.
 #[inline(always)]
-fn go_filled(hand: &mut [u32], windows: &mut [u32], window: u8, above: u8, words: &[u32])
-    requires hand { length hand.old ≡ 32 }
+fn go_filled(cached: &mut [u32], windows: &mut [u32], window: u8, above: u8, words: &[u32])
+    requires cached { length cached.old ≡ 32 }
     requires windows { length windows.old ≡ 128 }
     requires words { length words.now ≡ 16 }
     requires window { window < 8 }
     requires above { above ≡ (window + 1) % 8 }
-    ensures windows { windows_with above hand.new windows.new ≡ with_locals_and_ins (windows_with window hand.old windows.old) above words.now }
-    ensures globals { take 8 hand.new ≡ take 8 hand.old }
+    ensures windows { windows_with above cached.new windows.new ≡ with_locals_and_ins (windows_with window cached.old windows.old) above words.now }
+    ensures globals { take 8 cached.new ≡ take 8 cached.old }
 {
-    copy_words(windows, 16 * usize::from(window), hand, 8, 16);
-    move_eight(hand, 24, 8);
-    copy_words(hand, 16, words, 0, 16);
+    copy_words(windows, 16 * usize::from(window), cached, 8, 16);
+    move_eight(cached, 24, 8);
+    copy_words(cached, 16, words, 0, 16);
 }
 
 // Copies eight words from a place on to another place of the same.
@@ -431,7 +431,7 @@ fn move_eight(words: &mut [u32], from: usize, to: usize)
 
 // Takes eight words of the windows from a place on as the first of sixteen.
 #[inline(always)]
-#[tactic(auto, unfolding(crate::specs::AtHand::with_first))]
+#[tactic(auto, unfolding(crate::specs::Cached::with_first))]
 fn take_first(words: &mut [u32], windows: &[u32], at: usize)
     requires words { length words.old ≡ 16 }
     requires windows { at + 8 ≤ length windows.now }
@@ -440,7 +440,7 @@ fn take_first(words: &mut [u32], windows: &[u32], at: usize)
     copy_words(words, 0, windows, at, 8);
 }
 
-// Copies so many words from a place on to a place.
+// Copies this many words from a place on to a place.
 #[inline(always)]
 fn copy_words(to: &mut [u32], at: usize, from: &[u32], start: usize, count: usize)
     requires to { at + count ≤ length to.old }

@@ -19,7 +19,7 @@ ghost use Rattle.sparc_step.specs.Transfers.{
   word_loaded,
 };
 
-use crate::operands::{put, sum_of};
+use crate::operands::{set_result, sum_of};
 use crate::outcome::Turn;
 use crate::processor::Processor;
 use guest_bus::{Bus, BusFault, Size};
@@ -142,7 +142,7 @@ fn load_value<B: Bus>(
 {
     match bus.load(address, size) {
         Ok(value) => {
-            put(core, word, word_loaded(value, size, signed));
+            set_result(core, word, word_loaded(value, size, signed));
             Turn::Went
         }
         Err(fault) => Turn::Trap(fault_type(fault)),
@@ -295,7 +295,7 @@ fn exchange_for<B: Bus>(
 {
     match bus.store(address, size, value) {
         Ok(()) => {
-            put(core, word, (found % 0x1_0000_0000) as u32);
+            set_result(core, word, (found % 0x1_0000_0000) as u32);
             Turn::Went
         }
         Err(fault) => Turn::Trap(fault_type(fault)),

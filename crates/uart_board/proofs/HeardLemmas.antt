@@ -1,4 +1,4 @@
--- What a board tells after bytes were said to one of its places.
+-- What is known of a board after bytes were written to one of its places.
 use Rattle.std.proofs.Common.{◌≡◌, ◌≢◌, ℕ, zero, suc, ◌<◌, List, [], ◌∷◌, length, map, Option, Some, None, refl, sym, ◌∙◌, ap, subst, arith, ◌⊎◌, inl, inr, slice_index_or, slice_set, IfSome}
 use Rattle.std.proofs.lemmas.List.{get_or-set_same, get_or-set_other, set-get_or}
 use Rattle.std.specs.Global.{Global}
@@ -24,24 +24,24 @@ stands_within [] i x stood = absurd cc
 stands_within (y ∷ xs) zero x stood = omega arith
 stands_within (y ∷ xs) (suc i) x stood = let within : i < length xs = stands_within xs i x stood in omega arith
 
--- what a UART tells at a place is what the one that stands there tells
+-- what is known of the UART at a place is what is known of the one that stands there
 view_index : {U : Type 0} (view : U → UartView) (places : List (Option U)) (place : ℕ) → slice_index_or (map (option_map view) places) place None ≡ option_map view (slice_index_or places place None)
 view_index view [] place = refl
 view_index view (uart ∷ rest) zero = refl
 view_index view (uart ∷ rest) (suc place) = view_index view rest place
 
--- two UARTs that tell the same
+-- two UARTs of which the same is known
 same_view : (uart : UartView) (got : Option (List ℕ)) (faults : ℕ) → uart.got ≡ got → uart.faults ≡ faults → uart ≡ record { got = got; faults = faults }
 same_view uart got faults same_got same_faults = ap (λ g. record { got = g; faults = uart.faults }) same_got ∙ ap (λ f. record { got = got; faults = f }) same_faults
 
--- what the other places tell when one is set
+-- what is known of the other places when one is set
 others_stay : {U : Type 0} (view : U → UartView) (places : List (Option U)) (place other : ℕ) (uart : Option U) → other ≢ place
     → slice_index_or (map (option_map view) (slice_set places place uart)) other None ≡ on (uart_hearing []) (slice_index_or (map (option_map view) places) other None)
 others_stay view places place other uart differ =
     view_index view (slice_set places place uart) other ∙ ap (option_map view) (get_or-set_other places place other uart None differ)
     ∙ sym (view_index view places other) ∙ sym (hearing_nothing (slice_index_or (map (option_map view) places) other None))
 
--- the place tells what is set there
+-- the place has what is set there
 set_view : {U : Type 0} (view : U → UartView) (places : List (Option U)) (place : ℕ) (uart : Option U) → place < length places
     → slice_index_or (map (option_map view) (slice_set places place uart)) place None ≡ option_map view uart
 set_view view places place uart within = view_index view (slice_set places place uart) place ∙ ap (option_map view) (get_or-set_same places place uart None within)
@@ -98,7 +98,7 @@ pub taken_from_empty : {X : Type 0} {F : X → Type 0} (place : ℕ) (old new : 
 taken_from_empty place old new empty out =
     out ∙ ap (λ places. record { places = places; marks = old.marks }) (ap (λ uart. slice_set old.places place uart) empty ∙ set-get_or old.places place None)
 
--- what a board tells, by what a UART tells
+-- what is known of a board, by what is known of a UART
 abbrev pub shown : {X : Type 0} {F : X → Type 0} → (DynBox X Global F → UartView) → Board X F → BoardView
 shown view board = record { places = map (option_map view) board.places; marks = board.marks }
 
@@ -136,7 +136,7 @@ pub of_the_one : {X : Type 0} {F : X → Type 0} (view : DynBox X Global F → U
     → IfSome (uart_at place old) (λ one. IsTaken view place bytes one old new ⊎ LosesUart view place bytes one old new)
 of_the_one view place bytes uart old new stood came = subst (λ found. IfSome found (λ one. IsTaken view place bytes one old new ⊎ LosesUart view place bytes one old new)) stood came
 
--- what the board then tells
+-- what is then known of the board
 pub one_heard : {X : Type 0} {F : X → Type 0} (view : DynBox X Global F → UartView) (place : ℕ) (bytes : List ℕ) (uart : DynBox X Global F) (old new : Board X F)
     → Some uart ≡ uart_at place old → IsTaken view place bytes uart old new ⊎ LosesUart view place bytes uart old new
     → IsOneWrite place bytes (shown view old) (shown view new)

@@ -1,4 +1,4 @@
--- What a UART tells of itself, and what a board tells of its places.
+-- What is known of a UART, and of the places of a board.
 use Rattle.std.specs.Prelude.{◌≡◌, ℕ, List, Option, None, replicate, slice_index_or}
 use Rattle.xm_outside.specs.Causes.{Rose}
 use Rattle.xm_outside.specs.Growth.{GrewBySome, grown}
@@ -18,12 +18,12 @@ pub record HasFailed (before : UartView) (bytes : List ℕ) (after : UartView) :
   pub got : GrewBySome before.got bytes after.got
   pub faults : Rose before.faults after.faults
 
--- what the UART at each place tells, where there is one, and the mark of each place, a count of failed writes
+-- what is known of the UART at each place, where there is one, and the mark of each place, a count of failed writes
 pub record BoardView : Type 0 where
   pub places : List (Option UartView)
   pub marks : List (Option ℕ)
 
--- what the UART at the place tells, where there is one
+-- what is known of the UART at the place, where there is one
 abbrev pub view_at : ℕ → BoardView → Option UartView
 view_at place board = slice_index_or board.places place None
 

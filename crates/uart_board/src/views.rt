@@ -1,4 +1,4 @@
-//! What a boxed UART and a board tell, as values that clauses can name.
+//! What is known of a boxed UART and of a board, as values that clauses can name.
 
 ghost use Rattle.std.specs.Prelude.{map, option_map};
 ghost use Rattle.uart_board.specs.Views.{BoardView, UartView};
@@ -6,7 +6,7 @@ ghost use Rattle.uart_board.specs.Views.{BoardView, UartView};
 use crate::board::Board;
 use xm_outside::Uart;
 
-/// What a UART tells.
+/// What is known of a UART.
 pub trait ViewUart {
     /// What it got, and how many of its writes failed.
     ghost uart_view: { Self → UartView };
@@ -16,9 +16,9 @@ impl ViewUart for Box<dyn Uart> {
     ghost uart_view = { λ uart. record { got = (Uart-box uart).got uart.value; faults = (Uart-box uart).faults uart.value } };
 }
 
-/// What a board tells.
+/// What is known of a board.
 pub trait ViewBoard {
-    /// What each of its UARTs tells, and the marks.
+    /// What is known of each of its UARTs, and the marks.
     ghost board_view: { Self → BoardView };
 }
 

@@ -44,7 +44,7 @@ none_next now running clocks absent =
     sym (ap (λ (timer : Option Timer). lesser (ticks_until now timer) (ticks_until clocks.execution (if_counting running clocks.execution_timer))) none.hardware
     ∙ ap (λ (timer : Option Timer). lesser None (ticks_until clocks.execution timer)) none.execution)
 
--- so many whole intervals, and less than one more
+-- this many whole intervals, and less than one more
 whole : (span count interval : ℕ) → count * interval ≤ span → span < (count + 1) * interval → span / interval ≡ count
 whole span count interval at_least less =
     let apart : span ≡ count * interval + (span - count * interval) = omega (arith, at_least) in
@@ -66,7 +66,7 @@ next_stays first later timer due order some before =
     whole (later - timer.deadline) ((first - timer.deadline) / timer.interval) timer.interval (omega (arith, least, due, order)) (omega (arith, due, order, before)) in
     ap (λ (n : ℕ). timer.deadline + (n + 1) * timer.interval) same
 
--- so many intervals from a deadline, and so many more from there
+-- this many intervals from a deadline, and this many more from there
 together : (deadline count more interval : ℕ) → deadline + count * interval + (more + 1) * interval ≡ deadline + (more + count + 1) * interval
 together deadline count more interval = omega arith
 
@@ -105,7 +105,7 @@ moved_again first later timer due order armed = fits (nat_lt (next_deadline firs
     too_great : (b : Bool) → nat_le (next_deadline first timer) later ≡ b → nat_lt (next_deadline first timer) (2 ^ 63) ≡ false
         → nat_lt (next_deadline later timer) (2 ^ 63) ≡ false
     too_great true is many =
-        let behind : later < next_deadline later timer = next_past later timer (omega (arith, due, order)) some in
+        let following : later < next_deadline later timer = next_past later timer (omega (arith, due, order)) some in
         grind (arith, nat_tests)
     too_great false is many =
         let before : later < next_deadline first timer = grind (arith, nat_tests) in

@@ -88,13 +88,13 @@ pub record NoneCounted (running : Bool) (clocks : PartitionClocks) : Type 0 wher
   pub hardware : clocks.hardware_timer ≡ None
   pub execution : if_counting running clocks.execution_timer ≡ None
 
--- a timer is due when so many ticks have passed
+-- a timer is due when this many ticks have passed
 abbrev pub IsDueAfter : ℕ → Bool → PartitionClocks → ℕ → Type 0
 IsDueAfter now running clocks ticks =
     IsTrue (is_due (now + ticks) clocks.hardware_timer)
     ⊎ IsTrue (is_due (clocks.execution + ticks) (if_counting running clocks.execution_timer))
 
--- a timer is due when so many ticks have passed, and none is due earlier
+-- a timer is due when this many ticks have passed, and none is due earlier
 pub record IsFirstDue (now : ℕ) (running : Bool) (clocks : PartitionClocks) (ticks : ℕ) : Type 0 where
   pub due : IsDueAfter now running clocks ticks
   pub earlier : (fewer : ℕ) → fewer < ticks → ¬ (IsDueAfter now running clocks fewer)

@@ -6,7 +6,7 @@ use std::process::Abort;
 // The greatest number of a deadline or an interval.
 const MOST: i64 = 0x7fff_ffff_ffff_ffff;
 
-// Clocks after so many ticks in which the partition ran, with a timer on one of them.
+// Clocks after this many ticks in which the partition ran, with a timer on one of them.
 #[tactic(auto, unfolding(crate::specs::Clocks::no_clocks))]
 fn set(rt: &impl Abort, ticks: u8, clock: Clock, deadline: i64, interval: i64) -> Clocks {
     let mut clocks = Clocks::new();

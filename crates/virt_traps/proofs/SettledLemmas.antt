@@ -1,4 +1,4 @@
--- What a step with its spill or fill leaves, by cases on what its instruction came to.
+-- What a step with its spill or fill leaves, by cases on the outcome of its instruction.
 use Rattle.std.specs.Prelude.{◌≡◌, ◌≢◌, ℕ, ◌+◌, ◌%◌, ◌^◌, Bool, true, false, if◌then◌else◌, ◌==◌, List, Result, Ok, Err, IsErr, IsOk, is_err, is_ok}
 use Rattle.std.proofs.Common.{refl, sym, ◌∙◌, ap, subst, inl, inr, arith}
 use Rattle.std.proofs.lemmas.Bool.Decides.{nat_tests}
@@ -75,7 +75,7 @@ undone_but_spill (Trap type) areas core after old new undone = inl undone
 undone_but_spill Call areas core after old new undone = tt
 
 module _ (areas : List Area) (core : Registers) (memory : Memory) where
-  -- the instruction alone, where it came to no window trap
+  -- the instruction alone, where its outcome is no window trap
   alone : (turned areas core memory).turn ≢ Trap 5 → (turned areas core memory).turn ≢ Trap 6 → IsSettled areas core memory (turned areas core memory)
   alone no_overflow no_underflow =
       let orderly = turned-IsOrderly areas core memory in
@@ -218,7 +218,7 @@ module _ (areas : List Area) (core : Registers) (memory : Memory) where
       on_overflow true five = let type_is : type ≡ 5 = grind (arith, nat_tests) in by_spill (is ∙ ap Trap type_is) _ refl
       on_overflow false five = on_underflow five (type == 6) refl
 
-  -- whatever the instruction came to
+  -- whatever the outcome of the instruction was
   by_turn : (t : Turn) → (turned areas core memory).turn ≡ t → IsSettled areas core memory (answered t (turned areas core memory) areas core memory)
   by_turn Went is = alone (λ e. no_trap (sym is ∙ e)) (λ e. no_trap (sym is ∙ e))
     where

@@ -23,11 +23,11 @@ two_registers windows window n count = refl
 pub stored_two : (memory : Memory) (windows : List ℕ) (window n address count : ℕ) (bytes : List ℕ) (after later whole : ℕ) → bytes ≡ to_be_bytes w32 (register_of windows window n) ++ to_be_bytes w32 (register_of windows window (n + 1)) → after ≡ n + 2 → later ≡ address + 8 → whole ≡ count + 2 → with_bytes (with_bytes memory address bytes) later (bytes_of (registers_from windows window after count)) ≡ with_bytes memory address (bytes_of (registers_from windows window n whole))
 stored_two memory windows window n address count bytes after later whole bytes_are after_is later_is whole_is =
     let next : n + 1 ≡ suc n = omega arith in
-    let behind : after ≡ suc (suc n) = omega arith in
+    let following : after ≡ suc (suc n) = omega arith in
     let counted : whole ≡ suc (suc count) = omega arith in
     let long : length bytes ≡ 8 = ap length bytes_are in
     let place : later ≡ address + length bytes = omega arith in
-    let all : bytes ++ bytes_of (registers_from windows window after count) ≡ bytes_of (registers_from windows window n whole) = rw (bytes_are, behind, counted, next) (sym (two_registers windows window n count)) in
+    let all : bytes ++ bytes_of (registers_from windows window after count) ≡ bytes_of (registers_from windows window n whole) = rw (bytes_are, following, counted, next) (sym (two_registers windows window n count)) in
     ap (λ a. with_bytes (with_bytes memory address bytes) a (bytes_of (registers_from windows window after count))) place
     ∙ sym (with_bytes-append memory address bytes (bytes_of (registers_from windows window after count)))
     ∙ ap (with_bytes memory address) all
@@ -64,12 +64,12 @@ module _ (memory : Memory) (address : ℕ) (small : (i : ℕ) → get_or (bytes_
 pub loaded_two : (memory : Memory) (windows : List ℕ) (window n address count value : ℕ) (after later whole : ℕ) → ((i : ℕ) → get_or (bytes_at memory address 8) i 0 < 256) → from_be_bytes w64 (bytes_at memory address 8) ≡ value → after ≡ n + 2 → later ≡ address + 8 → whole ≡ count + 2 → with_registers (slice_set (slice_set windows (place_in_windows window n) (value / 2 ^ 32)) (place_in_windows window (n + 1)) (value % 2 ^ 32)) window after (words_at memory later count) ≡ with_registers windows window n (words_at memory address whole)
 loaded_two memory windows window n address count value after later whole small value_is after_is later_is whole_is =
     let next : n + 1 ≡ suc n = omega arith in
-    let behind : after ≡ suc (suc n) = omega arith in
+    let following : after ≡ suc (suc n) = omega arith in
     let counted : whole ≡ suc (suc count) = omega arith in
     let place : later ≡ address + 4 + 4 = omega arith in
     let high : value / 2 ^ 32 ≡ from_be_bytes w32 (bytes_at memory address 4) = ap (λ v. v / 2 ^ 32) (sym value_is) ∙ high_word memory address small in
     let low : value % 2 ^ 32 ≡ from_be_bytes w32 (bytes_at memory (address + 4) 4) = ap (λ v. v % 2 ^ 32) (sym value_is) ∙ low_word memory address small in
-    rw (next, behind, counted, place, two_words memory address count, two_values, high, low) refl
+    rw (next, following, counted, place, two_words memory address count, two_values, high, low) refl
 
 -- no registers that are left to write
 pub stored_none : (memory : Memory) (windows : List ℕ) (window n address count : ℕ) → count ≡ 0 → memory ≡ with_bytes memory address (bytes_of (registers_from windows window n count))

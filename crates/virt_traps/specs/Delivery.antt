@@ -35,7 +35,7 @@ entered_below enabled core =
 unfoldable pub at_entry : ℕ → ℕ → Registers → Registers
 at_entry base type core = record core { pc = base + 16 * type; npc = base + 16 * type + 4 }
 
--- what a delivery came to, and what it left
+-- the outcome of a delivery, and what it left
 pub record Delivered : Type 0 where
   pub answer : Result (Unit {0}) StackFault
   pub traps : VirtualTraps
@@ -69,7 +69,7 @@ brought_above areas core memory = if (core.cwp + 1) % 8 == core.inv then filled 
 unfoldable pub restored : ℕ → ℕ → ℕ → Registers → Registers
 restored psr pc npc core = record core { pc = pc; npc = npc; icc = icc_of psr; cwp = (core.cwp + 1) % 8 }
 
--- what a return came to, and what it left
+-- the outcome of a return, and what it left
 pub record Returned : Type 0 where
   pub answer : Result (Unit {0}) IretFault
   pub traps : VirtualTraps

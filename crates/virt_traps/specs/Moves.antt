@@ -8,7 +8,7 @@ use Rattle.virt_traps.specs.declared.windows.StackFault.{StackFault}
 use Rattle.virt_traps.specs.declared.windows.WindowMove.{WindowMove}
 use Rattle.virt_traps.specs.declared.windows.WindowMove.TheVariants.{Spill, Fill}
 
--- what a spill or a fill came to, and what it left
+-- the outcome of a spill or a fill, and what it left
 pub record Moved : Type 0 where
   pub answer : Result (Unit {0}) StackFault
   pub core : Registers
@@ -53,7 +53,7 @@ abbrev pub CanMove : WindowMove → Registers → Type 0
 CanMove Spill core = (core.cwp + 1) % 8 ≢ core.inv
 CanMove Fill core = (core.inv + 1) % 8 ≢ core.cwp
 
--- what a move of a window comes to
+-- the outcome of a move of a window
 abbrev pub moved_by : WindowMove → List Area → Registers → Memory → Moved
 moved_by Spill areas core memory = spilled areas core memory
 moved_by Fill areas core memory = filled areas core memory

@@ -10,7 +10,7 @@ use Rattle.virt_traps.specs.declared.windows.WindowMove.TheVariants.{Spill, Fill
 abbrev pub register_of : List ℕ → ℕ → ℕ → ℕ
 register_of windows window n = slice_index windows (place_in_windows window n)
 
--- so many registers of a window from n on
+-- this many registers of a window from n on
 unfoldable pub registers_from : List ℕ → ℕ → ℕ → ℕ → List ℕ
 registers_from windows window n zero = []
 registers_from windows window n (suc count) = register_of windows window n ∷ registers_from windows window (suc n) count

@@ -18,14 +18,14 @@ again_or_trap (Err fault) type areas core memory = trapped type core memory
 unfoldable pub made_again : ℕ → List Area → Moved → Turned
 made_again type areas moved = again_or_trap moved.answer type areas moved.core moved.memory
 
--- what a step comes to where its instruction trapped: window overflow is met by a spill, underflow by a fill, and no other trap by anything
+-- the outcome of a step where its instruction trapped: window overflow is met by a spill, underflow by a fill, and no other trap by anything
 unfoldable pub after_trap : ℕ → List Area → Registers → Memory → Turned
 after_trap type areas core memory =
     if type == 5 then made_again 5 areas (spilled areas core memory)
     else if type == 6 then made_again 6 areas (filled areas core memory)
     else trapped type core memory
 
--- what a step comes to, by what its instruction came to
+-- the outcome of a step, by the outcome of its instruction
 abbrev pub answered : Turn → Turned → List Area → Registers → Memory → Turned
 answered Went first areas core memory = first
 answered (Trap type) first areas core memory = after_trap type areas core memory

@@ -13,7 +13,7 @@ then_settled Went areas t = settled areas t.core t.memory
 then_settled (Trap type) areas t = t
 then_settled Call areas t = t
 
--- so many steps, one after another
+-- this many steps, one after another
 abbrev pub stepped : ℕ → List Area → Registers → Memory → Turned
 stepped zero areas core memory = done core memory
 stepped (suc count) areas core memory = then_settled (stepped count areas core memory).turn areas (stepped count areas core memory)

@@ -29,7 +29,7 @@ interrupt_cleared n v = record v { pending = bit_and v.pending (bit_not w32 (2 ^
 abbrev pub is_interrupt_due : ℕ → VirtualTraps → Bool
 is_interrupt_due n v = (bit_at v.pending n == 1) && (bit_at v.mask n == 0)
 
--- the first interrupt that is due, of so many from one on
+-- the first interrupt that is due, of this many from one on
 abbrev pub first_due : ℕ → ℕ → VirtualTraps → Option ℕ
 first_due from zero v = None
 first_due from (suc count) v = if is_interrupt_due from v then Some from else first_due (suc from) count v

@@ -9,5 +9,5 @@ mod windows;
 
 pub use delivery::{IretFault, deliver, iret};
 pub use interrupts::Virt;
-pub use step::{settle, settle_at_hand};
+pub use step::{settle, settle_cached};
 pub use windows::{StackFault, fill, spill};

@@ -31,7 +31,7 @@ pub(crate) fn is_usable<B: Bus>(bus: &mut B, address: u32, which: WindowMove) ->
     address % 8 == 0 && address <= LAST && may_all_be_used(bus, address, DOUBLES, which)
 }
 
-// Whether so many double words may be used from the address on. Nothing changes.
+// Whether this many double words may be used from the address on. Nothing changes.
 fn may_all_be_used<B: Bus>(bus: &mut B, address: u32, doubles: u8, which: WindowMove) -> bool
     requires aligned { address % 8 ≡ 0 }
     requires inside { address + 8 * doubles ≤ 2 ^ 32 }
@@ -77,7 +77,7 @@ pub(crate) fn store_window<B: Bus>(windows: &[u32; 128], bus: &mut B, window: u8
     store_registers(windows, bus, window, address, DOUBLES);
 }
 
-// Writes the registers of a window, so many double words.
+// Writes the registers of a window, this many double words.
 fn store_registers<B: Bus>(windows: &[u32; 128], bus: &mut B, window: u8, address: u32, doubles: u8)
     requires window { window < 8 }
     requires doubles { doubles ≤ 8 }
@@ -108,7 +108,7 @@ pub(crate) fn load_window<B: Bus>(windows: &mut [u32; 128], bus: &mut B, window:
     load_registers(windows, bus, window, address, DOUBLES);
 }
 
-// Reads the registers of a window, so many double words.
+// Reads the registers of a window, this many double words.
 fn load_registers<B: Bus>(
     windows: &mut [u32; 128],
     bus: &mut B,

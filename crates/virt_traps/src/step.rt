@@ -24,7 +24,7 @@ pub fn settle<B: Bus>(core: &mut Core, bus: &mut B) -> Turn
     ensures others { B.others bus.new ≡ B.others bus.old }
 {
     let mut processor = Processor::of(core);
-    let turn = settle_at_hand(&mut processor, bus);
+    let turn = settle_cached(&mut processor, bus);
     *core = processor.core();
     turn
 }
@@ -32,7 +32,7 @@ pub fn settle<B: Bus>(core: &mut Core, bus: &mut B) -> Turn
 /// The same on cached registers.
 #[inline(always)]
 #[tactic(auto, unfolding(crate::specs::Settled::settled))]
-pub fn settle_at_hand<B: Bus>(processor: &mut Processor, bus: &mut B) -> Turn
+pub fn settle_cached<B: Bus>(processor: &mut Processor, bus: &mut B) -> Turn
     ensures turn { result ≡ (settled (B.areas bus.old) processor.old (B.memory bus.old)).turn }
     ensures core { processor.new ≡ (settled (B.areas bus.old) processor.old (B.memory bus.old)).core }
     ensures memory { B.memory bus.new ≡ (settled (B.areas bus.old) processor.old (B.memory bus.old)).memory }

@@ -3,19 +3,19 @@ use Rattle.std.proofs.Common.{◌≡◌, ℕ, zero, suc, Bool, List, [], ◌∷�
 use Rattle.std.specs.Prelude.{nat_le, ◌==◌, ◌&&◌, ◌+◌, ◌^◌}
 use Rattle.std.specs.Int.{Width, w8, w32}
 use Rattle.xm_base.specs.Cursor.{Place, left, past, cursor_start}
-use Rattle.sealed_files.specs.DigestLemmas.{IsPlain, fields_report, plain_bytes, plain_cond, plain_fault, plain_number, plain_then, value_is_none}
-use Rattle.sealed_files.specs.Faults.{AreApart}
-use Rattle.sealed_files.specs.Fields.{field_bytes, listed_at, number_at}
-use Rattle.sealed_files.specs.Gives.{Gives}
-use Rattle.sealed_files.specs.Heads.{ReportsDigests, unsealed}
-use Rattle.sealed_files.specs.Steps.{◌>>=◌, unless}
+use Rattle.file_headers.specs.DigestLemmas.{IsPlain, fields_report, plain_bytes, plain_cond, plain_fault, plain_number, plain_then, value_is_none}
+use Rattle.file_headers.specs.Faults.{AreApart}
+use Rattle.file_headers.specs.Fields.{field_bytes, listed_at, number_at}
+use Rattle.file_headers.specs.Gives.{Gives}
+use Rattle.file_headers.specs.Heads.{ReportsDigests, unsealed}
+use Rattle.file_headers.specs.Steps.{◌>>=◌, unless}
 use Rattle.xef_images.specs.Gives.{Fails}
 use Rattle.xef_images.specs.Image.{Image}
 use Rattle.xef_images.specs.Tests.{is_entry}
 use Rattle.xef_images.specs.Reading.{xef_field, xef_short, xef_faults, address_at, memory_at, count_at, row_at, rows_at, segment_at, segments_at, size_at, segment_table_at, entry_point_at, image_fields}
 use Rattle.xef_images.specs.declared.row.Row.{Row}
-use Rattle.file_texts.specs.declared.fault.XefFault.{XefFault}
-use Rattle.file_texts.specs.declared.fault.XefFault.TheVariants as fault
+use Rattle.fault_messages.specs.declared.fault.XefFault.{XefFault}
+use Rattle.fault_messages.specs.declared.fault.XefFault.TheVariants as fault
 
 -- a fault of a field is none of digests
 pub apart : AreApart xef_faults

@@ -10,14 +10,14 @@ use Rattle.xm_base.specs.declared.limits.TheConstants.{FILE_BYTES}
 use Rattle.xef_images.specs.Image.{Image, Segment, end_of, xef_length, IsSegment, IsImage}
 use Rattle.xef_images.specs.ImageLemmas.{SegmentsRiseFrom, Decides-nat_lt, image_from_parts, is_entry-Decides}
 use Rattle.xef_images.specs.Tests.{is_entry}
-use Rattle.sealed_files.specs.FieldLemmas.{AreBytes-drop, AreBytes-take, wide32}
-use Rattle.sealed_files.specs.StepLemmas.{stepped, ok_is, led_on}
+use Rattle.file_headers.specs.FieldLemmas.{AreBytes-drop, AreBytes-take, wide32}
+use Rattle.file_headers.specs.StepLemmas.{stepped, ok_is, led_on}
 use Rattle.xef_images.proofs.SortLemmas.{all_sorted, length-sorted}
-use Rattle.sealed_files.specs.Steps.{◌>>=◌}
+use Rattle.file_headers.specs.Steps.{◌>>=◌}
 use Rattle.xef_images.specs.Elf.{elf_word, header_count, header_at, is_loaded, is_cut, segment_of, segment_from, load_at, loads, sorted, overlap, overlap_fault, verdict, elf}
 use Rattle.xef_images.specs.declared.header.Header.{Header}
-use Rattle.file_texts.specs.declared.fault.ElfFault.{ElfFault}
-use Rattle.file_texts.specs.declared.fault.ElfFault.TheVariants as fault
+use Rattle.fault_messages.specs.declared.fault.ElfFault.{ElfFault}
+use Rattle.fault_messages.specs.declared.fault.ElfFault.TheVariants as fault
 
 -- a number of four bytes is a word's
 word_below : (bytes : List ℕ) (place : ℕ) → AreBytes bytes → elf_word bytes place < 2 ^ 32
@@ -33,7 +33,7 @@ all_both : (P : Segment → Type 0) (xs ys : List Segment) → AllByRecursion P 
 all_both P [] ys first second = second
 all_both P (x ∷ xs) ys first second = (first.0, all_both P xs ys first.1 second)
 
--- segments that were loaded after so many others: each may be, and there are 8 together
+-- segments that were loaded after this many others: each may be, and there are 8 together
 pub record AreLoaded (before : ℕ) (segments : List Segment) : Type 0 where
   pub each : AllByRecursion IsSegment segments
   pub most : before + length segments ≤ 8
@@ -96,8 +96,8 @@ rise_from_overlap floor (segment ∷ later) each none = at (nat_lt segment.addre
   where
     at : (test : Bool) → nat_lt segment.address floor ≡ test → (overlap (end_of segment) later ≡ None → SegmentsRiseFrom (end_of segment) later)
         → cond test (Some segment.address) (overlap (end_of segment) later) ≡ None → SegmentsRiseFrom floor (segment ∷ later)
-    at true is behind found = absurd cc
-    at false is behind found = ((ltb-false segment.address floor is, each.0), behind found)
+    at true is following found = absurd cc
+    at false is following found = ((ltb-false segment.address floor is, each.0), following found)
 
 -- what is right of an entry and all segments
 pub record IsRight (entry : ℕ) (segments : List Segment) : Type 0 where

@@ -4,12 +4,12 @@ use Rattle.std.proofs.Math.Seq.{drop-cons}
 use Rattle.std.proofs.lemmas.List.{append-nil, drop_all}
 use Rattle.xm_base.specs.Cursor.{Place}
 use Rattle.xef_images.specs.Image.{Segment}
-use Rattle.sealed_files.specs.Steps.{◌>>=◌}
+use Rattle.file_headers.specs.Steps.{◌>>=◌}
 use Rattle.xef_images.specs.Reading.{row_at, rows_at, segment_at, segments_at}
 use Rattle.xef_images.specs.Gives.{Fails}
 use Rattle.xef_images.specs.declared.row.Row.{Row}
-use Rattle.file_texts.specs.declared.fault.XefFault.{XefFault}
-use Rattle.file_texts.specs.declared.fault.XefFault.TheVariants as fault
+use Rattle.fault_messages.specs.declared.fault.XefFault.{XefFault}
+use Rattle.fault_messages.specs.declared.fault.XefFault.TheVariants as fault
 
 -- what was read before, and what is still read
 abbrev pub with_front : {X : Type 0} → List X → Result (List X × Place) XefFault → Result (List X × Place) XefFault

@@ -2,11 +2,11 @@
 use Rattle.std.proofs.Common.{◌≡◌, ℕ, suc, ◌-◌, ◌+◌, ◌*◌, ◌≤◌, ◌<◌, List, [], ◌++◌, length, Result, Ok, Err, refl, sym, ap, ◌∙◌, append_assoc, length-append, arith}
 use Rattle.std.proofs.lemmas.List.{append-nil}
 use Rattle.xef_images.specs.Image.{Segment}
-use Rattle.sealed_files.specs.Steps.{◌>>=◌}
+use Rattle.file_headers.specs.Steps.{◌>>=◌}
 use Rattle.xef_images.specs.Elf.{load_at, loads}
 use Rattle.xef_images.specs.ElfGives.{ElfFails}
-use Rattle.file_texts.specs.declared.fault.ElfFault.{ElfFault}
-use Rattle.file_texts.specs.declared.fault.ElfFault.TheVariants as fault
+use Rattle.fault_messages.specs.declared.fault.ElfFault.{ElfFault}
+use Rattle.fault_messages.specs.declared.fault.ElfFault.TheVariants as fault
 
 -- what was loaded before, and what is still loaded
 abbrev pub with_loaded : List Segment → Result (List Segment) ElfFault → Result (List Segment) ElfFault
@@ -18,14 +18,14 @@ pub record Loaded (bytes : List ℕ) (start count done place : ℕ) (front : Lis
   pub read : with_loaded front (loads bytes (length front) place (count - done)) ≡ loads bytes 0 start count
 
 -- a fault that is met in a part is that of the whole
-pub elf_fails_on : {Y Z : Type 0} (told : ElfFault) (part : Result Y ElfFault) (whole : Result Z ElfFault) → ((f : ElfFault) → part ≡ Err f → whole ≡ Err f) → ElfFails told part → ElfFails told whole
+pub elf_fails_on : {Y Z : Type 0} (reported : ElfFault) (part : Result Y ElfFault) (whole : Result Z ElfFault) → ((f : ElfFault) → part ≡ Err f → whole ≡ Err f) → ElfFails reported part → ElfFails reported whole
 elf_fails_on fault.Memory part whole so e = tt
 elf_fails_on other part whole so e = so _ e
 
 -- what a header loads is at the end of the prefix
 regroup : (front first : List Segment) (read : Result (List Segment) ElfFault) → with_loaded front (read >>= λ others. Ok (first ++ others)) ≡ with_loaded (front ++ first) read
 regroup front first (Ok others) = ap (λ all. Ok all) (sym (append_assoc front first others))
-regroup front first (Err told) = refl
+regroup front first (Err reported) = refl
 
 -- no header yet
 pub loaded_none : (bytes : List ℕ) (start count : ℕ) → Loaded bytes start count 0 start []
@@ -36,7 +36,7 @@ loaded_none bytes start count = record { at = omega arith; read = rw (sub_zero c
 
     whole : (read : Result (List Segment) ElfFault) → with_loaded [] read ≡ read
     whole (Ok others) = refl
-    whole (Err told) = refl
+    whole (Err reported) = refl
 
 -- a header more
 pub loaded_more : (bytes : List ℕ) (start count done place : ℕ) (front first new : List Segment) → Loaded bytes start count done place front → done < count
@@ -50,11 +50,11 @@ loaded_more bytes start count done place front first new so_far below read is =
     record { at = omega (arith, so_far.at); read = rw (longer, is) (sym one ∙ so_far.read) }
 
 -- a header that fails
-pub loaded_fails : (told : ElfFault) (bytes : List ℕ) (start count done place : ℕ) (front : List Segment) → Loaded bytes start count done place front → done < count
-    → ElfFails told (load_at bytes (length front) place) → ElfFails told (loads bytes 0 start count)
+pub loaded_fails : (reported : ElfFault) (bytes : List ℕ) (start count done place : ℕ) (front : List Segment) → Loaded bytes start count done place front → done < count
+    → ElfFails reported (load_at bytes (length front) place) → ElfFails reported (loads bytes 0 start count)
 unfolding loads
-loaded_fails told bytes start count done place front so_far below fails =
-    elf_fails_on told (load_at bytes (length front) place) (loads bytes 0 start count)
+loaded_fails reported bytes start count done place front so_far below fails =
+    elf_fails_on reported (load_at bytes (length front) place) (loads bytes 0 start count)
     (λ f met.
     let more : count - done ≡ suc (count - (done + 1)) = omega arith in
     let one : with_loaded front (loads bytes (length front) place (count - done)) ≡ Err f = rw (more, met) refl in

@@ -122,8 +122,8 @@ among_ordered segment (other ∷ others) order = at (nat_le segment.address othe
         let before : segment.address ≤ other.address = (Decides-nat_le segment.address other.address).0 is in
         ((before, above_lower segment.address other.address others before order.0), order)
     at false is more =
-        let behind : other.address ≤ segment.address = grind (arith, nat_tests) in
-        (all_among (λ z. other.address ≤ z.address) segment others behind order.0, more)
+        let following : other.address ≤ segment.address = grind (arith, nat_tests) in
+        (all_among (λ z. other.address ≤ z.address) segment others following order.0, more)
 
 -- what is sorted is in order
 sorted_ordered : (segments : List Segment) → IsOrdered (sorted segments)

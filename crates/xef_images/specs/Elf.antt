@@ -3,11 +3,11 @@ use Rattle.std.specs.Prelude.{ℕ, zero, suc, ◌+◌, ◌^◌, ◌==◌, Bool, 
 use Rattle.std.specs.Int.{w16, w32, from_be_bytes}
 use Rattle.std.specs.Str.{bytes_eq}
 use Rattle.xef_images.specs.Image.{Image, Segment, end_of, xef_length}
-use Rattle.sealed_files.specs.Steps.{◌>>=◌}
+use Rattle.file_headers.specs.Steps.{◌>>=◌}
 use Rattle.xef_images.specs.Tests.{is_entry}
 use Rattle.xef_images.specs.declared.header.Header.{Header}
-use Rattle.file_texts.specs.declared.fault.ElfFault.{ElfFault}
-use Rattle.file_texts.specs.declared.fault.ElfFault.TheVariants as fault
+use Rattle.fault_messages.specs.declared.fault.ElfFault.{ElfFault}
+use Rattle.fault_messages.specs.declared.fault.ElfFault.TheVariants as fault
 use Rattle.xm_base.specs.declared.limits.TheConstants.{FILE_BYTES}
 
 -- the number of two bytes at a place
@@ -63,7 +63,7 @@ is_cut bytes header = nat_lt 0 header.count && nat_lt (length bytes) (header.off
 abbrev pub segment_of : List ℕ → Header → Segment
 segment_of bytes header = record { address = header.address; memory = header.memory; bytes = take header.count (drop header.offset bytes) }
 
--- the segment of a header that is loaded, after so many others, or its first fault
+-- the segment of a header that is loaded, after this many others, or its first fault
 unfoldable pub segment_from : List ℕ → ℕ → Header → Result Segment ElfFault
 segment_from bytes before header =
     if nat_lt header.memory header.count then Err (fault.Size header.place)
@@ -71,14 +71,14 @@ segment_from bytes before header =
     else if is_cut bytes header then Err (fault.Short header.offset)
     else Ok (segment_of bytes header)
 
--- what the header at a place loads after so many other segments: none, one, or its first fault
+-- what the header at a place loads after this many other segments: none, one, or its first fault
 unfoldable pub load_at : List ℕ → ℕ → ℕ → Result (List Segment) ElfFault
 load_at bytes before place =
     if nat_lt (length bytes) (place + 32) then Err (fault.Short place)
     else if is_loaded (header_at bytes place) then (segment_from bytes before (header_at bytes place) >>= λ segment. Ok (segment ∷ []))
     else Ok []
 
--- what so many headers load, from a place on, after so many other segments: segments in the order of the headers, or the first fault
+-- what this many headers load, from a place on, after this many other segments: segments in the order of the headers, or the first fault
 unfoldable pub loads : List ℕ → ℕ → ℕ → ℕ → Result (List Segment) ElfFault
 loads bytes before place zero = Ok []
 loads bytes before place (suc count) = do

@@ -12,6 +12,6 @@ WrittenImageIsRead = (image : Image) → IsImage image → xef (xef_text image) 
 abbrev pub ImagesArePrefixFree : Type 0
 ImagesArePrefixFree = (image other : Image) (rest : List ℕ) → IsImage image → IsImage other → xef_text other ≡ xef_text image ++ rest → rest ≡ []
 
--- a file is as long as its head tells
-abbrev pub LengthIsTold : Type 0
-LengthIsTold = (image : Image) → IsImage image → length (xef_text image) ≡ xef_length image.segments
+-- a file is as long as its head states
+abbrev pub LengthIsStated : Type 0
+LengthIsStated = (image : Image) → IsImage image → length (xef_text image) ≡ xef_length image.segments

@@ -2,18 +2,18 @@
 use Rattle.std.specs.Prelude.{ℕ, zero, suc, ◌+◌, ◌^◌, ◌==◌, ◌&&◌, nat_le, List, [], ◌∷◌, codes, Result, Ok}
 use Rattle.std.specs.Int.{w8, w32}
 use Rattle.xm_base.specs.Cursor.{Place, left, past, cursor_start}
-use Rattle.file_texts.specs.OfHeads.{xef_fault}
-use Rattle.sealed_files.specs.Faults.{HeadFaults}
-use Rattle.sealed_files.specs.Fields.{field_bytes, listed_at, number_at}
-use Rattle.sealed_files.specs.Heads.{unsealed}
-use Rattle.sealed_files.specs.Known.{head_faults}
-use Rattle.sealed_files.specs.Lifted.{lifted_faults}
-use Rattle.sealed_files.specs.Steps.{◌>>=◌, unless}
+use Rattle.fault_messages.specs.OfHeads.{xef_fault}
+use Rattle.file_headers.specs.Faults.{HeadFaults}
+use Rattle.file_headers.specs.Fields.{field_bytes, listed_at, number_at}
+use Rattle.file_headers.specs.Heads.{unsealed}
+use Rattle.file_headers.specs.Known.{head_faults}
+use Rattle.file_headers.specs.Lifted.{lifted_faults}
+use Rattle.file_headers.specs.Steps.{◌>>=◌, unless}
 use Rattle.xef_images.specs.Image.{Image, Segment}
 use Rattle.xef_images.specs.Tests.{is_entry}
 use Rattle.xef_images.specs.declared.row.Row.{Row}
-use Rattle.file_texts.specs.declared.fault.XefFault.{XefFault}
-use Rattle.file_texts.specs.declared.fault.XefFault.TheVariants.{Short, Trailing, Field}
+use Rattle.fault_messages.specs.declared.fault.XefFault.{XefFault}
+use Rattle.fault_messages.specs.declared.fault.XefFault.TheVariants.{Short, Trailing, Field}
 
 -- how the faults of its head and its digest are made
 abbrev pub xef_faults : HeadFaults XefFault
@@ -46,7 +46,7 @@ row_at floor place = do
   count ← count_at memory.0 memory.1
   Ok (record { address = address.0; memory = memory.0; count = count.0 }, count.1)
 
--- so many rows, each after the end of the one before it
+-- this many rows, each after the end of the one before it
 unfoldable pub rows_at : ℕ → ℕ → Place → Result (List Row × Place) XefFault
 rows_at zero floor place = Ok ([], place)
 rows_at (suc count) floor place = do

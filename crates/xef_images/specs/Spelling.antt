@@ -5,7 +5,7 @@ use Rattle.std.specs.List.{flat_map}
 use Rattle.md5.specs.Md5.{md5}
 use Rattle.xef_images.specs.Image.{Image, IsImage, Segment, contents, xef_length}
 
--- the head of a file of so many bytes: its name, version 1, its length, the entry and the number of segments
+-- the head of a file of this many bytes: its name, version 1, its length, the entry and the number of segments
 unfoldable pub image_head_text : ℕ → ℕ → ℕ → List ℕ
 image_head_text length entry count = codes "XMEF" ++ to_be_bytes w16 1 ++ to_be_bytes w32 length ++ to_be_bytes w32 entry ++ count ∷ []
 

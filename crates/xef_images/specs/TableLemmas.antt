@@ -10,11 +10,11 @@ use Rattle.xm_base.specs.Cursor.{Place, ahead}
 use Rattle.xef_images.specs.Image.{Segment, contents, end_of}
 use Rattle.xef_images.specs.ImageLemmas.{SegmentsRiseFrom, Decides-nat_le}
 use Rattle.xef_images.specs.Spelling.{row_text}
-use Rattle.sealed_files.specs.StepLemmas.{stepped, ok_is}
-use Rattle.sealed_files.specs.Steps.{◌>>=◌}
-use Rattle.sealed_files.specs.Fields.{field_bytes}
+use Rattle.file_headers.specs.StepLemmas.{stepped, ok_is}
+use Rattle.file_headers.specs.Steps.{◌>>=◌}
+use Rattle.file_headers.specs.Fields.{field_bytes}
 use Rattle.xef_images.specs.Reading.{xef_field, xef_short, address_at, memory_at, count_at, row_at, rows_at, segment_at, segments_at}
-use Rattle.sealed_files.specs.FieldLemmas.{Takes, takes_both, bytes_take, wide32, listed_takes, Reads, bytes_again, listed_again}
+use Rattle.file_headers.specs.FieldLemmas.{Takes, takes_both, bytes_take, wide32, listed_takes, Reads, bytes_again, listed_again}
 use Rattle.xef_images.specs.declared.row.Row.{Row}
 
 -- the row of a segment

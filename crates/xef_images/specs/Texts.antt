@@ -3,7 +3,7 @@ use Rattle.std.specs.Prelude.{ℕ, List, ◌++◌, length, codes, decimal}
 use Rattle.std.specs.List.{flat_map}
 use Rattle.hex.specs.Hex.{encode_lower}
 use Rattle.md5.specs.Md5.{md5}
-use Rattle.file_texts.specs.Texts.{address_text}
+use Rattle.fault_messages.specs.Texts.{address_text}
 use Rattle.xef_images.specs.Image.{Image, Segment}
 use Rattle.xef_images.specs.Spelling.{before_text}
 

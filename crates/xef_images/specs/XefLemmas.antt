@@ -15,14 +15,14 @@ use Rattle.xef_images.specs.Image.{Image, Segment, contents, share, xef_length, 
 use Rattle.xef_images.specs.ImageLemmas.{SegmentsRiseFrom, rise_from_apart, above_nothing, image_from_parts, is_entry-Decides, Decides-nat_le}
 use Rattle.xef_images.specs.Tests.{is_entry}
 use Rattle.xef_images.specs.Spelling.{image_head_text, row_text, before_text, xef_text, IsSpelledImage}
-use Rattle.sealed_files.specs.StepLemmas.{stepped, ok_is, passed}
-use Rattle.sealed_files.specs.Steps.{◌>>=◌, unless}
-use Rattle.sealed_files.specs.HeadLemmas.{IsSealed, stated_again, stated_takes_first, unsealed_again, unsealed_takes}
-use Rattle.sealed_files.specs.Heads.{lead_text, stated_length, unsealed}
+use Rattle.file_headers.specs.StepLemmas.{stepped, ok_is, passed}
+use Rattle.file_headers.specs.Steps.{◌>>=◌, unless}
+use Rattle.file_headers.specs.HeadLemmas.{IsSealed, stated_again, stated_takes_first, unsealed_again, unsealed_takes}
+use Rattle.file_headers.specs.Heads.{lead_text, stated_length, unsealed}
 use Rattle.xef_images.specs.Reading.{xef_field, xef_short, xef_faults, rows_at, segments_at, size_at, segment_table_at, entry_point_at, image_fields, xef}
-use Rattle.sealed_files.specs.FieldLemmas.{Takes, takes_both, wide8, wide32, number_takes, listed_takes, Reads, number_again, listed_again, AreBytes-drop, AreBytes-take}
+use Rattle.file_headers.specs.FieldLemmas.{Takes, takes_both, wide8, wide32, number_takes, listed_takes, Reads, number_again, listed_again, AreBytes-drop, AreBytes-take}
 use Rattle.xef_images.specs.TableLemmas.{row_of, row_line, RowsRise, rows_take, segments_take, lines_are_rows, rise_of_rows, rows_of_rise, rows_again, segments_again}
-use Rattle.file_texts.specs.declared.fault.XefFault.TheVariants.{Trailing, Field}
+use Rattle.fault_messages.specs.declared.fault.XefFault.TheVariants.{Trailing, Field}
 
 -- the table of segments: their number, their rows and their bytes
 abbrev pub table_text : List Segment → List ℕ
@@ -46,8 +46,8 @@ table_takes place segments after each e =
     let size = (Decides-and _ _ (Decides-nat_le 1 a.value.0) (Decides-nat_le a.value.0 8)).0 first.2 in
     let counted : length segments ≡ a.value.0 = sym (length-map segments row_of) ∙ ap length (sym bytes.1) ∙ rows.1 in
     let lines : flat_map row_line b.value.0 ≡ flat_map row_text segments = ap (flat_map row_line) bytes.1 ∙ lines_are_rows segments in
-    let behind = takes_both a.value.1 (flat_map row_line b.value.0) b.value.1 (contents segments) after rows.0 bytes.0 in
-    let whole = takes_both place (to_be_bytes w8 a.value.0) a.value.1 (flat_map row_line b.value.0 ++ contents segments) after first.0 behind in
+    let following = takes_both a.value.1 (flat_map row_line b.value.0) b.value.1 (contents segments) after rows.0 bytes.0 in
+    let whole = takes_both place (to_be_bytes w8 a.value.0) a.value.1 (flat_map row_line b.value.0 ++ contents segments) after first.0 following in
     let same : to_be_bytes w8 a.value.0 ++ (flat_map row_line b.value.0 ++ contents segments) ≡ table_text segments
     = ap (λ n. to_be_bytes w8 n ++ (flat_map row_line b.value.0 ++ contents segments)) (sym counted)
     ∙ ap (λ rs. to_be_bytes w8 (length segments) ++ (rs ++ contents segments)) lines in (
@@ -199,14 +199,14 @@ xef_takes bytes image each e =
     let few = body.table.most in
     let segments = image.segments in
     let ten : length lead ≡ 10 = refl in
-    let told_ten : length (xef_lead (xef_length segments)) ≡ 10 = refl in
+    let stated_ten : length (xef_lead (xef_length segments)) ≡ 10 = refl in
     let sized : size ≡ xef_length segments = omega (
       arith,
       is.count,
       ap length parts,
       length-append lead (body_text image),
       ten,
-      told_ten,
+      stated_ten,
       ap length (before_regrouped image few),
       length-append (xef_lead (xef_length segments)) (body_text image),
       length-before image few,
@@ -243,9 +243,9 @@ unfolding xef
 xef_again image is =
     let front = before_text image in
     let size = xef_length image.segments in
-    let behind : drop 10 front ≡ body_text image = ap (drop 10) (before_regrouped image is.most) ∙ drop_at (xef_lead size) (body_text image) 10 refl in
+    let following : drop 10 front ≡ body_text image = ap (drop 10) (before_regrouped image is.most) ∙ drop_at (xef_lead size) (body_text image) 10 refl in
     let body : IsBody front image = record {
-      parts = behind;
+      parts = following;
       long = omega (arith, length-before image is.most);
       table = record { some = is.some; most = is.most; rise = rise_from_apart 0 image.segments is.each is.apart (above_nothing image.segments) };
       entry = (is.aligned, is.inside);
@@ -257,11 +257,11 @@ pub xef_ends : (image other : Image) (rest : List ℕ) → IsImage image → IsI
 unfolding xef_text
 xef_ends image other rest is is_other longer =
     let size = xef_length image.segments in
-    let behind = (body_text image ++ md5 (before_text image)) ++ rest in
-    let parts : xef_text image ++ rest ≡ xef_lead size ++ behind
+    let following = (body_text image ++ md5 (before_text image)) ++ rest in
+    let parts : xef_text image ++ rest ≡ xef_lead size ++ following
     = ap (λ x. (x ++ md5 (before_text image)) ++ rest) (before_regrouped image is.most)
     ∙ regroup (xef_lead size) (body_text image) (md5 (before_text image)) rest in
-    let stated_first : stated_length xef_faults (codes "XMEF") 1 (xef_text other) ≡ Ok size = ap (stated_length xef_faults (codes "XMEF") 1) (longer ∙ parts) ∙ stated_again xef_faults (codes "XMEF") 1 1 size behind refl refl (omega arith) is.short in
+    let stated_first : stated_length xef_faults (codes "XMEF") 1 (xef_text other) ≡ Ok size = ap (stated_length xef_faults (codes "XMEF") 1) (longer ∙ parts) ∙ stated_again xef_faults (codes "XMEF") 1 1 size following refl refl (omega arith) is.short in
     let same : length (xef_text other) ≡ size = ok_is (length (xef_text other)) size (sym (is_signed other is_other).stated ∙ stated_first) in
     nil_from_length rest (omega (arith, same, ap length longer, length-append (xef_text image) rest, length-xef_text image is.most))
   where

@@ -8,7 +8,7 @@ ghost use Rattle.xef_images.specs.ElfGives.{ElfGives};
 use crate::header::{HEADER, Header, half, word};
 use crate::segment::{ADDRESSES, Segment};
 use crate::xef::{SEGMENTS, Xef, fits, is_entry};
-use file_texts::ElfFault;
+use fault_messages::ElfFault;
 use std::alloc::Global;
 use xm_base::FILE_BYTES;
 
@@ -71,7 +71,7 @@ fn header_count(bytes: &[u8]) -> Result<u16, ElfFault>
     Ok(count)
 }
 
-/// The segment of a header that is loaded, after so many others.
+/// The segment of a header that is loaded, after this many others.
 #[tactic(auto, unfolding(crate::specs::Elf::segment_from))]
 fn segment(alloc: Global, bytes: &[u8], before: usize, header: Header) -> Result<Segment, ElfFault>
     ensures { ElfGives (λ segment. segment) result (segment_from bytes.now before header) }
@@ -103,7 +103,7 @@ fn segment(alloc: Global, bytes: &[u8], before: usize, header: Header) -> Result
     })
 }
 
-/// So many bytes of the file from a place on.
+/// This many bytes of the file from a place on.
 fn contents(bytes: &[u8], place: usize, count: usize) -> &[u8]
     requires { 0 < count → place + count ≤ length bytes.now }
     ensures { result.now ≡ take count (drop place bytes.now) }
@@ -114,7 +114,7 @@ fn contents(bytes: &[u8], place: usize, count: usize) -> &[u8]
     &bytes[place..place + count]
 }
 
-/// What the header at a place loads after so many other segments.
+/// What the header at a place loads after this many other segments.
 #[tactic(auto, unfolding(crate::specs::Elf::load_at))]
 fn load(
     alloc: Global,
@@ -147,7 +147,7 @@ fn keep(segments: &mut Vec<Segment>, loaded: Option<Segment>) -> Result<(), ElfF
     }
 }
 
-/// What so many headers load, from a place on.
+/// What this many headers load, from a place on.
 fn segments(alloc: Global, bytes: &[u8], place: u32, count: u16) -> Result<Vec<Segment>, ElfFault>
     ensures { ElfGives (λ segments. segments.items) result (loads bytes.now 0 place count) }
 {

@@ -1,6 +1,6 @@
 //! Laws on the files of images.
 
-ghost use Rattle.xef_images.specs.Laws.{LengthIsTold, ImagesArePrefixFree, WrittenImageIsRead};
+ghost use Rattle.xef_images.specs.Laws.{LengthIsStated, ImagesArePrefixFree, WrittenImageIsRead};
 
 /// An image that was written is read back.
 pub fn written_is_read()
@@ -13,6 +13,6 @@ pub fn none_goes_on()
 {}
 
 /// The length in the head of a file is the file's.
-pub fn length_is_told()
-    ensures { LengthIsTold }
+pub fn length_is_stated()
+    ensures { LengthIsStated }
 {}

@@ -12,8 +12,8 @@ mod writing;
 mod xef;
 
 pub use elf::read_elf;
-pub use file_texts::{ElfFault, XefFault};
-pub use law::{length_is_told, none_goes_on, written_is_read};
+pub use fault_messages::{ElfFault, XefFault};
+pub use law::{length_is_stated, none_goes_on, written_is_read};
 pub use lines::describe;
 pub use reading::read_xef;
 pub use segment::Segment;

@@ -7,8 +7,8 @@ ghost use Rattle.xef_images.specs.Texts.{digest_line, entry_line, segment_line, 
 
 use crate::segment::Segment;
 use crate::xef::Xef;
-use file_texts::{put_address, put_digest, put_number};
-use sealed_files::stored_digest;
+use fault_messages::{put_address, put_digest, put_number};
+use file_headers::stored_digest;
 use std::alloc::Global;
 use xm_base::Memory;
 

@@ -1,8 +1,8 @@
 //! The reading of an image's file.
 
 ghost use Rattle.std.specs.Prelude.{◌≡◌, IfOk, codes};
-ghost use Rattle.sealed_files.specs.Gives.{Gives, GivesAt, IsRead, IsReadAt};
-ghost use Rattle.sealed_files.specs.Heads.{ReportsDigests, unsealed};
+ghost use Rattle.file_headers.specs.Gives.{Gives, GivesAt, IsRead, IsReadAt};
+ghost use Rattle.file_headers.specs.Heads.{ReportsDigests, unsealed};
 ghost use Rattle.xef_images.specs.Image.{Image};
 ghost use Rattle.xef_images.specs.Spelling.{IsSpelledImage};
 ghost use Rattle.xef_images.specs.Gives.{Fails};
@@ -12,8 +12,8 @@ use crate::row::Row;
 use crate::segment::{ADDRESSES, Segment};
 use crate::writing::{MAGIC, VERSION};
 use crate::xef::{SEGMENTS, Xef, is_entry};
-use file_texts::XefFault;
-use sealed_files::unsealed;
+use fault_messages::XefFault;
+use file_headers::unsealed;
 use std::alloc::Global;
 use xm_base::Cursor;
 
@@ -82,7 +82,7 @@ fn row(cursor: &mut Cursor<'_>, floor: u64) -> Result<Row, XefFault>
     })
 }
 
-/// So many rows, each after the end of the one before it.
+/// This many rows, each after the end of the one before it.
 fn rows(alloc: Global, cursor: &mut Cursor<'_>, count: u8) -> Result<Vec<Row>, XefFault>
     ensures { GivesAt Fails (λ rows. rows.items) result cursor.new (rows_at count 0 cursor.old) }
 {
@@ -188,7 +188,7 @@ fn whole(alloc: Global, bytes: &[u8]) -> Result<(u32, Vec<Segment>), XefFault>
 pub fn read_xef(alloc: Global, bytes: &[u8]) -> Result<Xef, XefFault>
     // What is read is the image that the bytes spell.
     ensures found { IfOk result (IsSpelledImage bytes.now) }
-    // What is spelled is read, unless there is no memory.
+    // What is spelled is read, unless memory runs out.
     ensures only { (image : Image) → IsSpelledImage bytes.now image → Gives Fails (λ found. found) result (Ok image) }
     // A fault is the first one.
     ensures exact { Gives Fails (λ found. found) result (xef bytes.now) }

@@ -7,8 +7,8 @@ ghost use Rattle.xef_images.specs.Spelling.{before_text, image_head_text, row_te
 
 use crate::segment::Segment;
 use crate::xef::{Xef, file_length};
+use file_headers::{put_half, put_word};
 use md5::{Digest, Md5};
-use sealed_files::{put_half, put_word};
 use std::alloc::Global;
 use xm_base::Memory;
 

@@ -100,7 +100,7 @@ fn is_inside(address: u32, segments: &[Segment]) -> bool
     segments.iter().any(|segment| segment.covers(address))
 }
 
-/// Whether a file with these segments has at most so many bytes.
+/// Whether a file with these segments has at most this many bytes.
 pub(crate) fn fits(segments: &[Segment], most: usize) -> bool
     ensures { result ≡ nat_le (xef_length segments.now) most }
 {

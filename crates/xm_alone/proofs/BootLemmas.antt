@@ -9,10 +9,10 @@ use Rattle.machine_model.specs.Laws.{BootsAlone, part, alone_part_at}
 use Rattle.machine_model.specs.Lines.{end_line}
 use Rattle.machine_model.specs.Machine.{Machine, booted_part, start}
 use Rattle.machine_model.specs.View.{System, view_of}
-use Rattle.slot_runs.specs.Passes as passes
-use Rattle.alone_passes.specs.Passes.{part_in}
+use Rattle.span_model.specs.Passes as passes
+use Rattle.replay_model.specs.Passes.{part_in}
 use Rattle.xm_alone.specs.Replay.{lone_in}
-use Rattle.told_scripts.specs.Lone.{Lone, booted_alone, own_view}
+use Rattle.recording_model.specs.Lone.{Lone, booted_alone, own_view}
 
 -- what is there is one thing
 some_is : (a b : Alone) → Some a ≡ Some b → a ≡ b

@@ -6,13 +6,13 @@ use Rattle.machine_model.specs.Alone.{Alone, alone_after, alone_from, alone_line
 use Rattle.machine_model.specs.Cue.{Cue}
 use Rattle.machine_model.specs.Laws.{part}
 use Rattle.machine_model.specs.Machine.{Machine, is_halt}
-use Rattle.machine_model.specs.Told.{AllHalted, AllReset, NoEvent, WholeEvent}
+use Rattle.machine_model.specs.Emission.{AllHalted, AllReset, NoEvent, WholeEvent}
 use Rattle.machine_model.specs.View.{PartitionView, System, view_of}
-use Rattle.alone_passes.specs.Passes.{part_in}
-use Rattle.alone_passes.specs.Step.{IsLone, IsOfSystem}
-use Rattle.alone_passes.specs.Taking.{first_untaken, takes_cue}
+use Rattle.replay_model.specs.Passes.{part_in}
+use Rattle.replay_model.specs.Step.{IsLone, IsOfSystem}
+use Rattle.replay_model.specs.Taking.{first_untaken, takes_cue}
 use Rattle.cue_scripts.specs.Script.{HaltsLast, IsCue, IsScript}
-use Rattle.told_scripts.specs.Replayed.{replayed}
+use Rattle.recording_model.specs.Replayed.{replayed}
 use Rattle.xm_alone.specs.Replay.{halted_by}
 use Rattle.machine_model.specs.Whole.{ticks_after}
 
@@ -91,8 +91,8 @@ taken_on view a next tick after cue later taken steps counts =
     ∙ ap (λ (b : Alone). first_untaken view b (suc tick) later) (sym steps) ∙ ap (λ n. first_untaken view next n later) (sym counts)
 
 -- the number of a cue after others
-pub one_behind : (xs : List Cue) (x : Cue) → length (xs ++ x ∷ []) ≡ suc (length xs)
-one_behind xs x = omega (arith, length-append xs (x ∷ []))
+pub one_after : (xs : List Cue) (x : Cue) → length (xs ++ x ∷ []) ≡ suc (length xs)
+one_after xs x = omega (arith, length-append xs (x ∷ []))
 
 -- partition p has followed the first cues of a script, those before, and these are left
 pub record IsFollowing (p : ℕ) (cues before left : List Cue) (old now : Machine) : Type 0 where
@@ -116,10 +116,10 @@ one_followed p cues before left cue later old now next first is one same =
       part = steps ∙ ap (λ (a : Alone). alone_step view a cue) is.part ∙ sym (from_add view (alone_start view) before (cue ∷ []));
       halted = one.halted ∙ sym (halted_more false before cue);
       untaken = is.untaken ∙ ap (first_untaken view (part_in now p) (length before)) first
-          ∙ taken_on view (part_in now p) (part_in next p) (length before) (length (before ++ cue ∷ [])) cue later taken steps (one_behind before cue);
+          ∙ taken_on view (part_in now p) (part_in next p) (length before) (length (before ++ cue ∷ [])) cue later taken steps (one_after before cue);
     }
 
--- the next cue is one that the partition may be told
+-- the next cue is one that the partition may receive
 pub left_cue : (p : ℕ) (cues before left : List Cue) (cue : Cue) (later : List Cue) (old now : Machine) → left ≡ cue ∷ later → IsFollowing p cues before left old now
     → IsScript old.system.conf p cues → IsCue now.system.conf p cue
 left_cue p cues before left cue later old now first is script =

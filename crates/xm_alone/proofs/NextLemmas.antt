@@ -12,20 +12,20 @@ use Rattle.machine_model.specs.Cue.{Cue}
 use Rattle.machine_model.specs.Lists.{is_number}
 use Rattle.machine_model.specs.Machine.{Machine}
 use Rattle.machine_model.specs.View.{PartitionView, part_of, view_of}
-use Rattle.alone_passes.specs.Passes.{part_in}
-use Rattle.alone_passes.specs.Step.{IsOfSystem}
-use Rattle.alone_passes.specs.Taking.{first_untaken, takes_cue}
-use Rattle.lone_ticks.specs.LoneSpan.{AreSilent, AreTaken}
-use Rattle.tick_pieces.specs.CueValues.{cue_value}
-use Rattle.tick_pieces.specs.declared.cue.Cue as code_cue
+use Rattle.replay_model.specs.Passes.{part_in}
+use Rattle.replay_model.specs.Step.{IsOfSystem}
+use Rattle.replay_model.specs.Taking.{first_untaken, takes_cue}
+use Rattle.replay_tick.specs.LoneSpan.{AreSilent, AreTaken}
+use Rattle.tick_steps.specs.CueValues.{cue_value}
+use Rattle.tick_steps.specs.declared.cue.Cue as code_cue
 use Rattle.xm_machine.specs.AloneSpan.{SpansAlone}
 use Rattle.xm_machine.specs.AloneStep.{HasStepCause, IsSaidAlone, StepsAlone}
 use Rattle.xm_machine.specs.declared.alone_span.AloneFault.{AloneFault}
 use Rattle.xm_machine.specs.declared.alone_span.AloneFault.TheVariants as fault
 use Rattle.xm_alone.specs.Cues.{ComesNext, Follows, IsNextCue, cues_left, next_cues, next_left}
-use Rattle.told_scripts.specs.Replayed.{cue_lines, replayed}
+use Rattle.recording_model.specs.Replayed.{cue_lines, replayed}
 use Rattle.xm_alone.specs.Replay.{IsCutReplay, TakesAll, is_refused, lone_in, still_silent}
-use Rattle.told_scripts.specs.Lone.{replay_said}
+use Rattle.recording_model.specs.Lone.{replay_said}
 use Rattle.xm_alone.specs.declared.cues.Cues as code
 use Rattle.xm_alone.specs.declared.cues.Next as code_next
 use Rattle.xm_alone.specs.declared.cues.Next.TheVariants as next
@@ -33,7 +33,7 @@ use Rattle.xm_alone.proofs.FollowLemmas.{IsFitting, IsFollowing, from_add, left_
 use Rattle.xm_alone.proofs.PlayLemmas.{IsPlaying, heard_as, one_cut, one_played}
 use Rattle.xm_alone.proofs.SilentLemmas.{IsTrying, none_taken, one_tried}
 
--- so many of the same, one, and the others
+-- this many of the same, one, and the others
 same_split : {X : Type 0} (x : X) (j k : ℕ) → replicate (j + suc k) x ≡ replicate j x ++ x ∷ replicate k x
 same_split x zero k = ap (λ n. replicate n x) (one k)
   where
@@ -277,7 +277,7 @@ first_cue all (next.Alike own count) others comes =
     (bare_cue own, replicate (count - 1) (bare_cue own) ++ cues_left others, comes.split ∙ ap (λ cues. cues ++ cues_left others) (alike_split (bare_cue own) count 1 (omega arith) comes.some))
 first_cue all (next.Other cue) others comes = (cue_value cue, cues_left others, comes.split)
 
--- the cues that come next may be told, and there are ticks left for them
+-- the cues that come next may be received, and there are ticks left for them
 module _ (p : ℕ) (cues before all : List Cue) (others : code.Cues) (old now : Machine) (script : IsScript old.system.conf p cues) (is : IsFollowing p cues before all old now) where
   pub next_is : (first : code_next.Next) → ComesNext all first others → IsNextCue now.system.conf p first
   next_is (next.Alike own count) comes = comes.some

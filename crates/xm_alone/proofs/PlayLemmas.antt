@@ -14,13 +14,13 @@ use Rattle.machine_model.specs.Lines.{end_line}
 use Rattle.machine_model.specs.Lists.{is_number}
 use Rattle.machine_model.specs.Machine.{Machine}
 use Rattle.machine_model.specs.View.{PartitionView, System, part_of, view_of}
-use Rattle.slot_runs.specs.Passes.{part_at}
-use Rattle.alone_passes.specs.Passes.{part_in}
-use Rattle.alone_passes.specs.Step.{IsLone, IsOfSystem}
+use Rattle.span_model.specs.Passes.{part_at}
+use Rattle.replay_model.specs.Passes.{part_in}
+use Rattle.replay_model.specs.Step.{IsLone, IsOfSystem}
 use Rattle.xm_machine.specs.AloneStep.{said_alone}
-use Rattle.told_scripts.specs.Replayed.{cue_lines, replay_lines, replayed}
+use Rattle.recording_model.specs.Replayed.{cue_lines, replay_lines, replayed}
 use Rattle.xm_alone.specs.Replay.{IsCutReplay, IsReplay, IsReplayed, IsSilentReplay, IsWholeReplay, halted_by, lone_in}
-use Rattle.told_scripts.specs.Lone.{Lone, own_view, replay_said}
+use Rattle.recording_model.specs.Lone.{Lone, own_view, replay_said}
 use Rattle.xm_alone.proofs.FollowLemmas.{IsFollowing, lines_add, lines_more, one_followed, said_more}
 
 -- the same bytes to each UART
@@ -81,8 +81,8 @@ front_of had got a b whole cut all =
     cut.grew ∙ ap (grown had) (sym (take-append-le cut.count a b within) ∙ ap (take cut.count) all)
 
 -- a text went out, and then a prefix of another
-behind : (had mid got : Option (List ℕ)) (a b rest whole : List ℕ) → mid ≡ grown had a → (cut : GrewByPrefix mid b got) → (a ++ b) ++ rest ≡ whole → got ≡ grown had (take (length a + cut.count) whole)
-behind had mid got a b rest whole first cut all =
+beyond : (had mid got : Option (List ℕ)) (a b rest whole : List ℕ) → mid ≡ grown had a → (cut : GrewByPrefix mid b got) → (a ++ b) ++ rest ≡ whole → got ≡ grown had (take (length a + cut.count) whole)
+beyond had mid got a b rest whole first cut all =
     let within : length a + cut.count ≤ length (a ++ b) = omega (arith, cut.short, length-append a b) in
     cut.grew ∙ ap (λ m. grown m (take cut.count b)) first ∙ grown_grown had a (take cut.count b)
     ∙ ap (grown had) (sym (take-append-add a b cut.count) ∙ sym (take-append-le (length a + cut.count) (a ++ b) rest within) ∙ ap (take (length a + cut.count)) all)
@@ -127,7 +127,7 @@ one_cut p cues left cue later old now next had mid got first between board start
       report = record {
         count = length (texts lines) + grew_here.count;
         short = omega (arith, grew_here.short, length-append (texts lines ++ texts last) (texts others), length-append (texts lines) (texts last), ap (λ (bytes : List ℕ). length bytes) all);
-        grew = behind had mid got (texts lines) (texts last) (texts others) (texts (cue_lines view cues)) is.report grew_here all;
+        grew = beyond had mid got (texts lines) (texts last) (texts others) (texts (cue_lines view cues)) is.report grew_here all;
       };
       heard = subst (λ some. IsHeard (replay_said (lone_in old p) some) first board) (sym front)
           (said_then p old now before cue first between board is.following.system.system is.following.part is.heard heard);
@@ -200,7 +200,7 @@ end_shown (Err unwritten) cues old now had mid got first board is wrote =
       report = record {
         count = length (texts (cue_lines view cues)) + wrote.count;
         short = omega (arith, wrote.short, ap (λ (bytes : List ℕ). length bytes) (texts-append (cue_lines view cues) last), length-append (texts (cue_lines view cues)) (texts last));
-        grew = behind had mid got (texts (cue_lines view cues)) (texts last) [] (texts (replay_lines view cues)) is.report wrote all;
+        grew = beyond had mid got (texts (cue_lines view cues)) (texts last) [] (texts (replay_lines view cues)) is.report wrote all;
       };
       heard = subst (λ some. IsHeard (replay_said old some) first board) (sym (take-length cues)) is.heard;
       whole = λ k earlier.

@@ -10,17 +10,17 @@ use Rattle.machine_model.specs.Lines.{local_lines, local_said}
 use Rattle.machine_model.specs.LocalTick.{local_tick, said_in, worked}
 use Rattle.machine_model.specs.Machine.{Machine}
 use Rattle.machine_model.specs.Partition.{takes_turns}
-use Rattle.machine_model.specs.Told.{Sight, Told, line_of}
+use Rattle.machine_model.specs.Emission.{Sight, Emission, line_of}
 use Rattle.machine_model.specs.View.{PartitionView, System, view_of}
-use Rattle.alone_passes.specs.Passes.{part_in}
-use Rattle.alone_passes.specs.Step.{IsLone, IsOfSystem}
-use Rattle.alone_passes.specs.Taking.{first_untaken}
-use Rattle.file_texts.specs.declared.fault.ScriptFault.{ScriptFault}
-use Rattle.file_texts.specs.declared.fault.ScriptFault.TheVariants as fault
-use Rattle.told_scripts.specs.Replayed.{cue_lines, replayed}
-use Rattle.xm_alone.specs.Replay.{IsSilentReplay, TellsFit, halted_by, lone_in}
-use Rattle.told_scripts.specs.Lone.{Lone, booted_alone}
-use Rattle.xm_alone.proofs.FollowLemmas.{IsFitting, lines_more, one_behind, one_followed}
+use Rattle.replay_model.specs.Passes.{part_in}
+use Rattle.replay_model.specs.Step.{IsLone, IsOfSystem}
+use Rattle.replay_model.specs.Taking.{first_untaken}
+use Rattle.fault_messages.specs.declared.fault.ScriptFault.{ScriptFault}
+use Rattle.fault_messages.specs.declared.fault.ScriptFault.TheVariants as fault
+use Rattle.recording_model.specs.Replayed.{cue_lines, replayed}
+use Rattle.xm_alone.specs.Replay.{IsSilentReplay, AnswersFit, halted_by, lone_in}
+use Rattle.recording_model.specs.Lone.{Lone, booted_alone}
+use Rattle.xm_alone.proofs.FollowLemmas.{IsFitting, lines_more, one_after, one_followed}
 
 -- each line has a text
 has_text : (line : ReportLine) → text_of line ≡ [] → ⊥
@@ -49,15 +49,15 @@ no_lines : (lines : List ReportLine) → texts lines ≡ [] → lines ≡ []
 no_lines [] none = refl
 no_lines (line ∷ lines) none = absurd (has_text line (first_none (text_of line) (texts lines) none))
 
--- what tells no line tells no console bytes
-untold : (n p : ℕ) (ts : List Told) → map (line_of n p) ts ≡ [] → flat_map said_in ts ≡ []
-untold n p [] none = refl
-untold n p (told ∷ ts) none = absurd (cc)
+-- what emits no line emits no console bytes
+unemitted : (n p : ℕ) (ts : List Emission) → map (line_of n p) ts ≡ [] → flat_map said_in ts ≡ []
+unemitted n p [] none = refl
+unemitted n p (emitted ∷ ts) none = absurd (cc)
 
 tick_unsaid : (view : PartitionView) (a : Alone) (first : Bool) (seen : Sight) → (local_tick view a.state a.copies a.ticks a.time first seen).lines ≡ []
     → (local_tick view a.state a.copies a.ticks a.time first seen).said ≡ []
 unfolding local_tick
-tick_unsaid view a first seen none = untold a.ticks view.id (worked view a.copies a.time first seen a.state).told none
+tick_unsaid view a first seen none = unemitted a.ticks view.id (worked view a.copies a.time first seen a.state).emitted none
 
 local_unsaid : (slot : CueSlot) (view : PartitionView) (a : Alone) (seen : Sight) → local_lines (alone_local_in slot view a seen) ≡ [] → local_said (alone_local_in slot view a seen) ≡ []
 local_unsaid Away view a seen none = refl
@@ -103,7 +103,7 @@ one_tried p tick silent next cues cue later old now new is one same before print
       fitting = record {
         before = fit.before ++ cue ∷ [];
         following = one_followed p cues fit.before (cue ∷ later) cue later old now new refl fit.following one same;
-        count = omega (arith, fit.count, one_behind fit.before cue);
+        count = omega (arith, fit.count, one_after fit.before cue);
       };
       quiet = λ says.
           let seen : alone_step_lines (view_of now.system p) (part_in now p) cue ≡ alone_step_lines view (replayed view fit.before) cue =
@@ -147,12 +147,12 @@ none_tried p cues left g all fresh =
     }
 
 -- a fault says the same of a script, whatever an answer without it has
-pub fault_fits : (S T : Type 0) (view : PartitionView) (cues : List Cue) (why : ScriptFault) → TellsFit {T = S} view cues (Err why) → TellsFit {T = T} view cues (Err why)
-fault_fits S T view cues fault.Memory tells = tt
-fault_fits S T view cues fault.Magic tells = absurd tells
-fault_fits S T view cues (fault.Version found) tells = absurd tells
-fault_fits S T view cues (fault.Short at) tells = absurd tells
-fault_fits S T view cues (fault.Trailing at) tells = absurd tells
-fault_fits S T view cues (fault.Field at) tells = absurd tells
-fault_fits S T view cues (fault.Length found) tells = absurd tells
-fault_fits S T view cues (fault.Cue tick) tells = tells
+pub fault_fits : (S T : Type 0) (view : PartitionView) (cues : List Cue) (why : ScriptFault) → AnswersFit {T = S} view cues (Err why) → AnswersFit {T = T} view cues (Err why)
+fault_fits S T view cues fault.Memory answers = tt
+fault_fits S T view cues fault.Magic answers = absurd answers
+fault_fits S T view cues (fault.Version found) answers = absurd answers
+fault_fits S T view cues (fault.Short at) answers = absurd answers
+fault_fits S T view cues (fault.Trailing at) answers = absurd answers
+fault_fits S T view cues (fault.Field at) answers = absurd answers
+fault_fits S T view cues (fault.Length found) answers = absurd answers
+fault_fits S T view cues (fault.Cue tick) answers = answers

@@ -6,8 +6,8 @@ use Rattle.xm_conf.specs.Configuration.{Conf}
 use Rattle.cue_scripts.specs.Entries.{expanded, bare_cue}
 use Rattle.cue_scripts.specs.Script.{IsCue}
 use Rattle.cue_scripts.specs.Values.{entry_values}
-use Rattle.lone_ticks.specs.LoneSpan.{AreSilent}
-use Rattle.tick_pieces.specs.CueValues.{cue_value}
+use Rattle.replay_tick.specs.LoneSpan.{AreSilent}
+use Rattle.tick_steps.specs.CueValues.{cue_value}
 use Rattle.uart_board.specs.Views.{BoardView}
 use Rattle.xm_machine.specs.AloneStep.{IsSaidAlone, StepsAlone}
 use Rattle.xm_machine.specs.declared.alone_span.AloneFault.{AloneFault}
@@ -15,7 +15,7 @@ use Rattle.xm_alone.specs.declared.cues.Cues as code
 use Rattle.xm_alone.specs.declared.cues.Next as code_next
 use Rattle.xm_alone.specs.declared.cues.Next.TheVariants as next
 
--- a plain cue so many times, and then those of the entries
+-- a plain cue this many times, and then those of the entries
 abbrev pub cues_left : code.Cues → List Cue
 cues_left rest = replicate rest.left (bare_cue rest.own) ++ expanded (entry_values rest.entries.now)
 
@@ -24,17 +24,17 @@ abbrev pub next_cues : code_next.Next → List Cue
 next_cues (next.Alike own count) = replicate count (bare_cue own)
 next_cues (next.Other cue) = cue_value cue ∷ []
 
--- what is left of them when so many are done
+-- what is left of them when this many are done
 abbrev pub next_left : code_next.Next → ℕ → List Cue
 next_left (next.Alike own count) done = replicate (count - done) (bare_cue own)
 next_left (next.Other cue) done = []
 
--- they are so many at least
+-- they are this many at least
 abbrev pub HasNext : code_next.Next → ℕ → Type 0
 HasNext (next.Alike own count) done = done ≤ count
 HasNext (next.Other cue) done = done ≤ 1
 
--- partition p may be told them
+-- partition p may receive them
 abbrev pub IsNextCue : Conf → ℕ → code_next.Next → Type 0
 IsNextCue conf p (next.Alike own count) = 0 < count
 IsNextCue conf p (next.Other cue) = IsCue conf p (cue_value cue)

@@ -9,14 +9,14 @@ use Rattle.machine_model.specs.Alone.{alone_said, alone_start}
 use Rattle.machine_model.specs.Cue.{Cue}
 use Rattle.machine_model.specs.Machine.{Machine, is_halt}
 use Rattle.machine_model.specs.View.{PartitionView}
-use Rattle.alone_passes.specs.Passes.{part_in}
-use Rattle.alone_passes.specs.Taking.{first_untaken}
-use Rattle.told_scripts.specs.Replayed.{cue_lines, replayed}
-use Rattle.file_texts.specs.declared.fault.ScriptFault.{ScriptFault}
-use Rattle.file_texts.specs.declared.fault.ScriptFault.TheVariants as fault
+use Rattle.replay_model.specs.Passes.{part_in}
+use Rattle.replay_model.specs.Taking.{first_untaken}
+use Rattle.recording_model.specs.Replayed.{cue_lines, replayed}
+use Rattle.fault_messages.specs.declared.fault.ScriptFault.{ScriptFault}
+use Rattle.fault_messages.specs.declared.fault.ScriptFault.TheVariants as fault
 use Rattle.xm_machine.specs.declared.alone_span.AloneFault.{AloneFault}
 use Rattle.xm_machine.specs.declared.alone_span.AloneFault.TheVariants as alone
-use Rattle.told_scripts.specs.Lone.{Lone, own_view, replay_said}
+use Rattle.recording_model.specs.Lone.{Lone, own_view, replay_said}
 
 -- partition p of a machine by itself
 abbrev pub lone_in : Machine → ℕ → Lone
@@ -27,16 +27,16 @@ abbrev pub TakesAll : PartitionView → List Cue → Type 0
 TakesAll view cues = first_untaken view (alone_start view) 0 cues ≡ None
 
 -- whether it fits, or the number of the first cue that the partition cannot take
-abbrev pub TellsFit : {T : Type 0} → PartitionView → List Cue → Result T ScriptFault → Type 0
-TellsFit view cues (Ok fits) = TakesAll view cues
-TellsFit view cues (Err fault.Memory) = Unit {0}
-TellsFit view cues (Err fault.Magic) = ⊥
-TellsFit view cues (Err (fault.Version found)) = ⊥
-TellsFit view cues (Err (fault.Short at)) = ⊥
-TellsFit view cues (Err (fault.Trailing at)) = ⊥
-TellsFit view cues (Err (fault.Field at)) = ⊥
-TellsFit view cues (Err (fault.Length found)) = ⊥
-TellsFit view cues (Err (fault.Cue tick)) = first_untaken view (alone_start view) 0 cues ≡ Some tick
+abbrev pub AnswersFit : {T : Type 0} → PartitionView → List Cue → Result T ScriptFault → Type 0
+AnswersFit view cues (Ok fits) = TakesAll view cues
+AnswersFit view cues (Err fault.Memory) = Unit {0}
+AnswersFit view cues (Err fault.Magic) = ⊥
+AnswersFit view cues (Err (fault.Version found)) = ⊥
+AnswersFit view cues (Err (fault.Short at)) = ⊥
+AnswersFit view cues (Err (fault.Trailing at)) = ⊥
+AnswersFit view cues (Err (fault.Field at)) = ⊥
+AnswersFit view cues (Err (fault.Length found)) = ⊥
+AnswersFit view cues (Err (fault.Cue tick)) = first_untaken view (alone_start view) 0 cues ≡ Some tick
 
 -- whether the hypervisor has halted after cues: where the last of them halts it
 abbrev pub halted_by : Bool → List Cue → Bool
@@ -74,7 +74,7 @@ pub record IsWholeReplay (cues : List Cue) (lines : List ReportLine) (old new : 
   pub report : got ≡ grown had (texts lines)
   pub heard : IsHeard (replay_said old cues) before after
 
--- a replay whose lines the sink did not take whole: so many of its cues were done, and the last of these is the one whose lines were cut, or
+-- a replay whose lines the sink did not take whole: this many of its cues were done, and the last of these is the one whose lines were cut, or
 -- the last of all
 pub record IsCutReplay (cues : List Cue) (lines : List ReportLine) (old new : Lone) (had got : Option (List ℕ)) (before after : BoardView) : Type 0 where
   pub done : ℕ

@@ -1,4 +1,4 @@
-//! One partition of a system, replayed without the others.
+//! One partition of a system, replayed in isolation.
 
 ghost use Rattle.std.specs.Prelude.{◌≡◌, ◌<◌, IfOk, IfSome, List, length};
 ghost use Rattle.core_files.specs.Length.{core_length_of};
@@ -7,12 +7,12 @@ ghost use Rattle.machine_model.specs.CoreFile.{core_file};
 ghost use Rattle.machine_model.specs.Cue.{Cue};
 ghost use Rattle.machine_model.specs.Lines.{end_line};
 ghost use Rattle.machine_model.specs.View.{view_of};
-ghost use Rattle.slot_runs.specs.Passes.{part_at};
+ghost use Rattle.span_model.specs.Passes.{part_at};
 ghost use Rattle.uart_board.specs.Views.{BoardView};
-ghost use Rattle.whole_system.specs.State.{with_inputs};
-ghost use Rattle.told_scripts.specs.Replayed.{cue_lines, replay_lines};
-ghost use Rattle.xm_alone.specs.Replay.{IsReplay, IsSilentReplay, TakesAll, TellsFit, lone_in};
-ghost use Rattle.told_scripts.specs.Lone.{Lone, booted_alone, own_view};
+ghost use Rattle.system_state.specs.State.{with_inputs};
+ghost use Rattle.recording_model.specs.Replayed.{cue_lines, replay_lines};
+ghost use Rattle.xm_alone.specs.Replay.{IsReplay, IsSilentReplay, TakesAll, AnswersFit, lone_in};
+ghost use Rattle.recording_model.specs.Lone.{Lone, booted_alone, own_view};
 ghost use Rattle.xm_machine.specs.Outcome.{HasWriteCause};
 ghost use Rattle.xm_report.specs.Report.{line_value};
 
@@ -42,7 +42,7 @@ impl Model for Alone {
     ghost use Rattle.std.specs.Prelude.{◌<◌, length};
     ghost use Rattle.guest_bus.specs.Memory.{memory_code};
     ghost use Rattle.xm_alone.specs.Replay.{lone_in};
-    ghost use Rattle.told_scripts.specs.Lone.{Lone};
+    ghost use Rattle.recording_model.specs.Lone.{Lone};
 
     ghost Value = { Lone };
 
@@ -81,7 +81,7 @@ impl Alone {
         requires partition { p < length system.conf.parts }
         requires inputs { length inputs ≡ length system.conf.parts }
         requires script { IsScript system.conf p script.now }
-        ensures fits { TellsFit (view_of (with_inputs system inputs) p) script.now result }
+        ensures fits { AnswersFit (view_of (with_inputs system inputs) p) script.now result }
         ensures silent { IfOk result (λ silent. IfSome silent (IsSilentReplay script.now (booted_alone (with_inputs system inputs) p))) }
     {
         boots_alone();

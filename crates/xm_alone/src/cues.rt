@@ -4,7 +4,7 @@ ghost use Rattle.std.specs.Prelude.{◌≡◌, ◌++◌, [], MatchOption};
 ghost use Rattle.cue_scripts.specs.Entries.{first_cue};
 ghost use Rattle.cue_scripts.specs.Values as kept;
 ghost use Rattle.xm_alone.specs.Cues.{ComesNext, HasNext, cues_left, next_left};
-ghost use Rattle.tick_pieces.specs.CueValues.{cue_value, sight_value, traffic_value};
+ghost use Rattle.tick_steps.specs.CueValues.{cue_value, sight_value, traffic_value};
 
 use cue_scripts::{
     CueSlot, Script, ScriptCue, ScriptEntry, ScriptSight, ScriptTraffic, WholeEvent,
@@ -14,16 +14,16 @@ use xm_machine::{Cue, Sight, Traffic};
 /// The cues of a script that come next.
 #[derive(Clone, Copy)]
 pub(crate) enum Next<'a> {
-    /// So many with nothing but whose slot it is: the partition's own, which began before, or not.
+    /// This many with nothing but whose slot it is: the partition's own, which began before, or not.
     Alike { own: bool, count: u32 },
     /// Another one.
     Other(Cue<'a>),
 }
 
-/// The cues of a script that are still to come. They take no memory, however many they are.
+/// The cues of a script that are still left. They take no memory, however many they are.
 #[derive(Clone, Copy, Debug)]
 pub(crate) struct Cues<'a> {
-    // Whose running slot the plain cues tell that come first, and how many these are.
+    // Whose running slot the plain cues name that come first, and how many these are.
     own: bool,
     left: u32,
     // The entries after them.
@@ -79,7 +79,7 @@ impl<'a> Cues<'a> {
         Some((next, others))
     }
 
-    /// What is left of the cues that came next when so many of them are done, before those of the entries after them.
+    /// What is left of the cues that came next when this many of them are done, before those of the entries after them.
     pub(crate) fn after(self, next: Next<'a>, done: u64) -> Cues<'a>
         requires none { self.left ≡ 0 }
         requires within { HasNext next done }

@@ -3,9 +3,9 @@
 ghost use Rattle.std.specs.Prelude.{◌≡◌, ◌<◌, IfOk, length, true};
 ghost use Rattle.cue_scripts.specs.Script.{IsScript};
 ghost use Rattle.machine_model.specs.View.{view_of};
-ghost use Rattle.whole_system.specs.State.{with_inputs};
-ghost use Rattle.xm_alone.specs.Replay.{IsSilentReplay, TellsFit, is_refused, lone_in, still_silent};
-ghost use Rattle.told_scripts.specs.Lone.{booted_alone};
+ghost use Rattle.system_state.specs.State.{with_inputs};
+ghost use Rattle.xm_alone.specs.Replay.{IsSilentReplay, AnswersFit, is_refused, lone_in, still_silent};
+ghost use Rattle.recording_model.specs.Lone.{booted_alone};
 
 use crate::alone::Alone;
 use crate::cues::Cues;
@@ -30,7 +30,7 @@ pub fn fits(
     requires partition { p < length system.conf.parts }
     requires inputs { length inputs ≡ length system.conf.parts }
     requires script { IsScript system.conf p script.now }
-    ensures { TellsFit (view_of (with_inputs system inputs) p) script.now result }
+    ensures { AnswersFit (view_of (with_inputs system inputs) p) script.now result }
 {
     match Alone::tried(alloc, system, inputs, p, script) {
         Ok(_) => Ok(()),
@@ -48,7 +48,7 @@ pub(crate) fn takes_all(
     requires partition { p < length machine.old.state.parts }
     requires fresh { lone_in machine.old.state p ≡ booted_alone machine.old.state.system p }
     requires script { IsScript machine.old.state.system.conf p script.now }
-    ensures fits { TellsFit (view_of machine.old.state.system p) script.now result }
+    ensures fits { AnswersFit (view_of machine.old.state.system p) script.now result }
     ensures silent { IfOk result (λ silent. silent ≡ true → IsSilentReplay script.now (lone_in machine.old.state p) (lone_in machine.new.state p)) }
     ensures parts { IfOk result (λ _. length machine.new.state.parts ≡ length machine.old.state.parts) }
 {

@@ -1,7 +1,7 @@
 //! A partition of a machine that follows the cues of a script.
 
 ghost use Rattle.std.specs.Prelude.{◌≡◌, ◌+◌, ◌<◌, ◌≤◌, false, length};
-ghost use Rattle.alone_passes.specs.Step.{IsOfSystem};
+ghost use Rattle.replay_model.specs.Step.{IsOfSystem};
 ghost use Rattle.xm_alone.specs.Cues.{Follows, HasNext, IsNextCue, next_cues};
 ghost use Rattle.xm_machine.specs.AloneStep.{HasStepCause};
 
@@ -11,7 +11,7 @@ use xm_base::{PartId, TICKS};
 use xm_machine::{AloneSpan, Machine};
 use xm_outside::Sink;
 
-/// Ticks of partition `p` without the others under the cues that come next: one at least, and no more than one that prints or says
+/// Ticks of partition `p` in isolation under the cues that come next: one at least, and no more than one that prints or says
 /// something.
 pub(crate) fn follow<O: Sink>(
     machine: &mut Machine,

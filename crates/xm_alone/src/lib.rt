@@ -1,4 +1,4 @@
-//! One partition of a run by itself: its replay without the others.
+//! One partition of a run by itself: its replay in isolation.
 #![tactic(auto)]
 
 mod alone;

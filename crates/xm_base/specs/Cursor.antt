@@ -19,11 +19,11 @@ ahead cursor = drop cursor.at cursor.bytes
 abbrev pub left : Place → ℕ
 left cursor = length (ahead cursor)
 
--- the next bytes, so many
+-- the next bytes, this many
 abbrev pub next : ℕ → Place → List ℕ
 next count cursor = take count (ahead cursor)
 
--- the cursor so many bytes further
+-- the cursor this many bytes further
 abbrev pub past : ℕ → Place → Place
 past count cursor = record { bytes = cursor.bytes; at = cursor.at + count }
 

@@ -87,7 +87,7 @@ impl<'a> Cursor<'a> {
         Ok(double_word(self.take(8)?))
     }
 
-    /// The next bytes, so many.
+    /// The next bytes, this many.
     pub fn take(&mut self, n: usize) -> Result<&'a [u8], Short>
         ensures moves { Moves n self.old self.new result }
         ensures bytes { IfOk result (λ bytes. bytes.now ≡ next n self.old) }

@@ -3,10 +3,10 @@
 
 mod cursor;
 mod limits;
+mod memory;
 mod partition;
-mod want;
 
 pub use cursor::{Cursor, Short};
 pub use limits::{CONSOLE_BYTES, FILE_BYTES, IMAGE_BYTES, TICKS};
+pub use memory::Memory;
 pub use partition::{Mode, Order, PartId, State};
-pub use want::Memory;

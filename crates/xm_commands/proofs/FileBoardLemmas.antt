@@ -22,8 +22,8 @@ file_more view places place uart within before same =
     let one : suc place ≡ place + 1 = omega arith in
     let after : 7 - place ≡ 8 - (place + 1) = omega arith in
     map-set (option_map view) places place (Some uart)
-    ∙ ap (λ told. slice_set told place (Some (view uart))) before
-    ∙ ap (λ told. slice_set (files_below place) place (Some told)) same
+    ∙ ap (λ boxed. slice_set boxed place (Some (view uart))) before
+    ∙ ap (λ boxed. slice_set (files_below place) place (Some boxed)) same
     ∙ ap (λ n. slice_set (replicate place (Some unwritten) ++ replicate n None) place (Some unwritten)) rest
     ∙ next_set place (7 - place) (Some unwritten) None
     ∙ ap (λ n. replicate n (Some unwritten) ++ replicate (7 - place) None) one
@@ -34,5 +34,5 @@ pub board_more : {U : Type 0} (view : U → UartView) (places : List (Option U))
     → ◌≡◌ {A = BoardView} (record { places = map (option_map view) places; marks = marks }) (filled place) → view uart ≡ unwritten
     → ◌≡◌ {A = BoardView} (record { places = map (option_map view) (slice_set places place (Some uart)); marks = marks }) (filled (place + 1))
 board_more view places marks place uart within before same =
-    ap (λ told. record { places = told; marks = marks }) (file_more view places place uart within (ap (λ (b : BoardView). b.places) before) same)
+    ap (λ boxed. record { places = boxed; marks = marks }) (file_more view places place uart within (ap (λ (b : BoardView). b.places) before) same)
     ∙ ap (λ (m : List (Option ℕ)). record { places = files_below (place + 1); marks = m }) (ap (λ (b : BoardView). b.marks) before)

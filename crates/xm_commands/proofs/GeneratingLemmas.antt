@@ -1,7 +1,7 @@
 -- The command that generates a system reads no file, and writes none.
 use Rattle.std.proofs.Common.{ℕ, List, [], Option, refl}
 use Rattle.xm_outside.specs.Files.{Files}
-use Rattle.xm_words.specs.Words.{Generate}
+use Rattle.command_line.specs.Words.{Generate}
 use Rattle.file_commands.specs.Ending.{Ending}
 use Rattle.file_commands.specs.Outcome.{outcome_of}
 use Rattle.file_commands.specs.Work.{IsDone, Reports, outside}

@@ -1,4 +1,4 @@
--- What stays of the outside, and what the files come to.
+-- What stays of the outside, and the outcome of the files.
 use Rattle.std.proofs.Common.{◌≡◌, ◌≢◌, ℕ, zero, suc, ◌+◌, cond, Bool, true, false, nat_lt, ◌==◌, ◌||◌, if◌then◌else◌, List, [], ◌∷◌, ◌++◌, length, take, drop, Option, Some, None, Result, Ok, Err, refl, sym, ap, ◌∙◌}
 use Rattle.std.specs.Cmp.Lexicographic.{slice_cmp, nat_list_cmp_total}
 use Rattle.std.specs.FinMap.{get, insert, get-insert, slice_cmp-IsAntisymmetric, nat_cmp-IsAntisymmetric}
@@ -11,22 +11,22 @@ use Rattle.xm_base.specs.Options.{on}
 use Rattle.xm_base.specs.declared.limits.TheConstants.{FILE_BYTES, IMAGE_BYTES, TICKS}
 use Rattle.xm_outside.specs.Causes.{counted}
 use Rattle.xm_outside.specs.Files.{Files, OthersStay, stored}
-use Rattle.xm_words.specs.Words.{Command, PartFile, RunOption, Bare, Parse, Upgrade, BuildImage, ReadImage, Pack, ListContainer, CheckContainer, MakePlan, CheckPlan, TellGroups, Generate, Run, Replay, ReplayFiles, cores_in, replay_core, replay_input, scripts_in, span_in}
+use Rattle.command_line.specs.Words.{Command, PartFile, RunOption, Bare, Parse, Upgrade, BuildImage, ReadImage, Pack, ListContainer, CheckContainer, MakePlan, CheckPlan, ListGroups, Generate, Run, Replay, ReplayFiles, cores_in, replay_core, replay_input, scripts_in, span_in}
 use Rattle.xm_container.specs.Reading.{unpacked}
-use Rattle.file_texts.specs.declared.fault.BoxFault.{BoxFault}
+use Rattle.fault_messages.specs.declared.fault.BoxFault.{BoxFault}
 use Rattle.xm_commands.specs.Answer.{files_saved}
 use Rattle.run_commands.specs.Contents.{read_all, read_before}
 use Rattle.loaded_system.specs.Bare.{bare_system}
 use Rattle.loaded_system.specs.System.{System}
-use Rattle.whole_system.specs.State.{with_inputs}
+use Rattle.system_state.specs.State.{with_inputs}
 use Rattle.file_commands.specs.Ending.{length_text, ticks_text}
-use Rattle.file_maker.specs.Grouping.{groups_of}
-use Rattle.file_maker.specs.Imaging.{container_lines_of, container_verdict_of, image_lines_of, xef_of}
+use Rattle.builders.specs.Grouping.{groups_of}
+use Rattle.builders.specs.Imaging.{container_lines_of, container_verdict_of, image_lines_of, xef_of}
 use Rattle.file_commands.specs.Inputs.{no_inputs}
 use Rattle.file_commands.specs.Packing.{container_of}
-use Rattle.file_maker.specs.Parsing.{upgraded_of, xmc_of}
-use Rattle.file_maker.specs.Planning.{plan_lines_of, verdicts_of}
-use Rattle.file_maker.specs.Ready.{Replay as Readied, Unready, replay_of}
+use Rattle.builders.specs.Parsing.{upgraded_of, xmc_of}
+use Rattle.builders.specs.Planning.{plan_lines_of, verdicts_of}
+use Rattle.builders.specs.Ready.{Replay as Readied, Unready, replay_of}
 use Rattle.file_commands.specs.Denial.{Denial}
 use Rattle.file_commands.specs.Outcome.{Output, bare_outcome, content, first_long, input_bytes, file_made, packed_to, played, outcome_of_run, ran_for, ran_scripted, ran_with, ran_within, command_refused, refused_by, replay_outcome_by, replay_outcome, run_by, run_outcome, text_reported, inputs_of, outcome_of, scripts_for, ticks_asked, unless_long, outcome_of_contents}
 use Rattle.xm_commands.specs.Top.{AreContents}
@@ -61,10 +61,10 @@ pub wrote-write_faults : (o : Option Output) (x : Outside) → (wrote o x).write
 wrote-write_faults None x = refl
 wrote-write_faults (Some output) x = refl
 
--- the files that are told, once a file is written
+-- the files that are known, once a file is written
 pub wrote-files : (o : Option Output) (x : Outside) (files : Files) → x.files ≡ Some files → (wrote o x).files ≡ Some (files_saved o files)
-wrote-files None x files told = told
-wrote-files (Some output) x files told = rw told refl
+wrote-files None x files known = known
+wrote-files (Some output) x files known = rw known refl
 
 -- a file that is written has these bytes
 pub stored-same : (files : Files) (file bytes : List ℕ) → get (insert files file bytes) file ≡ Some bytes
@@ -81,11 +81,11 @@ stored-others files file bytes other differs = get-insert nat_list_cmp_total fil
     at Greater is = refl
 
 -- a file that is written leaves the others, where the store knows them
-pub others_stored : (told : Option Files) (file bytes : List ℕ) → OthersStay told file (stored told file bytes)
+pub others_stored : (known : Option Files) (file bytes : List ℕ) → OthersStay known file (stored known file bytes)
 others_stored None file bytes = tt
 others_stored (Some files) file bytes = λ other differs. stored-others files file bytes other differs
 
--- a refusal is the one that is told
+-- a refusal is the one that is reported
 same_refusal : (one other : Denial) → Some one ≡ Some other → refused_by one ≡ refused_by other
 same_refusal one other e = (let same : one ≡ other = cc in ap refused_by same)
 
@@ -99,10 +99,10 @@ packed-denied : (file : List ℕ) (packed : Result (List ℕ) Denial) (denial : 
 packed-denied file (Ok bytes) denial e = absurd (cc)
 packed-denied file (Err refusal) denial e = same_refusal refusal denial e
 
--- and what is told
-told-denied : (file : List ℕ) (text : Result (List ℕ) (List ℕ)) (denial : Denial) → (text_reported file text).denial ≡ Some denial → text_reported file text ≡ refused_by denial
-told-denied file (Ok text) denial e = absurd (cc)
-told-denied file (Err text) denial e = same_refusal _ denial e
+-- and what is printed
+reported-denied : (file : List ℕ) (text : Result (List ℕ) (List ℕ)) (denial : Denial) → (text_reported file text).denial ≡ Some denial → text_reported file text ≡ refused_by denial
+reported-denied file (Ok text) denial e = absurd (cc)
+reported-denied file (Err text) denial e = same_refusal _ denial e
 
 -- a run of a system is not refused
 ran-denied : (ticks : ℕ) (cores : List PartFile) (scripts : List Output) (system : System) (inputs : List (List ℕ)) (denial : Denial) → (outcome_of_run ticks cores scripts system inputs).denial ≡ Some denial → ⊥
@@ -154,16 +154,16 @@ played-denied : (core : Option (List ℕ)) (replay : Readied) (denial : Denial) 
 unfolding played
 played-denied core replay denial e = cc
 
-replay-denied : (container : List ℕ) (part : ℕ) (script : List ℕ) (further : ReplayFiles) (bytes told input : List ℕ) (denial : Denial) → (replay_outcome container part script further bytes told input).denial ≡ Some denial
-    → replay_outcome container part script further bytes told input ≡ refused_by denial
+replay-denied : (container : List ℕ) (part : ℕ) (script : List ℕ) (further : ReplayFiles) (bytes received input : List ℕ) (denial : Denial) → (replay_outcome container part script further bytes received input).denial ≡ Some denial
+    → replay_outcome container part script further bytes received input ≡ refused_by denial
 unfolding replay_outcome
-replay-denied container part script further bytes told input denial e = at (replay_of bytes part told input) e
+replay-denied container part script further bytes received input denial e = at (replay_of bytes part received input) e
   where
     at : (made_of : Result Readied Unready) → (replay_outcome_by container part script further made_of).denial ≡ Some denial → replay_outcome_by container part script further made_of ≡ refused_by denial
     at (Ok replay) e = absurd (played-denied (replay_core further) replay denial e)
     at (Err why) e = same_refusal _ denial e
 
--- a command that is refused comes to the refusal, and to nothing else
+-- the outcome of a command that is refused is the refusal, and nothing else
 pub outcome-denied : (command : Command) (contents : List (List ℕ)) (denial : Denial) → (outcome_of command contents).denial ≡ Some denial → outcome_of command contents ≡ refused_by denial
 unfolding outcome_of
 outcome-denied command contents denial is = at command (first_long (inputs_of command) contents) is
@@ -174,29 +174,29 @@ outcome-denied command contents denial is = at command (first_long (inputs_of co
     at (Parse description out) None e = made-denied description out (xmc_of (content 0 contents)) denial e
     at (Upgrade configuration out) None e = made-denied configuration out (upgraded_of (content 0 contents)) denial e
     at (BuildImage program out) None e = made-denied program out (xef_of (content 0 contents)) denial e
-    at (ReadImage image) None e = told-denied image (image_lines_of (content 0 contents)) denial e
+    at (ReadImage image) None e = reported-denied image (image_lines_of (content 0 contents)) denial e
     at (Pack configuration out images) None e = packed-denied out (container_of configuration (content 0 contents) images (drop 1 contents)) denial e
-    at (ListContainer container) None e = told-denied container (container_lines_of (content 0 contents)) denial e
-    at (CheckContainer container) None e = told-denied container (container_verdict_of (content 0 contents)) denial e
-    at (MakePlan description) None e = told-denied description (plan_lines_of (content 0 contents)) denial e
-    at (CheckPlan description) None e = told-denied description (verdicts_of (content 0 contents)) denial e
-    at (TellGroups description) None e = told-denied description (groups_of (content 0 contents)) denial e
+    at (ListContainer container) None e = reported-denied container (container_lines_of (content 0 contents)) denial e
+    at (CheckContainer container) None e = reported-denied container (container_verdict_of (content 0 contents)) denial e
+    at (MakePlan description) None e = reported-denied description (plan_lines_of (content 0 contents)) denial e
+    at (CheckPlan description) None e = reported-denied description (verdicts_of (content 0 contents)) denial e
+    at (ListGroups description) None e = reported-denied description (groups_of (content 0 contents)) denial e
     at (Generate number) None e = absurd (cc)
     at (Run container options) None e = run-denied container options (content 0 contents) (drop 1 contents) denial e
     at (Replay container part script further) None e = replay-denied container part script further (content 0 contents) (content 1 contents) (input_bytes (replay_input further) (content 2 contents)) denial e
 
 -- What is read.
 
--- the contents of a command's files, and what they come to
-pub record Told (told : Option Files) (command : Command) (fronts : List (List ℕ)) : Type 0 where
+-- the contents of a command's files, and their outcome
+pub record Known (known : Option Files) (command : Command) (fronts : List (List ℕ)) : Type 0 where
   pub contents : List (List ℕ)
-  pub are : AreContents told command contents
+  pub are : AreContents known command contents
   pub outcome : outcome_of command fronts ≡ outcome_of command contents
 
--- what was read of a command's files comes to what the files come to
-pub told_outcome : (told : Option Files) (command : Command) (fronts : List (List ℕ)) → ReadsFiles told (inputs_of command) fronts → Told told command fronts
-told_outcome None command fronts read = record { contents = fronts; are = tt; outcome = refl }
-told_outcome (Some files) command fronts read =
+-- what was read of a command's files has the outcome of the files
+pub known_outcome : (known : Option Files) (command : Command) (fronts : List (List ℕ)) → ReadsFiles known (inputs_of command) fronts → Known known command fronts
+known_outcome None command fronts read = record { contents = fronts; are = tt; outcome = refl }
+known_outcome (Some files) command fronts read =
     let is = are_whole files (inputs_of command) fronts read in
     record { contents = is.contents; are = is.read; outcome = same is (first_long (inputs_of command) is.contents) refl }
   where

@@ -1,12 +1,12 @@
 -- The promises of the top call together, from what the work did.
 use Rattle.std.proofs.Common.{List, ℕ, refl}
-use Rattle.alone_replay.specs.OfRun.{RunIsReplayed}
+use Rattle.replay_setup.specs.OfRun.{RunIsReplayed}
 use Rattle.machine_model.specs.Laws.{OwnLines, SameCoreFile}
-use Rattle.xm_words.specs.Words.{command_of}
+use Rattle.command_line.specs.Words.{command_of}
 use Rattle.file_commands.specs.Ending.{Ending, complaint, status_of}
 use Rattle.file_commands.specs.Work.{Works}
 use Rattle.run_commands.specs.Boards.{Plays}
-use Rattle.run_commands.specs.Numbers.{HasScripts, WordsTell}
+use Rattle.run_commands.specs.Numbers.{HasScripts, WordsReceive}
 use Rattle.xm_commands.specs.Page.{IsAnswer}
 use Rattle.xm_commands.specs.Top.{IsSaid}
 use Rattle.xm_commands.specs.World.{World}
@@ -19,7 +19,7 @@ use Rattle.xm_commands.proofs.TopLemmas.{answers, barren, files_stay, has_causes
 -- what the work did, and the line after it, answer the words
 pub is_answer : OwnLines → SameCoreFile → RunIsReplayed → (ending : Ending) (contents words : List (List ℕ)) (before after : World)
     → Works ending contents (command_of words) before.disk after.disk → Plays ending contents (command_of words) before.disk.got after.disk.got before.board after.board
-    → (HasScripts ending → WordsTell (command_of words) before.disk.files) → IsSaid (complaint ending) before.errors after.errors → IsAnswer (status_of ending) words before after
+    → (HasScripts ending → WordsReceive (command_of words) before.disk.files) → IsSaid (complaint ending) before.errors after.errors → IsAnswer (status_of ending) words before after
 is_answer lines_law core_law replay_law ending contents words before after works plays numbers line = record {
   by = record { ending = ending; contents = contents };
   answered = refl;

@@ -8,22 +8,22 @@ use Rattle.xm_report.specs.Report.{ReportLine}
 use Rattle.xm_report.specs.declared.output.WriteFault.{WriteFault}
 use Rattle.uart_board.specs.Heard.{IsHeard}
 use Rattle.uart_board.specs.Views.{BoardView, without_marks}
-use Rattle.alone_replay.specs.Readied.{IsUnready}
-use Rattle.file_maker.specs.Ready.{Replay as Readied, Unready}
+use Rattle.replay_setup.specs.Readied.{IsUnready}
+use Rattle.builders.specs.Ready.{Replay as Readied, Unready}
 use Rattle.machine_model.specs.Cue.{Cue}
 use Rattle.machine_model.specs.View.{view_of}
-use Rattle.told_scripts.specs.Replayed.{replay_lines}
+use Rattle.recording_model.specs.Replayed.{replay_lines}
 use Rattle.xm_alone.specs.Replay.{IsCutReplay, IsReplay, IsReplayed, IsWholeReplay}
-use Rattle.told_scripts.specs.Lone.{Lone, booted_alone, own_view, replay_said}
-use Rattle.xm_words.specs.Words.{ReplayFiles}
+use Rattle.recording_model.specs.Lone.{Lone, booted_alone, own_view, replay_said}
+use Rattle.command_line.specs.Words.{ReplayFiles}
 use Rattle.run_commands.specs.EndsAfter.{EndsAfter}
 use Rattle.run_commands.specs.Boards.{IsRunTo, LeavesBoard}
 use Rattle.run_commands.specs.EndsAfterLemmas.{leaves_and_after, outcome_and_after}
-use Rattle.file_commands.specs.Ending.{Ending, Unwritten}
+use Rattle.file_commands.specs.Ending.{Ending, WriteFaultReport}
 use Rattle.xm_base.specs.declared.limits.TheConstants.{FILE_BYTES}
 use Rattle.file_commands.specs.Outcome.{Output, Running, Apart, content, first_long, input_bytes, name_if_any, played, replay_outcome_by, replay_output, unready_denial}
 use Rattle.xm_commands.specs.Replaying.{lone_output, ready_of, unready_ending}
-use Rattle.file_commands.specs.Work.{Outside, Comes, outside, told_all}
+use Rattle.file_commands.specs.Work.{Outside, Comes, outside, reported_all}
 use Rattle.std.proofs.lemmas.Bool.Decides.{nat_tests}
 use Rattle.run_commands.specs.InputLemmas.{rest_short}
 use Rattle.file_commands.specs.CommandLemmas.{refused_comes}
@@ -31,11 +31,11 @@ use Rattle.file_commands.specs.CommandLemmas.{refused_comes}
 -- A replay.
 
 -- its whole report went out
-pub whole_told : (lone new : Lone) (cues : List Cue) (core : Option (List ℕ)) (had got : Option (List ℕ)) (before now : ℕ) (files : Option Files) (reads writes calls : ℕ) (mid after : BoardView)
+pub whole_reported : (lone new : Lone) (cues : List Cue) (core : Option (List ℕ)) (had got : Option (List ℕ)) (before now : ℕ) (files : Option Files) (reads writes calls : ℕ) (mid after : BoardView)
     → IsWholeReplay cues (replay_lines (own_view lone) cues) lone new had got mid after → now ≡ before
-    → outside files reads writes calls got now ≡ told_all (played core (ready_of lone cues)) (outside files reads writes calls had before)
+    → outside files reads writes calls got now ≡ reported_all (played core (ready_of lone cues)) (outside files reads writes calls had before)
 unfolding played
-whole_told lone new cues core had got before now files reads writes calls mid after is same = rw (is.report, same) refl
+whole_reported lone new cues core had got before now files reads writes calls mid after is same = rw (is.report, same) refl
 
 -- the core file that is written of it
 pub core_is : (lone new : Lone) (cues : List Cue) (file : List ℕ) → IsReplayed cues lone new → lone_output new file ≡ replay_output (ready_of lone cues) file
@@ -57,19 +57,19 @@ pub played-runs : (core : Option (List ℕ)) (replay : Readied) → IsSome (play
 unfolding played
 played-runs core replay = refl
 
--- so it comes to what is done after its report
-pub behind_replay : (e : Ending) (board : BoardView) (lone new : Lone) (cues : List Cue) (core : Option (List ℕ)) (had got : Option (List ℕ)) (before now : ℕ) (files : Option Files) (reads writes calls : ℕ) (mid last : BoardView) (after : Outside)
+-- so its outcome is what is done after its report
+pub after_replay : (e : Ending) (board : BoardView) (lone new : Lone) (cues : List Cue) (core : Option (List ℕ)) (had got : Option (List ℕ)) (before now : ℕ) (files : Option Files) (reads writes calls : ℕ) (mid last : BoardView) (after : Outside)
     → IsWholeReplay cues (replay_lines (own_view lone) cues) lone new had got mid last → now ≡ before → EndsAfter e (map (lone_output new) (name_if_any core)) board (outside files reads writes calls got now) after
     → Comes e (played core (ready_of lone cues)) (outside files reads writes calls had before) after
-behind_replay e board lone new cues core had got before now files reads writes calls mid last after is same ends =
+after_replay e board lone new cues core had got before now files reads writes calls mid last after is same ends =
     outcome_and_after e board (played core (ready_of lone cues)) (outside files reads writes calls had before) (outside files reads writes calls got now) after (played-granted core (ready_of lone cues)) (played-runs core (ready_of lone cues))
-    (whole_told lone new cues core had got before now files reads writes calls mid last is same)
+    (whole_reported lone new cues core had got before now files reads writes calls mid last is same)
     (subst (λ (os : List Output). EndsAfter e os board (outside files reads writes calls got now) after) (cores_are lone new cues core is.left) ends)
 
 -- its report was cut
 pub cut_comes : (lone new : Lone) (cues : List Cue) (core : Option (List ℕ)) (had got : Option (List ℕ)) (before now : ℕ) (files : Option Files) (reads writes calls : ℕ) (mid after : BoardView)
     → IsCutReplay cues (replay_lines (own_view lone) cues) lone new had got mid after → Rose before now
-    → Comes Unwritten (played core (ready_of lone cues)) (outside files reads writes calls had before) (outside files reads writes calls got now)
+    → Comes WriteFaultReport (played core (ready_of lone cues)) (outside files reads writes calls had before) (outside files reads writes calls got now)
 unfolding played
 cut_comes lone new cues core had got before now files reads writes calls mid after is rose = (rose, is.report, refl)
 
@@ -93,14 +93,14 @@ whole_heard lone new cues had got before mid after is begins = rw take_all_same 
     take_all_same = take_all (length cues) cues (omega arith)
 
 -- where its whole report went out
-pub lone_behind : (e : Ending) (outputs : List Output) (from to : Outside) (lone new : Lone) (cues : List Cue) (core : Option (List ℕ)) (had got : Option (List ℕ)) (before mid after : BoardView)
+pub lone_after : (e : Ending) (outputs : List Output) (from to : Outside) (lone new : Lone) (cues : List Cue) (core : Option (List ℕ)) (had got : Option (List ℕ)) (before mid after : BoardView)
     → EndsAfter e outputs after from to → IsWholeReplay cues (replay_lines (own_view lone) cues) lone new had got mid after → mid ≡ without_marks before → LeavesBoard e (played core (ready_of lone cues)).run had got before after
 unfolding played
-lone_behind e outputs from to lone new cues core had got before mid after ends is begins =
+lone_after e outputs from to lone new cues core had got before mid after ends is begins =
     leaves_and_after e outputs (Apart lone.system lone.p cues) had got from to before after (whole_heard lone new cues had got before mid after is begins) ends
 
 pub lone_cut : (lone new : Lone) (cues : List Cue) (core : Option (List ℕ)) (had got : Option (List ℕ)) (before mid after : BoardView) → IsCutReplay cues (replay_lines (own_view lone) cues) lone new had got mid after → mid ≡ without_marks before
-    → LeavesBoard Unwritten (played core (ready_of lone cues)).run had got before after
+    → LeavesBoard WriteFaultReport (played core (ready_of lone cues)).run had got before after
 unfolding played
 lone_cut lone new cues core had got before mid after is begins = record {
   front = is.report;
@@ -132,12 +132,12 @@ content_next n [] = refl
 content_next n (bytes ∷ contents) = refl
 
 -- the second and the third content
-pub content_second : (contents others : List (List ℕ)) (told : List ℕ) → told ≡ content 0 others → others ≡ drop 1 contents → told ≡ content 1 contents
-content_second contents others told is behind = is ∙ ap (content 0) behind ∙ sym (content_next 0 contents)
+pub content_second : (contents others : List (List ℕ)) (received : List ℕ) → received ≡ content 0 others → others ≡ drop 1 contents → received ≡ content 1 contents
+content_second contents others received is following = is ∙ ap (content 0) following ∙ sym (content_next 0 contents)
 
 pub content_third : (contents others more : List (List ℕ)) (last : List ℕ) → last ≡ content 0 more → more ≡ drop 1 others → others ≡ drop 1 contents → last ≡ content 2 contents
-content_third contents others more last is behind behind_first =
-    content_second others more last is behind ∙ ap (content 1) behind_first ∙ sym (content_next 1 contents)
+content_third contents others more last is following after_first =
+    content_second others more last is following ∙ ap (content 1) after_first ∙ sym (content_next 1 contents)
 
 -- a first file that is not too long
 head_short : (file : List ℕ) (files contents : List (List ℕ)) → first_long (file ∷ files) contents ≡ None → length (content 0 contents) ≤ FILE_BYTES

@@ -6,34 +6,34 @@ use Rattle.xm_outside.specs.Growth.{grown}
 use Rattle.xm_report.specs.Report.{ReportLine, texts}
 use Rattle.uart_board.specs.Heard.{IsHeard}
 use Rattle.uart_board.specs.Views.{BoardView, without_marks}
-use Rattle.alone_replay.specs.OfRun.{RunIsReplayed, own_console}
-use Rattle.file_maker.specs.Ready.{Replay as Readied, replay_of}
+use Rattle.replay_setup.specs.OfRun.{RunIsReplayed, own_console}
+use Rattle.builders.specs.Ready.{Replay as Readied, replay_of}
 use Rattle.machine_model.specs.CoreFile.{core_file}
 use Rattle.machine_model.specs.Cue.{Cue}
 use Rattle.machine_model.specs.Laws.{core_file_of}
 use Rattle.machine_model.specs.Lines.{own, report}
 use Rattle.machine_model.specs.Machine.{run, start}
 use Rattle.machine_model.specs.View.{System, view_of}
-use Rattle.whole_system.specs.State.{with_inputs}
-use Rattle.told_scripts.specs.Lone.{booted_alone, replay_said}
-use Rattle.told_scripts.specs.Replayed.{replay_lines, replayed}
-use Rattle.xm_words.specs.Words.{Command, ReplayFiles, Bare, Parse, Upgrade, BuildImage, ReadImage, Pack, ListContainer, CheckContainer, MakePlan, CheckPlan, TellGroups, Generate, Run, Replay, replay_core, replay_input}
+use Rattle.system_state.specs.State.{with_inputs}
+use Rattle.recording_model.specs.Lone.{booted_alone, replay_said}
+use Rattle.recording_model.specs.Replayed.{replay_lines, replayed}
+use Rattle.command_line.specs.Words.{Command, ReplayFiles, Bare, Parse, Upgrade, BuildImage, ReadImage, Pack, ListContainer, CheckContainer, MakePlan, CheckPlan, ListGroups, Generate, Run, Replay, replay_core, replay_input}
 use Rattle.run_commands.specs.Boards.{IsRunTo, LeavesBoard, Plays, said_in_run, ticks_of_run}
 use Rattle.run_commands.specs.Contents.{read_all}
 use Rattle.file_commands.specs.Denial.{Denial}
-use Rattle.file_commands.specs.Ending.{Ending, Finished, Misused, Unread, Denied, Unwritten, Unsaved, Unheard, Starved, status_of}
+use Rattle.file_commands.specs.Ending.{Ending, Done, Usage, ReadFault, Refused, WriteFaultReport, WriteFaultFile, UartFault, NoMemory, status_of}
 use Rattle.file_commands.specs.Outcome.{Apart, Output, Outcome, Running, content, core_output, first_long, input_bytes, inputs_of, name_if_any, outcome_of, played, replay_outcome_by, replay_outcome, replay_output, unless_long, outcome_of_contents}
 use Rattle.xm_commands.specs.Separation.{ReplaysAlone, ShowsOwn}
 use Rattle.xm_commands.specs.Top.{AreContents, IsCompleteStatus, IsRefusedIn}
-use Rattle.file_commands.specs.Work.{Outside, IsCarriedOut, Works, called_for, did, told_all, wrote_all}
+use Rattle.file_commands.specs.Work.{Outside, IsCarriedOut, Works, called_for, did, reported_all, wrote_all}
 use Rattle.file_commands.specs.OutputLemmas.{called_for-is}
 use Rattle.xm_commands.specs.World.{World}
-use Rattle.xm_commands.proofs.OutsideLemmas.{told_outcome}
+use Rattle.xm_commands.proofs.OutsideLemmas.{known_outcome}
 use Rattle.xm_commands.proofs.SeparationLemmas.{core_there}
 use Rattle.xm_commands.proofs.TopLemmas.{done_is_finished, has_causes, unheard_finished}
 use Rattle.xm_commands.proofs.WrittenLemmas.{did-got, wrote_all-from}
 
--- what a replay that may begin comes to
+-- the outcome of a replay that may begin
 pub begun_outcome : (container : List ℕ) (part : ℕ) (script : List ℕ) (further : ReplayFiles) (contents : List (List ℕ)) (replay : Readied)
     → first_long (container ∷ script ∷ name_if_any (replay_input further)) contents ≡ None
     → replay_of (content 0 contents) part (content 1 contents) (input_bytes (replay_input further) (content 2 contents)) ≡ Ok replay
@@ -71,14 +71,14 @@ shows_own system ticks part replay core before read_from after lines file files 
       ∙ ap (λ (g : Option (List ℕ)). grown g (texts (replay_lines (view_of replay.system replay.p) replay.cues))) got
       ∙ ap (λ (ls : List ReportLine). grown before.disk.got (texts ls)) lines;
   written = ap (λ (x : Outside). x.files) is
-      ∙ ap (λ (os : List Output). (wrote_all os (told_all (played core replay) read_from)).files) (own_cores system ticks part replay core file)
-      ∙ wrote_all-from (map (λ (f : List ℕ). core_output (run (start system) ticks) (record { part = part; file = f })) (name_if_any core)) (told_all (played core replay) read_from) before.disk files;
+      ∙ ap (λ (os : List Output). (wrote_all os (reported_all (played core replay) read_from)).files) (own_cores system ticks part replay core file)
+      ∙ wrote_all-from (map (λ (f : List ℕ). core_output (run (start system) ticks) (record { part = part; file = f })) (name_if_any core)) (reported_all (played core replay) read_from) before.disk files;
   said = heard;
 }
 
 -- contents that were read of known files are these
-same_contents : (files : Files) (told : Option Files) (command : Command) (contents others : List (List ℕ)) → told ≡ Some files → read_all files (inputs_of command) ≡ Ok contents → AreContents told command others → others ≡ contents
-same_contents files told command contents others known all are =
+same_contents : (files : Files) (held : Option Files) (command : Command) (contents others : List (List ℕ)) → held ≡ Some files → read_all files (inputs_of command) ≡ Ok contents → AreContents held command others → others ≡ contents
+same_contents files held command contents others known all are =
     let read : read_all files (inputs_of command) ≡ Ok others = subst (λ (o : Option Files). AreContents o command others) known are in
     let both : Ok others ≡ Ok contents = sym read ∙ all in
     cc
@@ -115,14 +115,14 @@ replay_heard e run system ticks part replay had got board left said complete lea
     by e complete (subst (λ (r : Option Running). LeavesBoard e r had got board left) runs leaves)
   where
     by : (e : Ending) → IsCompleteStatus (status_of e) → LeavesBoard e (Some (Apart replay.system replay.p replay.cues)) had got board left → IsHeard (own_console system ticks part) (without_marks board) left
-    by Finished complete leaves = run_heard system ticks part replay board left said leaves.heard
-    by Misused complete leaves = absurd (⊎_elim (λ h. cc) (λ h. cc) complete)
-    by (Unread file) complete leaves = absurd (⊎_elim (λ h. cc) (λ h. cc) complete)
-    by (Denied file text) complete leaves = absurd (⊎_elim (λ h. cc) (λ h. cc) complete)
-    by Unwritten complete leaves = absurd (⊎_elim (λ h. cc) (λ h. cc) complete)
-    by (Unsaved file) complete leaves = absurd (⊎_elim (λ h. cc) (λ h. cc) complete)
-    by (Unheard place) complete leaves = run_heard system ticks part replay board left said leaves.heard
-    by Starved complete leaves = absurd (⊎_elim (λ h. cc) (λ h. cc) complete)
+    by Done complete leaves = run_heard system ticks part replay board left said leaves.heard
+    by Usage complete leaves = absurd (⊎_elim (λ h. cc) (λ h. cc) complete)
+    by (ReadFault file) complete leaves = absurd (⊎_elim (λ h. cc) (λ h. cc) complete)
+    by (Refused file text) complete leaves = absurd (⊎_elim (λ h. cc) (λ h. cc) complete)
+    by WriteFaultReport complete leaves = absurd (⊎_elim (λ h. cc) (λ h. cc) complete)
+    by (WriteFaultFile file) complete leaves = absurd (⊎_elim (λ h. cc) (λ h. cc) complete)
+    by (UartFault place) complete leaves = run_heard system ticks part replay board left said leaves.heard
+    by NoMemory complete leaves = absurd (⊎_elim (λ h. cc) (λ h. cc) complete)
 
 -- one that was carried out shows the partition's part
 carried_own : (command : Command) (read : List (List ℕ)) (before after : World) (files : Files) (contents : List (List ℕ)) (system : System) (ticks part : ℕ) (core : Option (List ℕ)) (replay : Readied) → before.disk.files ≡ Some files
@@ -132,12 +132,12 @@ carried_own : (command : Command) (read : List (List ℕ)) (before after : World
     → IsCarriedOut None read command before.disk after.disk → ((outcome_of command read).run ≡ Some (Apart replay.system replay.p replay.cues) → IsHeard (own_console system ticks part) (without_marks before.board) after.board)
     → ShowsOwn system ticks part core before after
 carried_own command read before after files contents system ticks part core replay known all comes lines file w heard =
-    let told = told_outcome before.disk.files command read w.read in
-    let same : told.contents ≡ contents = same_contents files before.disk.files command contents told.contents known all told.are in
+    let held = known_outcome before.disk.files command read w.read in
+    let same : held.contents ≡ contents = same_contents files before.disk.files command contents held.contents known all held.are in
     shows_own system ticks part replay core before (called_for (inputs_of command) before.disk) after lines file
     (ap (λ (x : Outside). x.files) (called_for-is (inputs_of command) before.disk)) (ap (λ (x : Outside). x.got) (called_for-is (inputs_of command) before.disk))
-    (w.outside ∙ ap (λ (o : Outcome). did o (called_for (inputs_of command) before.disk)) (told.outcome ∙ ap (outcome_of command) same ∙ comes))
-    (heard (ap (λ (o : Outcome). o.run) (told.outcome ∙ ap (outcome_of command) same ∙ comes) ∙ played_run core replay))
+    (w.outside ∙ ap (λ (o : Outcome). did o (called_for (inputs_of command) before.disk)) (held.outcome ∙ ap (outcome_of command) same ∙ comes))
+    (heard (ap (λ (o : Outcome). o.run) (held.outcome ∙ ap (outcome_of command) same ∙ comes) ∙ played_run core replay))
 
 -- a replay by the script of a run
 replayed_so : RunIsReplayed → (e : Ending) (read : List (List ℕ)) (container : List ℕ) (part : ℕ) (script : List ℕ) (further : ReplayFiles) (before after : World) → Works e read (Some (Replay container part script further)) before.disk after.disk
@@ -164,7 +164,7 @@ are_replayed law e read (Some (ListContainer container)) before after w plays = 
 are_replayed law e read (Some (CheckContainer container)) before after w plays = tt
 are_replayed law e read (Some (MakePlan description)) before after w plays = tt
 are_replayed law e read (Some (CheckPlan description)) before after w plays = tt
-are_replayed law e read (Some (TellGroups description)) before after w plays = tt
+are_replayed law e read (Some (ListGroups description)) before after w plays = tt
 are_replayed law e read (Some (Generate number)) before after w plays = tt
 are_replayed law e read (Some (Run container options)) before after w plays = tt
 are_replayed law e read (Some (Replay container part script further)) before after w plays = replayed_so law e read container part script further before after w plays

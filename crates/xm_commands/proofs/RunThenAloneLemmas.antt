@@ -8,19 +8,19 @@ use Rattle.std.proofs.lemmas.List.{append_assoc, get_or-set_other, get_or-set_sa
 use Rattle.xm_base.specs.declared.limits.TheConstants.{FILE_BYTES, TICKS}
 use Rattle.xm_outside.specs.Files.{Files}
 use Rattle.xm_report.specs.Report.{texts}
-use Rattle.alone_replay.specs.OfRun.{IsOfRun, RunIsReplayed}
-use Rattle.file_texts.specs.declared.fault.BoxFault.{BoxFault}
+use Rattle.replay_setup.specs.OfRun.{IsOfRun, RunIsReplayed}
+use Rattle.fault_messages.specs.declared.fault.BoxFault.{BoxFault}
 use Rattle.loaded_system.specs.System.{System as Loaded}
 use Rattle.machine_model.specs.Cue.{script}
 use Rattle.machine_model.specs.Lines.{report}
 use Rattle.machine_model.specs.Machine.{Machine, run, start}
 use Rattle.machine_model.specs.View.{System, view_of}
-use Rattle.told_scripts.specs.Replayed.{replay_lines}
-use Rattle.file_maker.specs.Ready.{Replay as Readied}
-use Rattle.whole_system.specs.Inputs.{words_in}
-use Rattle.whole_system.specs.State.{with_inputs}
+use Rattle.recording_model.specs.Replayed.{replay_lines}
+use Rattle.builders.specs.Ready.{Replay as Readied}
+use Rattle.system_state.specs.Inputs.{words_in}
+use Rattle.system_state.specs.State.{with_inputs}
 use Rattle.xm_container.specs.Reading.{unpacked}
-use Rattle.xm_words.specs.Words.{Command, PartFile, ReplayFiles, RunOption, Run, Replay, command_of, cores_in, inputs_in, replay_core, replay_input, scripts_in, span_in}
+use Rattle.command_line.specs.Words.{Command, PartFile, ReplayFiles, RunOption, Run, Replay, command_of, cores_in, inputs_in, replay_core, replay_input, scripts_in, span_in}
 use Rattle.file_commands.specs.CommandLemmas.{outcome-long, outcome-short}
 use Rattle.file_commands.specs.Denial.{Denial}
 use Rattle.file_commands.specs.Ending.{input_text, status_of, ticks_text}
@@ -81,7 +81,7 @@ record WasRan (container : List ℕ) (options : List RunOption) (contents : List
   is : outcome_of (Run container options) contents ≡ outcome_of_run (ticks_asked (span_in options) system.conf) (cores_in options) outputs system inputs
 
 module _ (container : List ℕ) (options : List RunOption) (contents : List (List ℕ)) (granted : (outcome_of (Run container options) contents).denial ≡ None) where
-  -- no refusal is what it comes to
+  -- its outcome is no refusal
   never : (denial : Denial) → outcome_of (Run container options) contents ≡ refused_by denial → ⊥
   never denial same = (let wrong : None ≡ Some denial = sym granted ∙ ap (λ (o : Outcome). o.denial) same in cc)
 
@@ -428,7 +428,7 @@ module _ (law : RunIsReplayed) (words others : List (List ℕ)) (files : Files) 
     words = input.whole;
     given = input.given;
     most = ran.most;
-    told = refl;
+    received = refl;
   }
 
   -- the answer of the replay

@@ -14,7 +14,7 @@ use Rattle.xm_report.specs.Report.{ReportLine, text_of, texts}
 use Rattle.loaded_system.specs.Bare.{bare_system}
 use Rattle.loaded_system.specs.System.{System as Loaded}
 use Rattle.xm_container.specs.Reading.{unpacked}
-use Rattle.file_texts.specs.declared.fault.BoxFault.{BoxFault}
+use Rattle.fault_messages.specs.declared.fault.BoxFault.{BoxFault}
 use Rattle.machine_model.specs.CoreFile.{core_file}
 use Rattle.machine_model.specs.Laws.{OwnLines, SameCoreFile, core_file_of}
 use Rattle.machine_model.specs.Lists.{is_number}
@@ -22,20 +22,20 @@ use Rattle.machine_model.specs.Lines.{own, report, tag_of}
 use Rattle.machine_model.specs.Machine.{Machine, booted_part, run, start}
 use Rattle.machine_model.specs.Partition.{PartitionState}
 use Rattle.machine_model.specs.View.{System, view_of}
-use Rattle.whole_system.specs.State.{part_at, with_inputs}
-use Rattle.xm_words.specs.Words.{Command, PartFile, RunOption, Bare, Parse, Upgrade, BuildImage, ReadImage, Pack, ListContainer, CheckContainer, MakePlan, CheckPlan, TellGroups, Generate, Run, Replay, cores_in, inputs_in, span_in, scripts_in}
+use Rattle.system_state.specs.State.{part_at, with_inputs}
+use Rattle.command_line.specs.Words.{Command, PartFile, RunOption, Bare, Parse, Upgrade, BuildImage, ReadImage, Pack, ListContainer, CheckContainer, MakePlan, CheckPlan, ListGroups, Generate, Run, Replay, cores_in, inputs_in, span_in, scripts_in}
 use Rattle.run_commands.specs.Cores.{AreForPartitions}
 use Rattle.file_commands.specs.Denial.{Denial}
-use Rattle.file_commands.specs.Ending.{Ending, Finished, Misused, Unread, Denied, Unwritten, Unsaved, Unheard, Starved, length_text, status_of, ticks_text}
+use Rattle.file_commands.specs.Ending.{Ending, Done, Usage, ReadFault, Refused, WriteFaultReport, WriteFaultFile, UartFault, NoMemory, length_text, status_of, ticks_text}
 use Rattle.file_commands.specs.Inputs.{first_beyond, inputs_for, inputs_with, no_inputs, unless_beyond}
 use Rattle.file_commands.specs.Outcome.{Output, Outcome, bare_outcome, content, core_output, core_outputs, first_long, inputs_of, outcome_of, outcome_of_run, ran_scripted, ran_with, ran_within, command_refused, refused_by, run_by, run_outcome, script_before, script_denial, script_output, scripts_for, ticks_asked, unless_denied, unless_long, outcome_of_contents}
 use Rattle.xm_commands.specs.Separation.{AreShownAlone, CommandAlone, ContainerAlone, PrintsAlone, ShowsAlone, ShowsFront, ShowsPart, ShowsSome, alone_output, alone_outputs}
 use Rattle.xm_commands.specs.Top.{AreContents, IsCompleteStatus, IsNotWritten}
-use Rattle.file_commands.specs.Work.{Does, Outside, IsCarriedOut, IsUnsaved, IsUnwritten, ReadsFiles, Works, called_for, did, told_all, wrote, wrote_all}
+use Rattle.file_commands.specs.Work.{Does, Outside, IsCarriedOut, IsUnsaved, IsUnwritten, ReadsFiles, Works, called_for, did, reported_all, wrote, wrote_all}
 use Rattle.file_commands.specs.declared.status.Status.TheVariants.{WriteFault}
 use Rattle.run_commands.specs.ContentLemmas.{are_whole}
 use Rattle.run_commands.specs.Contents.{read_all}
-use Rattle.run_commands.specs.Numbers.{CommandTells, HasScripts, WordsTell, TellsOf}
+use Rattle.run_commands.specs.Numbers.{CommandReceives, HasScripts, WordsReceive, ReceivesOf}
 use Rattle.run_commands.specs.CoreLemmas.{cores_inside}
 use Rattle.file_commands.specs.OutputLemmas.{called_for-is}
 use Rattle.xm_commands.proofs.NumberLemmas.{complete_made}
@@ -71,11 +71,11 @@ same_later : SameCoreFile → (system : System) (ticks : ℕ) (cores scripts : L
     → core_outputs (run (start system) ticks) cores ++ map (script_output system ticks) scripts ≡ alone_outputs system ticks cores scripts
 same_later law system ticks cores scripts inside = ap (λ (os : List Output). os ++ map (script_output system ticks) scripts) (same_cores law system ticks cores inside)
 
--- what a run comes to whose scripts are not too long
+-- the outcome of a run whose scripts are not too long
 abbrev ran_to : ℕ → List PartFile → List PartFile → Loaded → List (List ℕ) → Outcome
 ran_to ticks cores scripts system inputs = outcome_of_run ticks cores (map (script_output (with_inputs system inputs) ticks) scripts) system inputs
 
--- where none is refused they are what the partitions were told
+-- where none is refused they are what the partitions received
 pub scripts_are : (system : System) (ticks : ℕ) (names : List PartFile) (outputs : List Output) → scripts_for system ticks names ≡ Ok outputs → outputs ≡ map (script_output system ticks) names
 scripts_are system ticks [] outputs made = (let none : [] ≡ outputs = cc in sym none)
 scripts_are system ticks (named ∷ names) outputs made = at (script_denial system ticks named) (scripts_for system ticks names) refl (scripts_are system ticks names) made
@@ -89,7 +89,7 @@ scripts_are system ticks (named ∷ names) outputs made = at (script_denial syst
         let all : script_output system ticks named ∷ others ≡ outputs = cc in
         sym all ∙ ap (λ (os : List Output). script_output system ticks named ∷ os) (rest others are)
 
--- What was done, by what a command comes to.
+-- What was done, by the outcome of a command.
 
 -- all of it
 abbrev IsAllOf : Outside → Outside → Outcome → Type 0
@@ -126,8 +126,8 @@ record AreCutIn (all : List ReportLine) (had got : Option (List ℕ)) : Type 0 w
   front : GrewByPrefix (grown had (texts lines)) (text_of next) got
 
 -- where the first of them went out
-behind_first : (line : ReportLine) (others : List ReportLine) (had got : Option (List ℕ)) → AreCutIn others (grown had (text_of line)) got → AreCutIn (line ∷ others) had got
-behind_first line others had got cut = record {
+after_first : (line : ReportLine) (others : List ReportLine) (had got : Option (List ℕ)) → AreCutIn others (grown had (text_of line)) got → AreCutIn (line ∷ others) had got
+after_first line others had got cut = record {
   lines = line ∷ cut.lines;
   next = cut.next;
   rest = cut.rest;
@@ -157,7 +157,7 @@ are_cut (line ∷ others) had got p = ⊎_elim here (later (are_cut others (grow
     later cut past =
         let count : p.count ≡ length (text_of line) + (p.count - length (text_of line)) = omega (arith, past) in
         let all : p.count < length (text_of line) + length (texts others) = subst (λ (n : ℕ). p.count < n) (length-append (text_of line) (texts others)) p.short in
-        behind_first line others had got (cut (record {
+        after_first line others had got (cut (record {
           count = p.count - length (text_of line);
           short = omega (arith, all, count);
           grew = p.grew ∙ ap (λ (n : ℕ). grown had (take n (text_of line ++ texts others))) count
@@ -171,7 +171,7 @@ are_cut (line ∷ others) had got p = ⊎_elim here (later (are_cut others (grow
 prints_run : OwnLines → (system : System) (ticks : ℕ) (before after : Outside) → after.got ≡ grown before.got (texts (report system ticks)) → PrintsAlone system ticks before after
 prints_run law system ticks before after got = record { lines = report system ticks; whole = refl; report = got; own = λ p there. law system p ticks there }
 
--- what a run comes to
+-- the outcome of a run
 shows_run : OwnLines → SameCoreFile → (system : Loaded) (inputs : List (List ℕ)) (ticks : ℕ) (cores scripts : List PartFile) (before read_from after : Outside) → AreForPartitions (length system.conf.parts) cores
     → read_from.files ≡ before.files → read_from.got ≡ before.got → IsAllOf read_from after (ran_to ticks cores scripts system inputs) → ShowsAlone (with_inputs system inputs) ticks cores scripts before after
 unfolding outcome_of_run
@@ -179,8 +179,8 @@ shows_run lines_law core_law system inputs ticks cores scripts before read_from 
   printed = prints_run lines_law (with_inputs system inputs) ticks before after
       (ap (λ (x : Outside). x.got) is.1 ∙ did-got (ran_to ticks cores scripts system inputs) read_from ∙ ap (λ (g : Option (List ℕ)). grown g (texts (report (with_inputs system inputs) ticks))) got);
   written = ap (λ (x : Outside). x.files) is.1
-      ∙ ap (λ (os : List Output). (wrote_all os (told_all (ran_to ticks cores scripts system inputs) read_from)).files) (same_later core_law (with_inputs system inputs) ticks cores scripts inside)
-      ∙ wrote_all-from (alone_outputs (with_inputs system inputs) ticks cores scripts) (told_all (ran_to ticks cores scripts system inputs) read_from) before files;
+      ∙ ap (λ (os : List Output). (wrote_all os (reported_all (ran_to ticks cores scripts system inputs) read_from)).files) (same_later core_law (with_inputs system inputs) ticks cores scripts inside)
+      ∙ wrote_all-from (alone_outputs (with_inputs system inputs) ticks cores scripts) (reported_all (ran_to ticks cores scripts system inputs) read_from) before files;
 }
 
 -- where its report was cut
@@ -205,14 +205,14 @@ shows_some : OwnLines → SameCoreFile → (system : Loaded) (inputs : List (Lis
 unfolding outcome_of_run
 shows_some lines_law core_law system inputs ticks cores scripts before after inside is =
     let booted = with_inputs system inputs in
-    let told = told_all (ran_to ticks cores scripts system inputs) before in
+    let reported = reported_all (ran_to ticks cores scripts system inputs) before in
     record {
       printed = prints_run lines_law booted ticks before after is.report;
       first = is.first;
       lost = is.output;
       rest = is.rest;
       split = sym is.split ∙ same_later core_law booted ticks cores scripts inside;
-      others = subst (λ (fs : Option Files). OthersStay fs is.output.file after.files) (wrote_all-from is.first told before refl) is.others;
+      others = subst (λ (fs : Option Files). OthersStay fs is.output.file after.files) (wrote_all-from is.first reported before refl) is.others;
     }
 
 -- Commands that are not refused, by what was done.
@@ -228,7 +228,7 @@ worked_by {R} Did command contents never ran_so is = at (first_long (inputs_of c
     at (Some file) long done = absurd (never _ done)
 
 -- so what was read is the whole of the files
-whole_contents : (told : Option Files) (command : Command) (contents : List (List ℕ)) → ReadsFiles told (inputs_of command) contents → first_long (inputs_of command) contents ≡ None → AreContents told command contents
+whole_contents : (held : Option Files) (command : Command) (contents : List (List ℕ)) → ReadsFiles held (inputs_of command) contents → first_long (inputs_of command) contents ≡ None → AreContents held command contents
 whole_contents None command contents read short = tt
 whole_contents (Some files) command contents read short =
     let is = are_whole files (inputs_of command) contents read in
@@ -282,10 +282,10 @@ RunShows Did Shows before after =
 
 -- a container that was run
 container_by : (Did : Outcome → Type 0) (Shows : System → ℕ → List PartFile → List PartFile → Outside → Outside → Type 0) (container : List ℕ) (options : List RunOption) (contents : List (List ℕ)) (before after : Outside)
-    → AreContents before.files (Run container options) contents → TellsOf container options before.files → ((denial : Denial) → Did (refused_by denial) → ⊥) → RunShows Did Shows before after
+    → AreContents before.files (Run container options) contents → ReceivesOf container options before.files → ((denial : Denial) → Did (refused_by denial) → ⊥) → RunShows Did Shows before after
     → Did (run_outcome container options (content 0 contents) (drop 1 contents)) → ContainerAlone Shows contents container options before after
 unfolding run_outcome
-container_by Did Shows container options contents before after are tells never shows is = at (unpacked (content 0 contents)) refl is
+container_by Did Shows container options contents before after are receives never shows is = at (unpacked (content 0 contents)) refl is
   where
     given : (system : Loaded) → unpacked (content 0 contents) ≡ Ok system → (read : Result (List (List ℕ)) Denial) → inputs_for (length system.conf.parts) options (drop 1 contents) ≡ read
         → Did (ran_with container options system read) → ContainerAlone Shows contents container options before after
@@ -295,7 +295,7 @@ container_by Did Shows container options contents before after are tells never s
       unpacks = unpacks;
       inputs = inputs;
       given = reads;
-      numbers = λ files known. tells files known contents (subst (λ (o : Option Files). AreContents o (Run container options) contents) known are) system inputs unpacks reads;
+      numbers = λ files known. receives files known contents (subst (λ (o : Option Files). AreContents o (Run container options) contents) known are) system inputs unpacks reads;
       shows = within_by Did container options system inputs never
           (shows system inputs (ticks_asked (span_in options) system.conf) (cores_in options) (scripts_in options) (given_inside (length system.conf.parts) options (drop 1 contents) inputs reads)) done;
     }
@@ -307,63 +307,63 @@ container_by Did Shows container options contents before after are tells never s
 
 -- what a command shows
 command_by : (Did : Outcome → Type 0) (Shows : System → ℕ → List PartFile → List PartFile → Outside → Outside → Type 0) (command : Command) (contents : List (List ℕ)) (before after : Outside)
-    → AreContents before.files command contents → CommandTells command before.files → ((denial : Denial) → Did (refused_by denial) → ⊥) → RunShows Did Shows before after → Did (outcome_of_contents command contents) → CommandAlone Shows contents command before after
-command_by Did Shows (Bare image ticks) contents before after are tells never shows is = record {
+    → AreContents before.files command contents → CommandReceives command before.files → ((denial : Denial) → Did (refused_by denial) → ⊥) → RunShows Did Shows before after → Did (outcome_of_contents command contents) → CommandAlone Shows contents command before after
+command_by Did Shows (Bare image ticks) contents before after are receives never shows is = record {
   are = are;
   shows = bare_by Did image ticks (content 0 contents) never (shows (bare_system (content 0 contents)) (no_inputs 1) ticks [] [] tt) is;
 }
-command_by Did Shows (Parse description output) contents before after are tells never shows is = tt
-command_by Did Shows (Upgrade configuration output) contents before after are tells never shows is = tt
-command_by Did Shows (BuildImage program output) contents before after are tells never shows is = tt
-command_by Did Shows (ReadImage image) contents before after are tells never shows is = tt
-command_by Did Shows (Pack configuration output images) contents before after are tells never shows is = tt
-command_by Did Shows (ListContainer container) contents before after are tells never shows is = tt
-command_by Did Shows (CheckContainer container) contents before after are tells never shows is = tt
-command_by Did Shows (MakePlan description) contents before after are tells never shows is = tt
-command_by Did Shows (CheckPlan description) contents before after are tells never shows is = tt
-command_by Did Shows (TellGroups description) contents before after are tells never shows is = tt
-command_by Did Shows (Generate number) contents before after are tells never shows is = tt
-command_by Did Shows (Replay container part script further) contents before after are tells never shows is = tt
-command_by Did Shows (Run container options) contents before after are tells never shows is = container_by Did Shows container options contents before after are tells never shows is
+command_by Did Shows (Parse description output) contents before after are receives never shows is = tt
+command_by Did Shows (Upgrade configuration output) contents before after are receives never shows is = tt
+command_by Did Shows (BuildImage program output) contents before after are receives never shows is = tt
+command_by Did Shows (ReadImage image) contents before after are receives never shows is = tt
+command_by Did Shows (Pack configuration output images) contents before after are receives never shows is = tt
+command_by Did Shows (ListContainer container) contents before after are receives never shows is = tt
+command_by Did Shows (CheckContainer container) contents before after are receives never shows is = tt
+command_by Did Shows (MakePlan description) contents before after are receives never shows is = tt
+command_by Did Shows (CheckPlan description) contents before after are receives never shows is = tt
+command_by Did Shows (ListGroups description) contents before after are receives never shows is = tt
+command_by Did Shows (Generate number) contents before after are receives never shows is = tt
+command_by Did Shows (Replay container part script further) contents before after are receives never shows is = tt
+command_by Did Shows (Run container options) contents before after are receives never shows is = container_by Did Shows container options contents before after are receives never shows is
 
 outcome_by : (Did : Outcome → Type 0) (Shows : System → ℕ → List PartFile → List PartFile → Outside → Outside → Type 0) (command : Command) (contents : List (List ℕ)) (before after : Outside)
-    → ReadsFiles before.files (inputs_of command) contents → CommandTells command before.files → ((denial : Denial) → Did (refused_by denial) → ⊥) → RunShows Did Shows before after → Did (outcome_of command contents)
+    → ReadsFiles before.files (inputs_of command) contents → CommandReceives command before.files → ((denial : Denial) → Did (refused_by denial) → ⊥) → RunShows Did Shows before after → Did (outcome_of command contents)
     → CommandAlone Shows contents command before after
-outcome_by Did Shows command contents before after read tells never shows is =
-    worked_by Did command contents never (λ short. command_by Did Shows command contents before after (whole_contents before.files command contents read short) tells never shows) is
+outcome_by Did Shows command contents before after read receives never shows is =
+    worked_by Did command contents never (λ short. command_by Did Shows command contents before after (whole_contents before.files command contents read short) receives never shows) is
 
 -- Where the command was carried out.
 
-carried_alone : OwnLines → SameCoreFile → (command : Command) (contents : List (List ℕ)) (before after : Outside) → CommandTells command before.files → IsCarriedOut None contents command before after → CommandAlone ShowsAlone contents command before after
-carried_alone lines_law core_law command contents before after tells w =
+carried_alone : OwnLines → SameCoreFile → (command : Command) (contents : List (List ℕ)) (before after : Outside) → CommandReceives command before.files → IsCarriedOut None contents command before after → CommandAlone ShowsAlone contents command before after
+carried_alone lines_law core_law command contents before after receives w =
     let read_from = called_for (inputs_of command) before in
     let files : read_from.files ≡ before.files = ap (λ (x : Outside). x.files) (called_for-is (inputs_of command) before) in
     let got : read_from.got ≡ before.got = ap (λ (x : Outside). x.got) (called_for-is (inputs_of command) before) in
-    outcome_by (IsAllOf read_from after) ShowsAlone command contents before after w.read tells (never_all read_from after)
+    outcome_by (IsAllOf read_from after) ShowsAlone command contents before after w.read receives (never_all read_from after)
     (λ system inputs ticks cores scripts inside done. shows_run lines_law core_law system inputs ticks cores scripts before read_from after inside files got done)
     (w.denied, w.outside)
 
-pub are_alone : OwnLines → SameCoreFile → (e : Ending) (contents : List (List ℕ)) (command : Option Command) (before after : Outside) → (HasScripts e → WordsTell command before.files) → Works e contents command before after
+pub are_alone : OwnLines → SameCoreFile → (e : Ending) (contents : List (List ℕ)) (command : Option Command) (before after : Outside) → (HasScripts e → WordsReceive command before.files) → Works e contents command before after
     → IsCompleteStatus (status_of e) → AreShownAlone ShowsAlone contents command before after
-are_alone lines_law core_law e contents None before after tells w complete = tt
-are_alone lines_law core_law e contents (Some command) before after tells w complete =
+are_alone lines_law core_law e contents None before after receives w complete = tt
+are_alone lines_law core_law e contents (Some command) before after receives w complete =
     let carried : IsCarriedOut None contents command before after =
     ⊎_elim (λ done. subst (λ (e : Ending). Does e contents command before after) (done_is_finished e done) w) (λ fault. unheard_finished e contents command before after fault w) complete in
-    carried_alone lines_law core_law command contents before after (tells (complete_made e complete)) carried
+    carried_alone lines_law core_law command contents before after (receives (complete_made e complete)) carried
 
 -- Where its report or one of its files was not written.
 
-front_alone : OwnLines → (command : Command) (contents : List (List ℕ)) (before after : Outside) → CommandTells command before.files → IsUnwritten contents command before after → CommandAlone ShowsPart contents command before after
-front_alone law command contents before after tells w =
+front_alone : OwnLines → (command : Command) (contents : List (List ℕ)) (before after : Outside) → CommandReceives command before.files → IsUnwritten contents command before after → CommandAlone ShowsPart contents command before after
+front_alone law command contents before after receives w =
     let files : (called_for (inputs_of command) before).files ≡ before.files = ap (λ (x : Outside). x.files) (called_for-is (inputs_of command) before) in
-    outcome_by (IsFrontOf before after) ShowsPart command contents before after w.read tells (never_front before after)
+    outcome_by (IsFrontOf before after) ShowsPart command contents before after w.read receives (never_front before after)
     (λ system inputs ticks cores scripts inside done. inl (shows_front law system inputs ticks cores scripts before after done))
     (w.front, ap (λ (x : Outside). x.files) w.outside ∙ wrote-from (outcome_of command contents).output (called_for (inputs_of command) before) before files)
 
-some_alone : OwnLines → SameCoreFile → (command : Command) (contents : List (List ℕ)) (before after : Outside) → CommandTells command before.files → ReadsFiles before.files (inputs_of command) contents
+some_alone : OwnLines → SameCoreFile → (command : Command) (contents : List (List ℕ)) (before after : Outside) → CommandReceives command before.files → ReadsFiles before.files (inputs_of command) contents
     → IsSomeOf before after (outcome_of command contents) → CommandAlone ShowsPart contents command before after
-some_alone lines_law core_law command contents before after tells read some =
-    outcome_by (IsSomeOf before after) ShowsPart command contents before after read tells (never_some before after)
+some_alone lines_law core_law command contents before after receives read some =
+    outcome_by (IsSomeOf before after) ShowsPart command contents before after read receives (never_some before after)
     (λ system inputs ticks cores scripts inside done. inr (shows_some lines_law core_law system inputs ticks cores scripts before after inside done)) some
 
 -- a command that writes a file before its report runs nothing
@@ -378,26 +378,26 @@ lost_alone (ListContainer container) contents before after w = tt
 lost_alone (CheckContainer container) contents before after w = tt
 lost_alone (MakePlan description) contents before after w = tt
 lost_alone (CheckPlan description) contents before after w = tt
-lost_alone (TellGroups description) contents before after w = tt
+lost_alone (ListGroups description) contents before after w = tt
 lost_alone (Generate number) contents before after w = tt
 lost_alone (Replay container part script further) contents before after w = tt
 lost_alone (Run container options) contents before after w = absurd (let some : IsSome {T = List ℕ} None = w.output in cc)
 
-unsaved_alone : OwnLines → SameCoreFile → (file : List ℕ) (command : Command) (contents : List (List ℕ)) (before after : Outside) → CommandTells command before.files → IsUnsaved file contents command before after
+unsaved_alone : OwnLines → SameCoreFile → (file : List ℕ) (command : Command) (contents : List (List ℕ)) (before after : Outside) → CommandReceives command before.files → IsUnsaved file contents command before after
     → CommandAlone ShowsPart contents command before after
-unsaved_alone lines_law core_law file command contents before after tells w = ⊎_elim
+unsaved_alone lines_law core_law file command contents before after receives w = ⊎_elim
     (λ first. lost_alone command contents before after (lost_first command contents file before after first))
-    (λ later. some_alone lines_law core_law command contents before after tells w.read (lost_some command (outcome_of command contents) file before after later))
+    (λ later. some_alone lines_law core_law command contents before after receives w.read (lost_some command (outcome_of command contents) file before after later))
     w.lost
 
-pub are_part : OwnLines → SameCoreFile → (e : Ending) (contents : List (List ℕ)) (command : Option Command) (before after : Outside) → (HasScripts e → WordsTell command before.files) → Works e contents command before after
+pub are_part : OwnLines → SameCoreFile → (e : Ending) (contents : List (List ℕ)) (command : Option Command) (before after : Outside) → (HasScripts e → WordsReceive command before.files) → Works e contents command before after
     → status_of e ≡ WriteFault → AreShownAlone ShowsPart contents command before after
-are_part lines_law core_law e contents None before after tells w fault = tt
-are_part lines_law core_law Finished contents (Some command) before after tells w fault = absurd (cc)
-are_part lines_law core_law Misused contents (Some command) before after tells w fault = absurd w
-are_part lines_law core_law (Unread file) contents (Some command) before after tells w fault = absurd (cc)
-are_part lines_law core_law (Denied file text) contents (Some command) before after tells w fault = absurd (cc)
-are_part lines_law core_law Unwritten contents (Some command) before after tells w fault = front_alone lines_law command contents before after (tells tt) w
-are_part lines_law core_law (Unsaved file) contents (Some command) before after tells w fault = unsaved_alone lines_law core_law file command contents before after (tells tt) w
-are_part lines_law core_law (Unheard place) contents (Some command) before after tells w fault = absurd (cc)
-are_part lines_law core_law Starved contents (Some command) before after tells w fault = absurd (cc)
+are_part lines_law core_law e contents None before after receives w fault = tt
+are_part lines_law core_law Done contents (Some command) before after receives w fault = absurd (cc)
+are_part lines_law core_law Usage contents (Some command) before after receives w fault = absurd w
+are_part lines_law core_law (ReadFault file) contents (Some command) before after receives w fault = absurd (cc)
+are_part lines_law core_law (Refused file text) contents (Some command) before after receives w fault = absurd (cc)
+are_part lines_law core_law WriteFaultReport contents (Some command) before after receives w fault = front_alone lines_law command contents before after (receives tt) w
+are_part lines_law core_law (WriteFaultFile file) contents (Some command) before after receives w fault = unsaved_alone lines_law core_law file command contents before after (receives tt) w
+are_part lines_law core_law (UartFault place) contents (Some command) before after receives w fault = absurd (cc)
+are_part lines_law core_law NoMemory contents (Some command) before after receives w fault = absurd (cc)

@@ -1,11 +1,11 @@
 -- How long the program's command may run.
 use Rattle.std.proofs.Common.{◌≡◌, ℕ, List, Some, sym}
-use Rattle.xm_words.specs.Words.{Bare, Run, command_of}
-use Rattle.xm_words.specs.RunLemmas.{span_within}
-use Rattle.xm_words.specs.Grammar.{CommandsAreSpelled}
-use Rattle.xm_words.specs.Seen.{command_seen, seen_options}
-use Rattle.xm_words.specs.declared.commands.Command as code
-use Rattle.xm_words.specs.declared.commands.Command.TheVariants as variant
+use Rattle.command_line.specs.Words.{Bare, Run, command_of}
+use Rattle.command_line.specs.RunLemmas.{span_within}
+use Rattle.command_line.specs.Grammar.{CommandsAreSpelled}
+use Rattle.command_line.specs.Seen.{command_seen, seen_options}
+use Rattle.command_line.specs.declared.commands.Command as code
+use Rattle.command_line.specs.declared.commands.Command.TheVariants as variant
 use Rattle.xm_commands.specs.Ticks.{HasTicks}
 
 -- the ticks of the program's command are at most the limit
@@ -20,7 +20,7 @@ has_ticks (variant.ListContainer container) words law e = tt
 has_ticks (variant.CheckContainer container) words law e = tt
 has_ticks (variant.MakePlan description) words law e = tt
 has_ticks (variant.CheckPlan description) words law e = tt
-has_ticks (variant.TellGroups description) words law e = tt
+has_ticks (variant.ListGroups description) words law e = tt
 has_ticks (variant.Generate number) words law e = tt
 has_ticks (variant.Replay container part script further) words law e = tt
 has_ticks (variant.Run container options) words law e = span_within (seen_options options) ((law words (Run container.now (seen_options options))).0 (sym e)).1.1.each

@@ -5,11 +5,11 @@ use Rattle.std.specs.FinMap.{insert}
 use Rattle.xm_outside.specs.Causes.{Rose, counted}
 use Rattle.xm_outside.specs.Files.{Files, OthersStay, stored}
 use Rattle.xm_outside.specs.Growth.{grown}
-use Rattle.xm_words.specs.Words.{Command}
+use Rattle.command_line.specs.Words.{Command}
 use Rattle.xm_commands.specs.Answer.{files_saved, saved_all}
 use Rattle.file_commands.specs.Outcome.{Output, Outcome, inputs_of, later_of, name_if_any, outcome_of, output_of}
 use Rattle.xm_commands.specs.Top.{FilesStay, HasCalls, IsNoneOf, StayWhere, writes_of}
-use Rattle.file_commands.specs.Work.{counted_by, Outside, IsLostOf, IsNotSaved, did, file_in, told_all, wrote, wrote_all}
+use Rattle.file_commands.specs.Work.{counted_by, Outside, IsLostOf, IsNotSaved, did, file_in, reported_all, wrote, wrote_all}
 use Rattle.xm_commands.proofs.OutsideLemmas.{counted-counted_by, others_stored, wrote-faults, wrote-files, wrote-got, wrote-read_faults, wrote-write_faults}
 use Rattle.file_commands.specs.LaterLemmas.{output_names, AreNamed, named_few, later-named, first-named}
 
@@ -40,10 +40,10 @@ wrote_all-calls : (outputs : List Output) (x : Outside) → (wrote_all outputs x
 wrote_all-calls [] x = refl
 wrote_all-calls (output ∷ outputs) x = wrote_all-calls outputs (wrote (Some output) x)
 
--- the files that are told, once they are written
+-- the files that are known, once they are written
 wrote_all-files : (outputs : List Output) (x : Outside) (files : Files) → x.files ≡ Some files → (wrote_all outputs x).files ≡ Some (saved_all outputs files)
-wrote_all-files [] x files told = told
-wrote_all-files (output ∷ outputs) x files told = wrote_all-files outputs (wrote (Some output) x) (insert files output.file output.bytes) (wrote-files (Some output) x files told)
+wrote_all-files [] x files known = known
+wrote_all-files (output ∷ outputs) x files known = wrote_all-files outputs (wrote (Some output) x) (insert files output.file output.bytes) (wrote-files (Some output) x files known)
 
 -- which depend on the files before alone
 pub wrote-from : (o : Option Output) (x y : Outside) → x.files ≡ y.files → (wrote o x).files ≡ (wrote o y).files
@@ -66,19 +66,19 @@ wrote-calls (Some output) x = refl
 -- All that an outcome has.
 
 pub did-got : (outcome : Outcome) (x : Outside) → (did outcome x).got ≡ grown x.got outcome.report
-did-got outcome x = wrote_all-got outcome.later (told_all outcome x) ∙ ap (λ (g : Option (List ℕ)). grown g outcome.report) (wrote-got outcome.output x)
+did-got outcome x = wrote_all-got outcome.later (reported_all outcome x) ∙ ap (λ (g : Option (List ℕ)). grown g outcome.report) (wrote-got outcome.output x)
 
 pub did-faults : (outcome : Outcome) (x : Outside) → (did outcome x).faults ≡ x.faults
-did-faults outcome x = wrote_all-faults outcome.later (told_all outcome x) ∙ wrote-faults outcome.output x
+did-faults outcome x = wrote_all-faults outcome.later (reported_all outcome x) ∙ wrote-faults outcome.output x
 
 pub did-read_faults : (outcome : Outcome) (x : Outside) → (did outcome x).read_faults ≡ x.read_faults
-did-read_faults outcome x = wrote_all-read_faults outcome.later (told_all outcome x) ∙ wrote-read_faults outcome.output x
+did-read_faults outcome x = wrote_all-read_faults outcome.later (reported_all outcome x) ∙ wrote-read_faults outcome.output x
 
 pub did-write_faults : (outcome : Outcome) (x : Outside) → (did outcome x).write_faults ≡ x.write_faults
-did-write_faults outcome x = wrote_all-write_faults outcome.later (told_all outcome x) ∙ wrote-write_faults outcome.output x
+did-write_faults outcome x = wrote_all-write_faults outcome.later (reported_all outcome x) ∙ wrote-write_faults outcome.output x
 
 pub did-files : (outcome : Outcome) (x : Outside) (files : Files) → x.files ≡ Some files → (did outcome x).files ≡ Some (saved_all outcome.later (files_saved outcome.output files))
-did-files outcome x files told = wrote_all-files outcome.later (told_all outcome x) (files_saved outcome.output files) (wrote-files outcome.output x files told)
+did-files outcome x files known = wrote_all-files outcome.later (reported_all outcome x) (files_saved outcome.output files) (wrote-files outcome.output x files known)
 
 -- calls after calls
 counted_by-more : (more few n : ℕ) → counted_by more (counted_by few n) ≡ counted_by (few + more) n
@@ -87,7 +87,7 @@ counted_by-more more (suc few) n = (let one : suc (few + more) ≡ suc few + mor
 
 did-calls : (outcome : Outcome) (x : Outside) → (did outcome x).calls ≡ counted_by (length (file_in outcome.output) + length outcome.later) x.calls
 did-calls outcome x =
-    wrote_all-calls outcome.later (told_all outcome x)
+    wrote_all-calls outcome.later (reported_all outcome x)
     ∙ ap (counted_by (length outcome.later)) (wrote-calls outcome.output x)
     ∙ counted_by-more (length outcome.later) (length (file_in outcome.output)) x.calls
 
@@ -130,7 +130,7 @@ none_parts (name ∷ names) more other none = (let rest = none_parts names more 
 -- What stays.
 
 module _ (Stays : List ℕ → Type 0) where
-  stay_same : (told : Option Files) → StayWhere Stays told told
+  stay_same : (known : Option Files) → StayWhere Stays known known
   stay_same None = tt
   stay_same (Some files) = λ other stays. refl
 
@@ -170,8 +170,8 @@ stays_by [] before after same others = same refl
 stays_by (name ∷ names) before after same others = others
 
 -- where nothing is written the files stay, whatever may be written
-pub files_same : (names : List (List ℕ)) (told : Option Files) → FilesStay names told told
-files_same names told = stays_by names told told (λ none. refl) (stay_same (IsNoneOf names) told)
+pub files_same : (names : List (List ℕ)) (known : Option Files) → FilesStay names known known
+files_same names known = stays_by names known known (λ none. refl) (stay_same (IsNoneOf names) known)
 
 -- no file
 no_file : (outputs : List Output) (count : ℕ) → length outputs ≤ count → count ≡ 0 → outputs ≡ []
@@ -206,24 +206,24 @@ module _ (command : Command) (contents : List (List ℕ)) where
       none_named (later_of command) (outcome_of command contents).later other (later-named command contents) (none_parts (name_if_any (output_of command)) (later_of command) other none).1
 
   -- the files as the report leaves them
-  told_same : (x : Outside) → writes_of command ≡ [] → (told_all (outcome_of command contents) x).files ≡ x.files
-  told_same x none = ap (λ (y : Outside). y.files) (wrote-listed (outcome_of command contents).output x) ∙ ap (λ (outputs : List Output). (wrote_all outputs x).files) (no_first none)
+  reported_same : (x : Outside) → writes_of command ≡ [] → (reported_all (outcome_of command contents) x).files ≡ x.files
+  reported_same x none = ap (λ (y : Outside). y.files) (wrote-listed (outcome_of command contents).output x) ∙ ap (λ (outputs : List Output). (wrote_all outputs x).files) (no_first none)
 
-  told_where : (x : Outside) → StayWhere (IsNoneOf (writes_of command)) x.files (told_all (outcome_of command contents) x).files
-  told_where x =
+  reported_where : (x : Outside) → StayWhere (IsNoneOf (writes_of command)) x.files (reported_all (outcome_of command contents) x).files
+  reported_where x =
       subst (λ (f : Option Files). StayWhere (IsNoneOf (writes_of command)) x.files f) (sym (ap (λ (y : Outside). y.files) (wrote-listed (outcome_of command contents).output x)))
       (stay_wrote_all (IsNoneOf (writes_of command)) (file_in (outcome_of command contents).output) x none_first)
 
-  pub told_stays : (x : Outside) → FilesStay (writes_of command) x.files (told_all (outcome_of command contents) x).files
-  told_stays x = stays_by (writes_of command) x.files _ (told_same x) (told_where x)
+  pub reported_stays : (x : Outside) → FilesStay (writes_of command) x.files (reported_all (outcome_of command contents) x).files
+  reported_stays x = stays_by (writes_of command) x.files _ (reported_same x) (reported_where x)
 
   -- the files as all that is done leaves them
   pub did_stays : (x : Outside) → FilesStay (writes_of command) x.files (did (outcome_of command contents) x).files
   did_stays x =
       stays_by (writes_of command) x.files _
-      (λ none. ap (λ (outputs : List Output). (wrote_all outputs (told_all (outcome_of command contents) x)).files) (no_later none) ∙ told_same x none)
-      (stay_then (IsNoneOf (writes_of command)) x.files (told_all (outcome_of command contents) x).files _ (told_where x)
-      (stay_wrote_all (IsNoneOf (writes_of command)) (outcome_of command contents).later (told_all (outcome_of command contents) x) none_later))
+      (λ none. ap (λ (outputs : List Output). (wrote_all outputs (reported_all (outcome_of command contents) x)).files) (no_later none) ∙ reported_same x none)
+      (stay_then (IsNoneOf (writes_of command)) x.files (reported_all (outcome_of command contents) x).files _ (reported_where x)
+      (stay_wrote_all (IsNoneOf (writes_of command)) (outcome_of command contents).later (reported_all (outcome_of command contents) x) none_later))
 
   -- the files as a fault of a write leaves them
   pub lost_stays : (file : List ℕ) (x after : Outside) → IsNotSaved file (outcome_of command contents) x after → FilesStay (writes_of command) x.files after.files
@@ -232,12 +232,12 @@ module _ (command : Command) (contents : List (List ℕ)) where
       (λ none. absurd (never_lost file _ x after (no_first none) first))
       (stay_lost (IsNoneOf (writes_of command)) file _ x after first none_first))
       (λ later. stays_by (writes_of command) x.files after.files
-      (λ none. absurd (never_lost file _ (told_all (outcome_of command contents) x) after (no_later none) later))
-      (stay_then (IsNoneOf (writes_of command)) x.files (told_all (outcome_of command contents) x).files after.files (told_where x)
-      (stay_lost (IsNoneOf (writes_of command)) file _ (told_all (outcome_of command contents) x) after later none_later)))
+      (λ none. absurd (never_lost file _ (reported_all (outcome_of command contents) x) after (no_later none) later))
+      (stay_then (IsNoneOf (writes_of command)) x.files (reported_all (outcome_of command contents) x).files after.files (reported_where x)
+      (stay_lost (IsNoneOf (writes_of command)) file _ (reported_all (outcome_of command contents) x) after later none_later)))
       lost
 
-  -- so many calls after those for the files that are read
+  -- this many calls after those for the files that are read
   calls_by : (k n : ℕ) (x : Outside) (after : ℕ) → k ≤ length (writes_of command) → x.calls ≡ counted_by (length (inputs_of command)) n → after ≡ counted_by k x.calls → HasCalls command n after
   calls_by k n x after few calls is = record {
     count = length (inputs_of command) + k;
@@ -245,8 +245,8 @@ module _ (command : Command) (contents : List (List ℕ)) where
     calls = is ∙ ap (counted_by k) calls ∙ counted_by-more k (length (inputs_of command)) n;
   }
 
-  pub told_calls : (n : ℕ) (x : Outside) → x.calls ≡ counted_by (length (inputs_of command)) n → HasCalls command n (told_all (outcome_of command contents) x).calls
-  told_calls n x calls = calls_by (length (file_in (outcome_of command contents).output)) n x _ (omega (arith, first_few, written)) calls (wrote-calls (outcome_of command contents).output x)
+  pub reported_calls : (n : ℕ) (x : Outside) → x.calls ≡ counted_by (length (inputs_of command)) n → HasCalls command n (reported_all (outcome_of command contents) x).calls
+  reported_calls n x calls = calls_by (length (file_in (outcome_of command contents).output)) n x _ (omega (arith, first_few, written)) calls (wrote-calls (outcome_of command contents).output x)
 
   pub did_calls : (n : ℕ) (x : Outside) → x.calls ≡ counted_by (length (inputs_of command)) n → HasCalls command n (did (outcome_of command contents) x).calls
   did_calls n x calls =
@@ -257,9 +257,9 @@ module _ (command : Command) (contents : List (List ℕ)) where
   lost_count n file x after lost calls = ⊎_elim
       (λ first. calls_by (suc (length first.first)) n x after.calls (omega (arith, lost_few file _ x after first, first_few, written)) calls (lost_calls file _ x after first))
       (λ later. calls_by (length (file_in (outcome_of command contents).output) + suc (length later.first)) n x after.calls
-      (omega (arith, lost_few file _ (told_all (outcome_of command contents) x) after later, first_few, later_few, written))
+      (omega (arith, lost_few file _ (reported_all (outcome_of command contents) x) after later, first_few, later_few, written))
       calls
-      (lost_calls file _ (told_all (outcome_of command contents) x) after later
+      (lost_calls file _ (reported_all (outcome_of command contents) x) after later
       ∙ ap (counted_by (suc (length later.first))) (wrote-calls (outcome_of command contents).output x)
       ∙ counted_by-more (suc (length later.first)) (length (file_in (outcome_of command contents).output)) x.calls))
       lost

@@ -2,8 +2,8 @@
 use Rattle.std.specs.Prelude.{ℕ, List, [], ◌∷◌, Option, Some, None, Result, Ok, Err}
 use Rattle.std.specs.FinMap.{insert}
 use Rattle.xm_outside.specs.Files.{Files}
-use Rattle.xm_words.specs.Words.{Command, command_of}
-use Rattle.file_commands.specs.Ending.{Ending, Finished, Misused, Unread, Denied, complaint, status_of}
+use Rattle.command_line.specs.Words.{Command, command_of}
+use Rattle.file_commands.specs.Ending.{Ending, Done, Usage, ReadFault, Refused, complaint, status_of}
 use Rattle.file_commands.specs.Denial.{Denial}
 use Rattle.file_commands.specs.Outcome.{Output, Outcome, inputs_of, outcome_of}
 use Rattle.file_commands.specs.declared.status.Status.{Status}
@@ -11,8 +11,8 @@ use Rattle.run_commands.specs.Contents.{read_all}
 
 -- how a command ends that met no fault
 abbrev pub ending_by : Option Denial → Ending
-ending_by None = Finished
-ending_by (Some denial) = Denied denial.file denial.text
+ending_by None = Done
+ending_by (Some denial) = Refused denial.file denial.text
 
 -- the files after a command has written the one before its report
 abbrev pub files_saved : Option Output → Files → Files
@@ -35,18 +35,18 @@ pub record Answer : Type 0 where
 abbrev pub ending_answer : Ending → List ℕ → Files → Answer
 ending_answer ending out files = record { status = status_of ending; out = out; err = complaint ending; files = files }
 
--- the answer of a command that comes to this
+-- the answer of a command that has this outcome
 abbrev pub outcome_answer : Outcome → Files → Answer
 outcome_answer outcome files = ending_answer (ending_by outcome.denial) outcome.report (saved_all outcome.later (files_saved outcome.output files))
 
 -- the answer to a command, by what is read
 abbrev pub answer_to_read : Command → Result (List (List ℕ)) (List ℕ) → Files → Answer
 answer_to_read command (Ok contents) files = outcome_answer (outcome_of command contents) files
-answer_to_read command (Err absent) files = ending_answer (Unread absent) [] files
+answer_to_read command (Err absent) files = ending_answer (ReadFault absent) [] files
 
 -- the answer to a command
 abbrev pub command_answer : Option Command → Files → Answer
-command_answer None files = ending_answer Misused [] files
+command_answer None files = ending_answer Usage [] files
 command_answer (Some command) files = answer_to_read command (read_all files (inputs_of command)) files
 
 -- the answer to words, in a world of these files and without faults

@@ -1,6 +1,6 @@
 -- When a command is done: nothing stands against it.
 use Rattle.std.specs.Prelude.{◌≡◌, ◌⊎◌, ℕ, List, Option, Some, None}
-use Rattle.xm_words.specs.Words.{Command}
+use Rattle.command_line.specs.Words.{Command}
 use Rattle.file_commands.specs.Outcome.{inputs_of, outcome_of}
 use Rattle.run_commands.specs.Boards.{HasNoMark}
 use Rattle.xm_commands.specs.Top.{AreContents, HasNoFault, IsOneAbsent}
@@ -16,7 +16,7 @@ pub record IsUnhindered (command : Command) (before after : World) : Type 0 wher
   pub granted : (contents : List (List ℕ)) → AreContents before.disk.files command contents → (outcome_of command contents).denial ≡ None
   pub unmarked : HasNoMark after.board
 
--- such a command is done, or there was no memory
+-- such a command is done, or memory ran out
 abbrev pub Completes : Status → Option Command → World → World → Type 0
 Completes status None before after = Unit {0}
 Completes status (Some command) before after = IsUnhindered command before after → (status ≡ Done) ⊎ (status ≡ NoMemory)

@@ -4,10 +4,10 @@ use Rattle.std.specs.IoError.{error_kind}
 use Rattle.std.specs.declared.io.Error.{Error}
 use Rattle.std.specs.declared.io.ErrorKind.TheVariants.{OutOfMemory}
 use Rattle.uart_board.specs.Views.{BoardView, UartView}
-use Rattle.file_commands.specs.Ending.{Misused, complaint}
+use Rattle.file_commands.specs.Ending.{Usage, complaint}
 use Rattle.file_commands.specs.Status.{IsCodeOf}
 use Rattle.file_commands.specs.declared.status.Status.{Status}
-use Rattle.file_commands.specs.declared.status.Status.TheVariants.{Done, Usage, NoMemory}
+use Rattle.file_commands.specs.declared.status.Status.TheVariants as exit
 use Rattle.xm_commands.specs.Arguments.{after_name}
 use Rattle.xm_commands.specs.Called.{IsCall}
 use Rattle.xm_commands.specs.Top.{IsSaid}
@@ -40,16 +40,16 @@ pub record IsOnFiles (status : Status) (words : List (List ℕ)) (report reporte
 
 -- the answer to misuse, and its line on the error output
 pub record SaysUsage (status : Status) (before after : SinkView) : Type 0 where
-  pub usage : status ≡ Usage
-  pub line : IsSaid (complaint Misused) before after
+  pub usage : status ≡ exit.Usage
+  pub line : IsSaid (complaint Usage) before after
 
--- the answer to arguments that could not be read: there was no memory for them, or else they are misused; nothing was written to the report
+-- the answer to arguments that could not be read: memory ran out for them, or else they are misused; nothing was written to the report
 pub record HadNoArguments (status : Status) (error : Error) (faults error_faults : ℕ) : Type 0 where
   pub report : faults ≡ 0
-  pub starved : error_kind error ≡ OutOfMemory → (status ≡ NoMemory) × (error_faults ≡ 0)
+  pub starved : error_kind error ≡ OutOfMemory → (status ≡ exit.NoMemory) × (error_faults ≡ 0)
   pub misused : error_kind error ≢ OutOfMemory → SaysUsage status (unseen 0) (unseen error_faults)
 
--- what the arguments come to, of which the first is the program's name, with a report and an error output of which nothing is known but how many
+-- the outcome of the arguments, of which the first is the program's name, with a report and an error output of which nothing is known but how many
 -- of their writes failed, none of them before
 abbrev pub ComesTo : {A : Type 0} → Result (Vec (String A) A) Error → Status → ℕ → ℕ → Type 0
 ComesTo (Ok texts) status faults error_faults = IsOnFiles status (after_name texts.items) (unseen 0) (unseen faults) (unseen 0) (unseen error_faults)
@@ -63,4 +63,4 @@ pub record IsEndedBy {A : Type 0} (given : Result (Vec (String A) A) Error) (exi
   pub code : IsCodeOf status exit
   pub comes : ComesTo given status faults error_faults
   -- after Done no write to the error output failed
-  pub silent : status ≡ Done → error_faults ≡ 0
+  pub silent : status ≡ exit.Done → error_faults ≡ 0

@@ -1,6 +1,6 @@
 -- The promises of `xm_main` on one page: what a call answers to its words, in a world, and how it leaves that world.
 use Rattle.std.specs.Prelude.{◌≡◌, ◌≢◌, ◌↔◌, ℕ, List, None}
-use Rattle.xm_words.specs.Words.{command_of}
+use Rattle.command_line.specs.Words.{command_of}
 use Rattle.file_commands.specs.Ending.{Ending, complaint, status_of}
 use Rattle.file_commands.specs.Work.{Works}
 use Rattle.run_commands.specs.Boards.{Plays}

@@ -1,11 +1,11 @@
 -- A replay as it is played, and how one ends that cannot begin.
 use Rattle.std.specs.Prelude.{◌≡◌, ℕ, List, Option, Some, None}
-use Rattle.file_maker.specs.Ready.{Replay, Unready}
+use Rattle.builders.specs.Ready.{Replay, Unready}
 use Rattle.machine_model.specs.CoreFile.{core_file}
 use Rattle.machine_model.specs.Cue.{Cue}
-use Rattle.told_scripts.specs.Lone.{Lone, own_view}
-use Rattle.xm_words.specs.Words.{ReplayFiles}
-use Rattle.file_commands.specs.Ending.{Ending, Denied, Starved}
+use Rattle.recording_model.specs.Lone.{Lone, own_view}
+use Rattle.command_line.specs.Words.{ReplayFiles}
+use Rattle.file_commands.specs.Ending.{Ending, Refused, NoMemory}
 use Rattle.file_commands.specs.Outcome.{Output, unready_denial}
 
 -- the replay of a partition that boots, by a script
@@ -21,8 +21,8 @@ abbrev pub HasCoreRoom : Option (List ℕ) → ℕ → ℕ → Type 0
 HasCoreRoom None size room = Unit {0}
 HasCoreRoom (Some file) size room = room ≡ size
 
--- how a replay ends that cannot begin: it is refused for this reason, or there was no memory
+-- how a replay ends that cannot begin: it is refused for this reason, or memory ran out
 abbrev pub unready_ending : List ℕ → ℕ → List ℕ → ReplayFiles → Option Unready → Ending
-unready_ending container part script further None = Starved
+unready_ending container part script further None = NoMemory
 unready_ending container part script further (Some why) =
-    Denied (unready_denial container part script further why).file (unready_denial container part script further why).text
+    Refused (unready_denial container part script further why).file (unready_denial container part script further why).text

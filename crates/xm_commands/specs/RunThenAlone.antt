@@ -7,7 +7,7 @@ use Rattle.xm_report.specs.Report.{texts}
 use Rattle.machine_model.specs.Lines.{own, report}
 use Rattle.machine_model.specs.Machine.{run, start}
 use Rattle.machine_model.specs.View.{System}
-use Rattle.xm_words.specs.Words.{PartFile, ReplayFiles, RunOption, Run, Replay, command_of, inputs_in, replay_core, replay_input, scripts_in}
+use Rattle.command_line.specs.Words.{PartFile, ReplayFiles, RunOption, Run, Replay, command_of, inputs_in, replay_core, replay_input, scripts_in}
 use Rattle.file_commands.specs.Outcome.{core_output, name_if_any}
 use Rattle.file_commands.specs.Packing.{file_names}
 use Rattle.xm_commands.specs.Answer.{Answer, answer, saved_all}

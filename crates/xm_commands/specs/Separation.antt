@@ -1,4 +1,4 @@
--- What a run shows of each partition: what it is alone, under what it was told.
+-- What a run shows of each partition: what it is alone, under what it received.
 use Rattle.std.specs.Prelude.{◌≡◌, ◌≢◌, ℕ, ◌<◌, ◌⊎◌, List, [], ◌∷◌, ◌++◌, length, drop, map, Option, Some, None, Ok}
 use Rattle.xm_outside.specs.Files.{Files, OthersStay}
 use Rattle.xm_outside.specs.Growth.{GrewByPrefix, grown}
@@ -6,7 +6,7 @@ use Rattle.xm_report.specs.Report.{ReportLine, text_of, texts}
 use Rattle.loaded_system.specs.Bare.{bare_system}
 use Rattle.loaded_system.specs.System as loaded
 use Rattle.xm_container.specs.Reading.{unpacked}
-use Rattle.alone_replay.specs.OfRun.{IsOfRun, own_console}
+use Rattle.replay_setup.specs.OfRun.{IsOfRun, own_console}
 use Rattle.uart_board.specs.Heard.{IsHeard}
 use Rattle.uart_board.specs.Views.{without_marks}
 use Rattle.machine_model.specs.Alone.{Alone, alone_from, alone_lines, alone_start}
@@ -15,19 +15,19 @@ use Rattle.machine_model.specs.Cue.{script}
 use Rattle.machine_model.specs.Lines.{end_line, own, report}
 use Rattle.machine_model.specs.Machine.{run, start}
 use Rattle.machine_model.specs.View.{System, view_of}
-use Rattle.whole_system.specs.State.{with_inputs}
-use Rattle.xm_words.specs.Words.{Command, PartFile, RunOption, Bare, Parse, Upgrade, BuildImage, ReadImage, Pack, ListContainer, CheckContainer, MakePlan, CheckPlan, TellGroups, Generate, Run, Replay, cores_in, replay_core, replay_input, span_in, scripts_in}
+use Rattle.system_state.specs.State.{with_inputs}
+use Rattle.command_line.specs.Words.{Command, PartFile, RunOption, Bare, Parse, Upgrade, BuildImage, ReadImage, Pack, ListContainer, CheckContainer, MakePlan, CheckPlan, ListGroups, Generate, Run, Replay, cores_in, replay_core, replay_input, span_in, scripts_in}
 use Rattle.file_commands.specs.Inputs.{inputs_for, no_inputs}
 use Rattle.file_commands.specs.Outcome.{Output, content, core_output, first_long, input_bytes, name_if_any, script_output, ticks_asked}
 use Rattle.run_commands.specs.Contents.{read_all}
-use Rattle.run_commands.specs.Numbers.{HaveTold}
+use Rattle.run_commands.specs.Numbers.{AllReceiveNumbers}
 use Rattle.xm_commands.specs.Top.{AreContents, IsCompleteStatus}
 use Rattle.file_commands.specs.Work.{Outside, wrote_all}
 use Rattle.xm_commands.specs.World.{World}
 use Rattle.file_commands.specs.declared.status.Status.{Status}
 use Rattle.file_commands.specs.declared.status.Status.TheVariants.{Refused}
 
--- partition p of a system alone, after so many ticks: from its boot on, it is told its script of them
+-- partition p of a system alone, after this many ticks: from its boot on, it receives its script of them
 abbrev pub alone_after_ticks : System → ℕ → ℕ → Alone
 alone_after_ticks system p ticks = alone_from (view_of system p) (alone_start (view_of system p)) (script (start system) p ticks)
 
@@ -40,7 +40,7 @@ alone_report system p ticks =
 abbrev pub alone_output : System → ℕ → PartFile → Output
 alone_output system ticks named = record { file = named.file; bytes = core_file (view_of system named.part) (alone_after_ticks system named.part ticks).state }
 
--- what a run of so many ticks prints, where all of it went out: the lines of its report, of which each partition's own are those of that partition alone
+-- what a run of this many ticks prints, where all of it went out: the lines of its report, of which each partition's own are those of that partition alone
 pub record PrintsAlone (system : System) (ticks : ℕ) (before after : Outside) : Type 0 where
   pub lines : List ReportLine
   pub whole : lines ≡ report system ticks
@@ -51,8 +51,8 @@ pub record PrintsAlone (system : System) (ticks : ℕ) (before after : Outside) 
 abbrev pub alone_outputs : System → ℕ → List PartFile → List PartFile → List Output
 alone_outputs system ticks cores scripts = map (alone_output system ticks) cores ++ map (script_output system ticks) scripts
 
--- a run of so many ticks, with these core files and scripts: its whole report went out, and the core files that were written, in this order, are
--- those of the partitions alone, and the scripts after them are what the partitions were told; no other file has changed
+-- a run of this many ticks, with these core files and scripts: its whole report went out, and the core files that were written, in this order, are
+-- those of the partitions alone, and the scripts after them are what the partitions received; no other file has changed
 pub record ShowsAlone (system : System) (ticks : ℕ) (cores scripts : List PartFile) (before after : Outside) : Type 0 where
   pub printed : PrintsAlone system ticks before after
   pub written : after.files ≡ (wrote_all (alone_outputs system ticks cores scripts) before).files
@@ -88,14 +88,14 @@ pub record BareAlone (Shows : System → ℕ → List PartFile → List PartFile
   pub shows : Shows (with_inputs (bare_system (content 0 contents)) (no_inputs 1)) ticks [] [] before after
 
 -- a container with these contents was run, with input words for its partitions, and the run shows this; where the store's files are known, what the partitions of its scripts are
--- told has its numbers: what is a byte is one, and the status of each reset is a word
+-- received has its numbers: what is a byte is one, and the status of each reset is a word
 pub record ContainerAlone (Shows : System → ℕ → List PartFile → List PartFile → Outside → Outside → Type 0) (contents : List (List ℕ)) (container : List ℕ) (options : List RunOption) (before after : Outside) : Type 0 where
   pub are : AreContents before.files (Run container options) contents
   pub system : loaded.System
   pub unpacks : unpacked (content 0 contents) ≡ Ok system
   pub inputs : List (List ℕ)
   pub given : inputs_for (length system.conf.parts) options (drop 1 contents) ≡ Ok inputs
-  pub numbers : (files : Files) → before.files ≡ Some files → HaveTold (with_inputs system inputs) (ticks_asked (span_in options) system.conf) (scripts_in options)
+  pub numbers : (files : Files) → before.files ≡ Some files → AllReceiveNumbers (with_inputs system inputs) (ticks_asked (span_in options) system.conf) (scripts_in options)
   pub shows : Shows (with_inputs system inputs) (ticks_asked (span_in options) system.conf) (cores_in options) (scripts_in options) before after
 
 -- what a command shows of partitions, by the contents of its files; those that print no report of a run show nothing here
@@ -110,7 +110,7 @@ CommandAlone Shows contents (ListContainer container) before after = Unit {0}
 CommandAlone Shows contents (CheckContainer container) before after = Unit {0}
 CommandAlone Shows contents (MakePlan description) before after = Unit {0}
 CommandAlone Shows contents (CheckPlan description) before after = Unit {0}
-CommandAlone Shows contents (TellGroups description) before after = Unit {0}
+CommandAlone Shows contents (ListGroups description) before after = Unit {0}
 CommandAlone Shows contents (Generate number) before after = Unit {0}
 CommandAlone Shows contents (Run container options) before after = ContainerAlone Shows contents container options before after
 CommandAlone Shows contents (Replay container part script further) before after = Unit {0}
@@ -141,7 +141,7 @@ ReplaysRun status (ListContainer container) before after = Unit {0}
 ReplaysRun status (CheckContainer container) before after = Unit {0}
 ReplaysRun status (MakePlan description) before after = Unit {0}
 ReplaysRun status (CheckPlan description) before after = Unit {0}
-ReplaysRun status (TellGroups description) before after = Unit {0}
+ReplaysRun status (ListGroups description) before after = Unit {0}
 ReplaysRun status (Generate number) before after = Unit {0}
 ReplaysRun status (Run container options) before after = Unit {0}
 ReplaysRun status (Replay container part script further) before after =

@@ -1,11 +1,11 @@
 -- How long a command may run.
 use Rattle.std.specs.Prelude.{◌≤◌, ⊤}
 use Rattle.xm_base.specs.declared.limits.TheConstants.{TICKS}
-use Rattle.xm_words.specs.Grammar.{count_of}
-use Rattle.xm_words.specs.Seen.{seen_options}
-use Rattle.xm_words.specs.Words.{span_in}
-use Rattle.xm_words.specs.declared.commands.Command.{Command}
-use Rattle.xm_words.specs.declared.commands.Command.TheVariants as words
+use Rattle.command_line.specs.Grammar.{count_of}
+use Rattle.command_line.specs.Seen.{seen_options}
+use Rattle.command_line.specs.Words.{span_in}
+use Rattle.command_line.specs.declared.commands.Command.{Command}
+use Rattle.command_line.specs.declared.commands.Command.TheVariants as words
 
 -- the ticks or major frames of a command are at most the limit
 abbrev pub HasTicks : Command → Type 0
@@ -19,7 +19,7 @@ HasTicks (words.ListContainer container) = ⊤
 HasTicks (words.CheckContainer container) = ⊤
 HasTicks (words.MakePlan description) = ⊤
 HasTicks (words.CheckPlan description) = ⊤
-HasTicks (words.TellGroups description) = ⊤
+HasTicks (words.ListGroups description) = ⊤
 HasTicks (words.Generate number) = ⊤
 HasTicks (words.Run container options) = count_of (span_in (seen_options options)) ≤ TICKS
 HasTicks (words.Replay container part script further) = ⊤

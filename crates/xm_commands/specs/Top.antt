@@ -4,11 +4,11 @@ use Rattle.std.specs.FinMap.{get}
 use Rattle.xm_outside.specs.Causes.{Rose}
 use Rattle.xm_outside.specs.Files.{Files, IsAbsent, OthersStay}
 use Rattle.xm_outside.specs.Growth.{grown, GrewByPrefix}
-use Rattle.xm_words.specs.Words.{Command}
+use Rattle.command_line.specs.Words.{Command}
 use Rattle.xm_commands.specs.Answer.{answer}
 use Rattle.run_commands.specs.Contents.{read_all}
 use Rattle.file_commands.specs.Outcome.{Output, inputs_of, later_of, name_if_any, outcome_of, output_of}
-use Rattle.file_commands.specs.Work.{Outside, told_all, wrote, wrote_all, counted_by}
+use Rattle.file_commands.specs.Work.{Outside, reported_all, wrote, wrote_all, counted_by}
 use Rattle.xm_commands.specs.World.{SinkView, World}
 use Rattle.file_commands.specs.declared.status.Status.{Status}
 use Rattle.file_commands.specs.declared.status.Status.TheVariants.{Done, Refused, Usage, ReadFault, WriteFault, UartFault, NoMemory}
@@ -43,10 +43,10 @@ pub record IsAmong (file : List ℕ) (files : List (List ℕ)) : Type 0 where
   pub among : files ≡ first ++ file ∷ rest
 
 -- the store's files are known, and one of these is not among them
-pub record IsOneAbsent (told : Option Files) (files : List (List ℕ)) : Type 0 where
+pub record IsOneAbsent (known : Option Files) (files : List (List ℕ)) : Type 0 where
   pub file : List ℕ
   pub named : IsAmong file files
-  pub absent : IsAbsent told file
+  pub absent : IsAbsent known file
 
 -- the count of failed reads rose, or the store's files are known and one that the words name is not among them
 abbrev pub IsReadCause : Option Command → Outside → Outside → Type 0
@@ -94,8 +94,8 @@ pub record IsLostAfter (command : Command) (before after : Outside) : Type 0 whe
   pub output : Output
   pub rest : List Output
   pub split : (outcome_of command contents).later ≡ first ++ output ∷ rest
-  pub report : after.got ≡ (told_all (outcome_of command contents) before).got
-  pub others : OthersStay (wrote_all first (told_all (outcome_of command contents) before)).files output.file after.files
+  pub report : after.got ≡ (reported_all (outcome_of command contents) before).got
+  pub others : OthersStay (wrote_all first (reported_all (outcome_of command contents) before)).files output.file after.files
 
 -- the report or one of the command's files was not written
 abbrev pub IsWriteCause : Option Command → Outside → Outside → Type 0
@@ -116,7 +116,7 @@ writes_of command = name_if_any (output_of command) ++ later_of command
 abbrev pub named_count : Command → ℕ
 named_count command = length (inputs_of command) + length (writes_of command)
 
--- there were so many calls of the store, at most one for each time that the words name a file
+-- there were this many calls of the store, at most one for each time that the words name a file
 pub record HasCalls (command : Command) (before after : ℕ) : Type 0 where
   pub count : ℕ
   pub few : count ≤ named_count command

@@ -3,16 +3,16 @@
 ghost use Rattle.std.specs.Prelude.{◌≡◌, IfOk};
 ghost use Rattle.xm_commands.specs.Arguments.{after_name};
 ghost use Rattle.xm_commands.specs.Called.{IsCall};
-ghost use Rattle.xm_words.specs.Texts.{texts_of};
+ghost use Rattle.command_line.specs.Texts.{texts_of};
 
 use crate::top::xm_main;
 use crate::world::Surroundings;
+use command_line::Words;
 use file_commands::Status;
 use std::alloc::Global;
 use uart_board::Board;
 use xm_base::Memory;
 use xm_outside::{Sink, Store};
-use xm_words::Words;
 
 /// The words of the command line: all arguments but the first, which is the program's name.
 pub fn words_after_name(alloc: Global, given: &[String]) -> Result<Words, Memory>
@@ -35,7 +35,7 @@ fn words_of(alloc: Global, texts: &[String]) -> Result<Words, Memory>
     Ok(words)
 }
 
-/// Does what the arguments after the program's name say. Out of memory for the words themselves is told by
+/// Does what the arguments after the program's name say. Out of memory for the words themselves is reported by
 /// the status alone.
 pub fn carry_out<S: Store, O: Sink, E: Sink>(
     alloc: Global,

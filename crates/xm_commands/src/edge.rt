@@ -8,7 +8,7 @@ ghost use Rattle.xm_outside.specs.FileUart.{uart_file};
 ghost use Rattle.xm_commands.specs.Arguments.{after_name};
 ghost use Rattle.xm_commands.specs.Ended.{IsEndedBy, IsOnFiles, SaysUsage};
 ghost use Rattle.xm_commands.specs.World.{sink_view};
-ghost use Rattle.xm_words.specs.Words.{command_of};
+ghost use Rattle.command_line.specs.Words.{command_of};
 
 use crate::arguments::carry_out;
 use crate::top::misused;
@@ -96,7 +96,7 @@ fn file_uart(rt: &HostRuntime, place: u8) -> Result<Box<FileUart<HostRuntime>>, 
     }
 }
 
-// The answer to arguments that could not be read: there was no memory for them, or they are misused.
+// The answer to arguments that could not be read: memory ran out for them, or they are misused.
 fn unread<E: Sink>(error: &Error, err: &mut E) -> Status
     ensures starved { error_kind error.now ≡ ErrorKind.OutOfMemory → result ≡ Status.NoMemory }
     ensures quiet { error_kind error.now ≡ ErrorKind.OutOfMemory → err.new ≡ err.old }

@@ -2,10 +2,10 @@
 
 ghost use Rattle.std.specs.Prelude.{ℕ, ◌≡◌, List, IfOk, Option, length, map, option_copied};
 ghost use Rattle.core_files.specs.Length.{core_length_of};
-ghost use Rattle.told_scripts.specs.Lone.{own_view};
+ghost use Rattle.recording_model.specs.Lone.{own_view};
 ghost use Rattle.file_commands.specs.Outcome.{name_if_any};
 ghost use Rattle.xm_commands.specs.Replaying.{HasCoreRoom, lone_output};
-ghost use Rattle.file_commands.specs.Told.{AreSaved};
+ghost use Rattle.file_commands.specs.EndingValues.{AreSaved};
 ghost use Rattle.file_commands.specs.Work.{Saves, outside};
 
 use file_commands::Ending;
@@ -44,7 +44,7 @@ pub(crate) fn write_lone_core<'a, S: Store>(
     };
     match write_core(alone, file, room, files) {
         Ok(()) => Ok(()),
-        Err(Failed) => Err(Ending::Unsaved { file }),
+        Err(Failed) => Err(Ending::WriteFaultFile { file }),
     }
 }
 

@@ -2,26 +2,27 @@
 
 ghost use Rattle.std.specs.Prelude.{◌≡◌, ◌≤◌, ◌∷◌, None, Some, length, map, option_copied};
 ghost use Rattle.xm_base.specs.declared.limits.TheConstants.{FILE_BYTES};
-ghost use Rattle.alone_replay.specs.Readied.{IsReady, Readies, unready_of};
-ghost use Rattle.file_maker.specs.Ready.{replay_of};
+ghost use Rattle.replay_setup.specs.Readied.{IsReady, Readies, unready_of};
+ghost use Rattle.builders.specs.Ready.{replay_of};
 ghost use Rattle.run_commands.specs.Accounts.{HasAccount};
 ghost use Rattle.run_commands.specs.Boards.{LeavesBoard};
 ghost use Rattle.file_commands.specs.Outcome.{content, first_long, input_bytes, input_name, name_if_any, outcome_of, played, replay_outcome};
 ghost use Rattle.core_files.specs.Length.{core_length_of};
-ghost use Rattle.told_scripts.specs.Replayed.{replay_lines};
+ghost use Rattle.recording_model.specs.Replayed.{replay_lines};
 ghost use Rattle.xm_alone.specs.Replay.{IsReplay};
-ghost use Rattle.told_scripts.specs.Lone.{booted_alone, own_view};
+ghost use Rattle.recording_model.specs.Lone.{booted_alone, own_view};
 ghost use Rattle.xm_machine.specs.Outcome.{HasWriteCause};
 ghost use Rattle.xm_commands.specs.Replaying.{HasCoreRoom, ready_of, unready_ending};
-ghost use Rattle.file_commands.specs.Told.{vector_bytes, ending_of};
+ghost use Rattle.file_commands.specs.EndingValues.{vector_bytes, ending_of};
 ghost use Rattle.file_commands.specs.Work.{Comes, outside};
-ghost use Rattle.xm_words.specs.Seen.{seen_further};
-ghost use Rattle.xm_words.specs.Words.{Replay as ReplayPart, replay_input};
+ghost use Rattle.command_line.specs.Seen.{seen_further};
+ghost use Rattle.command_line.specs.Words.{Replay as ReplayPart, replay_input};
 
 use crate::lone_core::{lone_room, write_lone_core};
-use alone_replay::{Replay, Unready, make_ready};
+use command_line::ReplayFiles;
 use cue_scripts::Script;
 use file_commands::{Ending, Refusal, first_long_of_three, read_three, split_contents};
+use replay_setup::{Replay, Unready, make_ready};
 use run_commands::ended;
 use std::alloc::Global;
 use uart_board::{Board, ViewBoard};
@@ -29,7 +30,6 @@ use xm_alone::Alone;
 use xm_base::{Memory, PartId};
 use xm_machine::WriteFault;
 use xm_outside::{Sink, Store};
-use xm_words::ReplayFiles;
 
 /// Reads a container, the script of a partition and its input words, and replays the partition.
 pub(crate) fn replay_container<'a, S: Store, O: Sink>(
@@ -73,7 +73,7 @@ fn replay_files<'a, S: Store, O: Sink>(
     ensures board { LeavesBoard (ending_of result) (outcome_of (ReplayPart container.now part script.now (seen_further further.entry)) (map vector_bytes contents.now)).run (O.got out.old) (O.got out.new) (⟦<Board as ViewBoard>⟧.board_view board.old) (⟦<Board as ViewBoard>⟧.board_view board.new) }
 {
     match first_long_of_three(container, script, further.input(), contents) {
-        Some(file) => Ending::Denied {
+        Some(file) => Ending::Refused {
             file,
             why: Refusal::TooLong,
         },
@@ -120,9 +120,9 @@ fn ready_by(
     ensures { Readies result (replay_of (content 0 (map vector_bytes contents.now)) part (content 1 (map vector_bytes contents.now)) (input_bytes (option_copied input.entry) (content 2 (map vector_bytes contents.now)))) }
 {
     let (bytes, others) = split_contents(contents);
-    let (told, more) = split_contents(others);
+    let (received, more) = split_contents(others);
     let (last, _) = split_contents(more);
-    make_ready(alloc, bytes, part, told, input_bytes(input, last))
+    make_ready(alloc, bytes, part, received, input_bytes(input, last))
 }
 
 // The bytes of input words: none where there is no file of them.
@@ -177,7 +177,7 @@ fn play_ready<'a, S: Store, O: Sink>(
 {
     match lone_room(alloc, alone, core) {
         Ok(mut room) => play_into(alone, script, silent, core, &mut room, files, out, board),
-        Err(Memory) => Ending::Starved,
+        Err(Memory) => Ending::NoMemory,
     }
 }
 
@@ -202,7 +202,7 @@ fn play_into<'a, S: Store, O: Sink>(
     board.begin();
     match show(alone, script, silent, out, board) {
         Ok(()) => ended(write_lone_core(alone, core, room, files), board),
-        Err(WriteFault) => Ending::Unwritten,
+        Err(WriteFault) => Ending::WriteFaultReport,
     }
 }
 
@@ -236,23 +236,23 @@ fn unready<'a>(
     ensures { ending_of result ≡ unready_ending container.now part script.now (seen_further further.entry) (unready_of why) }
 {
     match why {
-        Unready::NoContainer { text } => Ending::Denied {
+        Unready::NoContainer { text } => Ending::Refused {
             file: container,
-            why: Refusal::Told { text },
+            why: Refusal::Fault { text },
         },
-        Unready::NoPartition => Ending::Denied {
+        Unready::NoPartition => Ending::Refused {
             file: container,
             why: Refusal::Partition { id: part },
         },
-        Unready::NoScript { text } => Ending::Denied {
+        Unready::NoScript { text } => Ending::Refused {
             file: script,
-            why: Refusal::Told { text },
+            why: Refusal::Fault { text },
         },
-        Unready::OddInput { found } => Ending::Denied {
+        Unready::OddInput { found } => Ending::Refused {
             file: input_name(further.input()),
             why: Refusal::Input { found },
         },
-        Unready::Memory => Ending::Starved,
+        Unready::Memory => Ending::NoMemory,
     }
 }
 

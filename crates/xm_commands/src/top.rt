@@ -1,20 +1,20 @@
 //! The top call: from words and files to a report and a status.
 
 ghost use Rattle.std.specs.Prelude.{◌≡◌};
-ghost use Rattle.file_commands.specs.Ending.{Misused, complaint};
+ghost use Rattle.file_commands.specs.Ending.{Usage, complaint};
 ghost use Rattle.xm_commands.specs.Page.{IsAnswer};
 ghost use Rattle.xm_commands.specs.Top.{IsSaid};
 ghost use Rattle.xm_commands.specs.World.{sink_view};
 
 use crate::work::work;
 use crate::world::Surroundings;
-use alone_replay::run_is_replayed;
+use command_line::Words;
 use file_commands::{Ending, Status, complain, status_of};
 use machine_model::{own_lines, same_core_file};
+use replay_setup::run_is_replayed;
 use std::alloc::Global;
 use uart_board::Board;
 use xm_outside::{Sink, Store};
-use xm_words::Words;
 
 /// Does what the words say: the named files are read, what is made of them is written, the report goes to `out`, and
 /// what partitions write to their consoles goes to the UARTs of the board. Each status but Done has one line on `err`.
@@ -45,10 +45,10 @@ pub fn xm_main<S: Store, O: Sink, E: Sink>(
 /// The answer to words that cannot be read: they are misused, and the line on `err` says so.
 pub fn misused<E: Sink>(err: &mut E) -> Status
     ensures usage { result ≡ Status.Usage }
-    ensures line { IsSaid (complaint Misused) (sink_view (E.got err.old) (E.faults err.old))
+    ensures line { IsSaid (complaint Usage) (sink_view (E.got err.old) (E.faults err.old))
         (sink_view (E.got err.new) (E.faults err.new)) }
 {
-    let misuse = Ending::Misused;
+    let misuse = Ending::Usage;
     // A fault of `err` changes no status.
     let _ = complain(err, &misuse);
     status_of(&misuse)

@@ -2,26 +2,26 @@
 
 ghost use Rattle.std.specs.Prelude.{Some};
 ghost use Rattle.run_commands.specs.Accounts.{HasAccount};
-ghost use Rattle.file_commands.specs.Told.{ending_of};
+ghost use Rattle.file_commands.specs.EndingValues.{ending_of};
 ghost use Rattle.xm_commands.specs.Ticks.{HasTicks};
 ghost use Rattle.file_commands.specs.Work.{outside};
-ghost use Rattle.run_commands.specs.Numbers.{HasScripts, WordsTell};
-ghost use Rattle.xm_words.specs.Seen.{command_seen};
-ghost use Rattle.xm_words.specs.Words.{command_of};
+ghost use Rattle.run_commands.specs.Numbers.{HasScripts, WordsReceive};
+ghost use Rattle.command_line.specs.Seen.{command_seen};
+ghost use Rattle.command_line.specs.Words.{command_of};
 
 use crate::generating::generate;
 use crate::replaying::replay_container;
-use file_commands::{Ending, build_image, pack_files, parse, tell, upgrade};
-use file_maker::Telling;
+use builders::Printout;
+use command_line::Command::{
+    Bare, BuildImage, CheckContainer, CheckPlan, Generate, ListContainer, ListGroups, MakePlan,
+    Pack, Parse, ReadImage, Replay, Run, Upgrade,
+};
+use command_line::{Command, Words, command, grammar};
+use file_commands::{Ending, build_image, pack_files, parse, print_file, upgrade};
 use run_commands::{run_container, run_file};
 use std::alloc::Global;
 use uart_board::{Board, ViewBoard};
 use xm_outside::{Sink, Store};
-use xm_words::Command::{
-    Bare, BuildImage, CheckContainer, CheckPlan, Generate, ListContainer, MakePlan, Pack, Parse,
-    ReadImage, Replay, Run, TellGroups, Upgrade,
-};
-use xm_words::{Command, Words, command, grammar};
 
 /// Does what the words say. The answer is how that ended.
 pub(crate) fn work<'a, S: Store, O: Sink>(
@@ -35,17 +35,17 @@ pub(crate) fn work<'a, S: Store, O: Sink>(
         (outside (S.files files.old) (S.read_faults files.old) (S.write_faults files.old) (S.calls files.old) (O.got out.old) (O.faults out.old))
         (outside (S.files files.new) (S.read_faults files.new) (S.write_faults files.new) (S.calls files.new) (O.got out.new) (O.faults out.new))
         (⟦<Board as ViewBoard>⟧.board_view board.old) (⟦<Board as ViewBoard>⟧.board_view board.new) }
-    ensures numbers { HasScripts (ending_of result) → WordsTell (command_of words.now) (S.files files.old) }
+    ensures numbers { HasScripts (ending_of result) → WordsReceive (command_of words.now) (S.files files.old) }
 {
     grammar();
     match command(words) {
-        None => Ending::Misused,
-        Some(command) => carry_out(alloc, command, files, out, board),
+        None => Ending::Usage,
+        Some(command) => do_command(alloc, command, files, out, board),
     }
 }
 
 // Carries out a command.
-fn carry_out<'a, S: Store, O: Sink>(
+fn do_command<'a, S: Store, O: Sink>(
     alloc: Global,
     command: Command<'a>,
     files: &mut S,
@@ -57,7 +57,7 @@ fn carry_out<'a, S: Store, O: Sink>(
         (outside (S.files files.old) (S.read_faults files.old) (S.write_faults files.old) (S.calls files.old) (O.got out.old) (O.faults out.old))
         (outside (S.files files.new) (S.read_faults files.new) (S.write_faults files.new) (S.calls files.new) (O.got out.new) (O.faults out.new))
         (⟦<Board as ViewBoard>⟧.board_view board.old) (⟦<Board as ViewBoard>⟧.board_view board.new) }
-    ensures numbers { HasScripts (ending_of result) → WordsTell (command_seen (Some command.entry)) (S.files files.old) }
+    ensures numbers { HasScripts (ending_of result) → WordsReceive (command_seen (Some command.entry)) (S.files files.old) }
 {
     match command {
         Bare { image, ticks } => run_file(alloc, image, ticks, files, out, board),
@@ -70,17 +70,23 @@ fn carry_out<'a, S: Store, O: Sink>(
             output,
         } => upgrade(alloc, configuration, output, files, out),
         BuildImage { program, output } => build_image(alloc, program, output, files, out),
-        ReadImage { image } => tell(alloc, Telling::Image, image, files, out),
+        ReadImage { image } => print_file(alloc, Printout::Image, image, files, out),
         Pack {
             configuration,
             output,
             images,
         } => pack_files(alloc, configuration, output, images, files, out),
-        ListContainer { container } => tell(alloc, Telling::Container, container, files, out),
-        CheckContainer { container } => tell(alloc, Telling::Verdict, container, files, out),
-        MakePlan { description } => tell(alloc, Telling::Plan, description, files, out),
-        CheckPlan { description } => tell(alloc, Telling::Verdicts, description, files, out),
-        TellGroups { description } => tell(alloc, Telling::Groups, description, files, out),
+        ListContainer { container } => print_file(
+            alloc,
+            Printout::Container,
+            container,
+            files,
+            out,
+        ),
+        CheckContainer { container } => print_file(alloc, Printout::Verdict, container, files, out),
+        MakePlan { description } => print_file(alloc, Printout::Plan, description, files, out),
+        CheckPlan { description } => print_file(alloc, Printout::Verdicts, description, files, out),
+        ListGroups { description } => print_file(alloc, Printout::Groups, description, files, out),
         Generate { number } => generate(alloc, number, out),
         Run { container, options } => {
             run_container(alloc, container, options, files, out, board)

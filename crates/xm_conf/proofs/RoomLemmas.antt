@@ -40,7 +40,7 @@ pub room_ends : {X : Type 0} (f : X → ℕ) (xs : List X) (n : ℕ) (room : ℕ
 room_ends f xs n room r past sofar =
     room_after-zero room ∙ sym (at_drop_all (λ rest. room_after room (sum_by f rest)) xs n past) ∙ sofar
 
--- what a loop that takes from a room comes to
+-- the outcome of a loop that takes from a room
 pub ruleset room_loop = (room_goes_on, room_stops, room_ends)
 
 -- there is something left exactly where there is room

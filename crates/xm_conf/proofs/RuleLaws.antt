@@ -64,7 +64,7 @@ says-part_counts most n part =
 pub says-dest_counts : (n : ℕ) (of : ChanKind) (dests : List End) → Says (rules.dest_counts n of dests) (HasFewDests of dests)
 unfolding rules.dest_counts
 says-dest_counts n (chan_kind.Sampling refresh) dests = says-unless (nat_le (length dests) most_dests) (rules.alone 1 (item.End n 17)) (decides-le (length dests) most_dests)
-says-dest_counts n (chan_kind.Queuing most) dests = record { tells = λ none. tt; told = λ yes. refl }
+says-dest_counts n (chan_kind.Queuing most) dests = record { sound = λ none. tt; complete = λ yes. refl }
 
 -- a channel's counts
 pub says-chan_counts : (n : ℕ) (chan : Chan) → Says (rules.chan_counts n chan) (n < 64 × HasFewDests chan.kind chan.dests)
@@ -233,27 +233,27 @@ slice_get-front xs n d below =
     ap (slice_get (take (n + 1) xs)) place ∙ slice_get-get_or (take (n + 1) xs) n d (omega arith) ∙ ap Some (get_or-take (n + 1) xs n d (omega arith))
 
 -- a slot starts at or after the end of another, where there is one
-abbrev Behind : Slot → Option Slot → Type 0
-Behind slot earlier = IfSome earlier (λ e. e.start + e.duration ≤ slot.start)
+abbrev After : Slot → Option Slot → Type 0
+After slot earlier = IfSome earlier (λ e. e.start + e.duration ≤ slot.start)
 
 -- each slot follows the one before it exactly where all are in turn
-pub in_turn-tell : (slots : List Slot) → ((n : ℕ) (d : Slot) → n < length slots → Behind (get_or slots n d) (slice_get (take n slots) (length (take n slots) - 1))) → InTurn slots
-in_turn-tell slots all n d below = subst (Behind (get_or slots (n + 1) d)) (slice_get-front slots n d below) (all (n + 1) d below)
+pub in_turn-from_each : (slots : List Slot) → ((n : ℕ) (d : Slot) → n < length slots → After (get_or slots n d) (slice_get (take n slots) (length (take n slots) - 1))) → InTurn slots
+in_turn-from_each slots all n d below = subst (After (get_or slots (n + 1) d)) (slice_get-front slots n d below) (all (n + 1) d below)
 
 -- where all slots are in turn, each follows the one before it
-pub in_turn-told : (slots : List Slot) → InTurn slots → (n : ℕ) (d : Slot) → n < length slots → Behind (get_or slots n d) (slice_get (take n slots) (length (take n slots) - 1))
-in_turn-told slots turn zero d below = tt
-in_turn-told slots turn (suc n) d below =
+pub in_turn-to_each : (slots : List Slot) → InTurn slots → (n : ℕ) (d : Slot) → n < length slots → After (get_or slots n d) (slice_get (take n slots) (length (take n slots) - 1))
+in_turn-to_each slots turn zero d below = tt
+in_turn-to_each slots turn (suc n) d below =
     let within : n + 1 < length slots = omega arith in
-    subst (λ (k : ℕ). Behind (get_or slots k d) (slice_get (take k slots) (length (take k slots) - 1))) (add-one n)
-    (subst (Behind (get_or slots (n + 1) d)) (sym (slice_get-front slots n d within)) (turn n d within))
+    subst (λ (k : ℕ). After (get_or slots k d) (slice_get (take k slots) (length (take k slots) - 1))) (add-one n)
+    (subst (After (get_or slots (n + 1) d)) (sym (slice_get-front slots n d within)) (turn n d within))
 
 -- rule 12
 pub says-rule_12 : (conf : Conf) → Says (rules.rule_12 conf) (All (λ plan. InTurn plan.slots) conf.plans)
 unfolding rules.rule_12 rules.early_slots rules.early_slot
 says-rule_12 conf =
     says-all rules.early_slots (λ plan. InTurn plan.slots)
-    (λ p plan. says-like (rules.early_slots p plan) (in_turn-tell plan.slots) (in_turn-told plan.slots)
+    (λ p plan. says-like (rules.early_slots p plan) (in_turn-from_each plan.slots) (in_turn-to_each plan.slots)
     (says-along (rules.early_slot p) (λ before slot. IfSome (slice_get before (length before - 1)) (λ e. e.start + e.duration ≤ slot.start))
     (λ before slot. says-unless (rules.follows (slice_get before (length before - 1)) slot) (rules.broken 12 (item.Slot p (length before)) (item.Slot p (length before - 1)))
     (decides-follows (slice_get before (length before - 1)) slot)) plan.slots))
@@ -458,8 +458,8 @@ says-all_broken most d =
 
 -- nothing comes first exactly where there is nothing
 pub none-first : {Y : Type 0} {P : Type 0} (ys : List Y) → Says ys P → (head_of ys ≡ None → P) × (P → head_of ys ≡ None)
-none-first [] s = (λ none. s.tells refl, λ p. refl)
-none-first (y ∷ ys) s = (λ none. absurd (let never : ⊥ = cc in never), λ p. absurd (let no : y ∷ ys ≡ [] = s.told p in let never : ⊥ = cc in never))
+none-first [] s = (λ none. s.sound refl, λ p. refl)
+none-first (y ∷ ys) s = (λ none. absurd (let never : ⊥ = cc in never), λ p. absurd (let no : y ∷ ys ≡ [] = s.complete p in let never : ⊥ = cc in never))
 
 -- no rule is broken exactly where the description fits
 pub first_broken_none : (most : ℕ) (d : Description) → (rules.first_broken most d ≡ None) ↔ FitsWithin most d

@@ -11,34 +11,34 @@ use Rattle.xm_conf.specs.declared.item.Item.{Item}
 
 -- a list is empty exactly where the fact holds
 pub record Says {Y : Type 0} (ys : List Y) (P : Type 0) : Type 0 where
-  pub tells : ys ≡ [] → P
-  pub told : P → ys ≡ []
+  pub sound : ys ≡ [] → P
+  pub complete : P → ys ≡ []
 
 -- the same list says what follows from the fact and leads to it
 pub says-like : {Y : Type 0} {P Q : Type 0} (ys : List Y) → (P → Q) → (Q → P) → Says ys P → Says ys Q
-says-like ys to from s = record { tells = λ none. to (s.tells none); told = λ q. s.told (from q) }
+says-like ys to from s = record { sound = λ none. to (s.sound none); complete = λ q. s.complete (from q) }
 
 -- a test says the fact that it decides
 pub says-unless : {Y : Type 0} {P : Type 0} (t : Bool) (y : Y) → Decides t P → Says (unless t y) P
 says-unless {Y} {P} t y d = at t d
   where
     at : (b : Bool) → Decides b P → Says (unless b y) P
-    at true d = record { tells = λ none. d.0 refl; told = λ p. refl }
-    at false d = record { tells = λ none. absurd (let no : ⊥ = cc in no); told = λ p. absurd (let e : false ≡ true = d.1 p in let no : ⊥ = cc in no) }
+    at true d = record { sound = λ none. d.0 refl; complete = λ p. refl }
+    at false d = record { sound = λ none. absurd (let no : ⊥ = cc in no); complete = λ p. absurd (let e : false ≡ true = d.1 p in let no : ⊥ = cc in no) }
 
 -- two lists say both facts
 pub says-append : {Y : Type 0} {P Q : Type 0} (a b : List Y) → Says a P → Says b Q → Says (a ++ b) (P × Q)
-says-append {Y} {P} {Q} [] b sa sb = record { tells = λ none. (sa.tells refl, sb.tells none); told = λ both. sb.told both.1 }
+says-append {Y} {P} {Q} [] b sa sb = record { sound = λ none. (sa.sound refl, sb.sound none); complete = λ both. sb.complete both.1 }
 says-append {Y} {P} {Q} (y ∷ a) b sa sb =
     record {
-      tells = λ none. absurd (let no : ⊥ = cc in no);
-      told = λ both. absurd (let some : y ∷ a ≡ [] = sa.told both.0 in let no : ⊥ = cc in no);
+      sound = λ none. absurd (let no : ⊥ = cc in no);
+      complete = λ both. absurd (let some : y ∷ a ≡ [] = sa.complete both.0 in let no : ⊥ = cc in no);
     }
 
 -- what numbered elements add says what each says
 pub says-each_from : {X Y : Type 0} (f : ℕ → X → List Y) (P : ℕ → X → Type 0) → ((n : ℕ) (x : X) → Says (f n x) (P n x)) → (k : ℕ) (xs : List X)
     → Says (each_from f k xs) ((n : ℕ) (d : X) → n < length xs → P (k + n) (get_or xs n d))
-says-each_from f P s k [] = record { tells = λ none n d below. absurd (omega arith); told = λ all. refl }
+says-each_from f P s k [] = record { sound = λ none n d below. absurd (omega arith); complete = λ all. refl }
 says-each_from {X} {Y} f P s k (x ∷ xs) =
     says-like (f k x ++ each_from f (k + 1) xs) to from (says-append (f k x) (each_from f (k + 1) xs) (s k x) (says-each_from f P s (k + 1) xs))
   where
@@ -69,7 +69,7 @@ says-all f P s xs = says-each f (λ n x. P x) s xs
 -- what elements add beside those before them says what each says
 pub says-along_from : {X Y : Type 0} (f : List X → X → List Y) (P : List X → X → Type 0) → ((before : List X) (x : X) → Says (f before x) (P before x)) → (before xs : List X)
     → Says (along_from f before xs) ((n : ℕ) (d : X) → n < length xs → P (before ++ take n xs) (get_or xs n d))
-says-along_from f P s before [] = record { tells = λ none n d below. absurd (omega arith); told = λ all. refl }
+says-along_from f P s before [] = record { sound = λ none n d below. absurd (omega arith); complete = λ all. refl }
 says-along_from {X} {Y} f P s before (x ∷ xs) =
     says-like (f before x ++ along_from f (before ++ x ∷ []) xs) to from
     (says-append (f before x) (along_from f (before ++ x ∷ []) xs) (s before x) (says-along_from f P s (before ++ x ∷ []) xs))
@@ -109,8 +109,8 @@ says-repeated {X} {R} rule numbered clash d before x = at (position_from (λ ear
   where
     at : (found : Option ℕ) → (found ≡ None → All (λ earlier. R earlier x) before) × (All (λ earlier. R earlier x) before → found ≡ None)
         → Says (beside rule (numbered (length before)) (on numbered found)) (All (λ earlier. R earlier x) before)
-    at None s = record { tells = λ none. s.0 refl; told = λ all. refl }
-    at (Some n) s = record { tells = λ none. absurd (let no : ⊥ = cc in no); told = λ all. absurd (let e : Some n ≡ None = s.1 all in let no : ⊥ = cc in no) }
+    at None s = record { sound = λ none. s.0 refl; complete = λ all. refl }
+    at (Some n) s = record { sound = λ none. absurd (let no : ⊥ = cc in no); complete = λ all. absurd (let e : Some n ≡ None = s.1 all in let no : ⊥ = cc in no) }
 
 -- no item passes a test exactly where every element fails it
 pub items-none : {X : Type 0} {R : X → Type 0} (test : X → Bool) → ((x : X) → Decides (not (test x)) (R x)) → (xs : List (Item × X))
@@ -130,18 +130,18 @@ says-meets {X} {R} rule clash d before x = at (head_of (items_where (λ earlier.
   where
     at : (found : Option Item) → (found ≡ None → All (λ earlier. R earlier.1 x.1) before) × (All (λ earlier. R earlier.1 x.1) before → found ≡ None)
         → Says (beside rule x.0 found) (All (λ earlier. R earlier.1 x.1) before)
-    at None s = record { tells = λ none. s.0 refl; told = λ all. refl }
-    at (Some n) s = record { tells = λ none. absurd (let no : ⊥ = cc in no); told = λ all. absurd (let e : Some n ≡ None = s.1 all in let no : ⊥ = cc in no) }
+    at None s = record { sound = λ none. s.0 refl; complete = λ all. refl }
+    at (Some n) s = record { sound = λ none. absurd (let no : ⊥ = cc in no); complete = λ all. absurd (let e : Some n ≡ None = s.1 all in let no : ⊥ = cc in no) }
 
 -- each element stands in a relation to those before it exactly where all pairs do
-pub pairs-tell : {X : Type 0} (R : X → X → Type 0) (xs : List X) → ((n : ℕ) (d : X) → n < length xs → All (λ earlier. R earlier (get_or xs n d)) (take n xs)) → AllPairs R xs
-pairs-tell {X} R xs all i j d before below =
+pub pairs-from_each : {X : Type 0} (R : X → X → Type 0) (xs : List X) → ((n : ℕ) (d : X) → n < length xs → All (λ earlier. R earlier (get_or xs n d)) (take n xs)) → AllPairs R xs
+pairs-from_each {X} R xs all i j d before below =
     let within : i < length (take j xs) = omega (arith, length-take j xs) in
     subst (λ (y : X). R y (get_or xs j d)) (get_or-take j xs i d before) (all j d below i d within)
 
 -- where all pairs stand in a relation, so does each element to those before it
-pub pairs-told : {X : Type 0} (R : X → X → Type 0) (xs : List X) → AllPairs R xs → (n : ℕ) (d : X) → n < length xs → All (λ earlier. R earlier (get_or xs n d)) (take n xs)
-pairs-told {X} R xs pairs n d below k e within =
+pub pairs-to_each : {X : Type 0} (R : X → X → Type 0) (xs : List X) → AllPairs R xs → (n : ℕ) (d : X) → n < length xs → All (λ earlier. R earlier (get_or xs n d)) (take n xs)
+pairs-to_each {X} R xs pairs n d below k e within =
     let before : k < n = omega (arith, length-take n xs) in
     subst (λ (y : X). R y (get_or xs n d)) (sym (get_or-take n xs k e before))
     (subst (λ (y : X). R y (get_or xs n d)) (get_or_default xs k d e (omega arith)) (pairs k n d before below))
@@ -149,15 +149,15 @@ pairs-told {X} R xs pairs n d below k e within =
 -- elements each of which stands in a relation to those before it say so of all pairs
 pub says-pairs : {X Y : Type 0} (R : X → X → Type 0) (f : List X → X → List Y) → ((before : List X) (x : X) → Says (f before x) (All (λ earlier. R earlier x) before))
     → (xs : List X) → Says (along f xs) (AllPairs R xs)
-says-pairs R f s xs = says-like (along f xs) (pairs-tell R xs) (pairs-told R xs) (says-along f (λ before x. All (λ earlier. R earlier x) before) s xs)
+says-pairs R f s xs = says-like (along f xs) (pairs-from_each R xs) (pairs-to_each R xs) (says-along f (λ before x. All (λ earlier. R earlier x) before) s xs)
 
 -- the same, where each element says something of its own beside
 pub says-pairs_and : {X Y : Type 0} (R : X → X → Type 0) (Q : X → Type 0) (f : List X → X → List Y)
     → ((before : List X) (x : X) → Says (f before x) (All (λ earlier. R earlier x) before × Q x)) → (xs : List X) → Says (along f xs) (AllPairs R xs × All Q xs)
 says-pairs_and R Q f s xs =
     says-like (along f xs)
-    (λ all. (pairs-tell R xs (λ n d below. (all n d below).0), λ n d below. (all n d below).1))
-    (λ both n d below. (pairs-told R xs both.0 n d below, both.1 n d below))
+    (λ all. (pairs-from_each R xs (λ n d below. (all n d below).0), λ n d below. (all n d below).1))
+    (λ both n d below. (pairs-to_each R xs both.0 n d below, both.1 n d below))
     (says-along f (λ before x. All (λ earlier. R earlier x) before × Q x) s xs)
 
 -- all numbers of elements are below a limit exactly where the list is no longer

@@ -13,7 +13,7 @@ pub first-append_some : {X : Type 0} (a b : List X) → is_some (head_of a) ≡ 
 first-append_some [] b some = cc
 first-append_some (x ∷ a) b some = refl
 
--- an element that adds nothing: the rest tells the first
+-- an element that adds nothing: the rest determines the first
 pub each_goes_on : {X Y : Type 0} (f : ℕ → X → List Y) (xs : List X) (n : ℕ) (d x : X) (found r : Option Y) → n < length xs → x ≡ get_or xs n d
     → found ≡ head_of (f n x) → is_some found ≡ false → head_of (each_from f n (drop n xs)) ≡ r → head_of (each_from f (n + 1) (drop (n + 1) xs)) ≡ r
 each_goes_on f xs n d x found r below is value none sofar =
@@ -36,7 +36,7 @@ each_stops f xs n d x found r below is value some sofar =
 pub each_ends : {X Y : Type 0} (f : ℕ → X → List Y) (xs : List X) (n : ℕ) (r : Option Y) → length xs ≤ n → head_of (each_from f n (drop n xs)) ≡ r → None ≡ r
 each_ends f xs n r past sofar = sym (at_drop_all (λ rest. head_of (each_from f n rest)) xs n past) ∙ sofar
 
--- an element that adds nothing beside those before it: the rest tells the first
+-- an element that adds nothing beside those before it: the rest determines the first
 pub along_goes_on : {X Y : Type 0} (f : List X → X → List Y) (xs : List X) (n : ℕ) (d x : X) (found r : Option Y) → n < length xs → x ≡ get_or xs n d
     → found ≡ head_of (f (take n xs) x) → is_some found ≡ false → head_of (along_from f (take n xs) (drop n xs)) ≡ r
     → head_of (along_from f (take (n + 1) xs) (drop (n + 1) xs)) ≡ r
@@ -62,13 +62,13 @@ along_stops f xs n d x found r below is value some sofar =
 pub along_ends : {X Y : Type 0} (f : List X → X → List Y) (xs : List X) (n : ℕ) (r : Option Y) → length xs ≤ n → head_of (along_from f (take n xs) (drop n xs)) ≡ r → None ≡ r
 along_ends f xs n r past sofar = sym (at_drop_all (λ rest. head_of (along_from f (take n xs) rest)) xs n past) ∙ sofar
 
--- what a loop over numbered elements comes to
+-- the outcome of a loop over numbered elements
 pub ruleset each_loop = (each_goes_on, each_stops, each_ends)
 
--- what a loop over elements beside those before them comes to
+-- the outcome of a loop over elements beside those before them
 pub ruleset along_loop = (along_goes_on, along_stops, along_ends)
 
--- one list after another: what the first tells goes first
+-- one list after another: what the first adds goes first
 pub turn_first : {X : Type 0} (a b : List X) (found : Option X) → found ≡ head_of a → is_some found ≡ true → found ≡ head_of (a ++ b)
 turn_first a b found value some = value ∙ sym (first-append_some a b (ap is_some (sym value) ∙ some))
 
@@ -76,5 +76,5 @@ turn_first a b found value some = value ∙ sym (first-append_some a b (ap is_so
 pub turn_second : {X : Type 0} (a b : List X) (found next : Option X) → found ≡ head_of a → is_some found ≡ false → next ≡ head_of b → next ≡ head_of (a ++ b)
 turn_second a b found next value none then = then ∙ sym (first-append_none a b (ap is_some (sym value) ∙ none))
 
--- what lists tell in turn
+-- what lists add in turn
 pub ruleset in_turn = (turn_first, turn_second)

@@ -21,7 +21,7 @@ use Rattle.xm_conf.specs.Limits.{most_parts, most_dests, most_links, link_number
 use Rattle.xm_conf.specs.declared.link.Link.{Link}
 use Rattle.xm_conf.specs.declared.raw.Region.{Region}
 
--- a list has at least one element, and at most so many
+-- a list has at least one element, and at most this many
 pub record HasSome {X : Type 0} (xs : List X) (most : ℕ) : Type 0 where
   pub some : 0 < length xs
   pub few : length xs ≤ most
@@ -31,7 +31,7 @@ abbrev pub HasFewDests : ChanKind → List End → Type 0
 HasFewDests (chan_kind.Sampling refresh) dests = length dests ≤ most_dests
 HasFewDests (chan_kind.Queuing most) dests = ⊤
 
--- rule 1: there is something of each kind that has to be, and not too much of any kind, where so many partitions are the
+-- rule 1: there is something of each kind that has to be, and not too much of any kind, where this many partitions are the
 -- most
 pub record HasCountsWithin (most : ℕ) (conf : Conf) : Type 0 where
   pub regions : HasSome conf.regions 8
@@ -169,7 +169,7 @@ pub record IsLink (parts : ℕ) (link : Link) : Type 0 where
 abbrev pub DifferLinks : Link → Link → Type 0
 DifferLinks a b = (a.source ≢ b.source) ⊎ (a.number ≢ b.number)
 
--- a description meets the rules, where so many partitions are the most
+-- a description meets the rules, where this many partitions are the most
 pub record FitsWithin (most : ℕ) (d : Description) : Type 0 where
   pub counts : HasCountsWithin most d.conf
   pub ids : HasIds d.ids

@@ -29,7 +29,7 @@ name_from_bytes bytes = if is_name bytes then Some bytes else None
 abbrev pub padded : List ℕ → List ℕ
 padded bytes = bytes ++ replicate (31 - length bytes) 0
 
--- the first bytes of a buffer, so many, are a name, and the others are zeros
+-- the first bytes of a buffer, this many, are a name, and the others are zeros
 pub record IsNameBuffer (buffer : List ℕ) (count : ℕ) : Type 0 where
   pub name : IsName (take count buffer)
   pub counted : length (take count buffer) ≡ count

@@ -76,7 +76,7 @@ plan_counts n plan =
     ++ unless (nat_lt 0 (length plan.slots)) (alone 1 (item.Plan n))
     ++ past_limit 64 (item.Slot n) plan.slots
 
--- a partition past so many, a partition without areas, and the first area and port past their limits
+-- a partition past this many, a partition without areas, and the first area and port past their limits
 unfoldable pub part_counts : ℕ → ℕ → Part → List Broken
 part_counts most n part =
     unless (nat_lt n most) (alone 1 (item.Part n))
@@ -98,7 +98,7 @@ unfoldable pub list_counts : Conf → List Broken
 list_counts conf =
     unless (has_some conf) (alone 1 item.Whole) ++ past_limit 8 item.Region conf.regions ++ past_limit 8 item.Uart conf.uarts
 
--- there is something of each kind that has to be, and not too much of any kind, where so many partitions are the most
+-- there is something of each kind that has to be, and not too much of any kind, where this many partitions are the most
 unfoldable pub rule_1 : ℕ → Conf → List Broken
 rule_1 most conf =
     list_counts conf ++ added_by_each plan_counts conf.plans ++ added_by_each (part_counts most) conf.parts ++ added_by_each chan_counts conf.chans
@@ -179,7 +179,7 @@ overlaps a b = nat_lt a.start (b.start + b.size) && nat_lt b.start (a.start + a.
 unfoldable pub rule_5 : Conf → List Broken
 rule_5 conf = along (repeated 5 item.Region overlaps) conf.regions
 
--- so many bytes from the start of a region
+-- this many bytes from the start of a region
 abbrev pub front_of : ℕ → Region → Region
 front_of size region = record { start = region.start; size = size }
 
@@ -261,7 +261,7 @@ most_memory = 33554432
 unfoldable pub part_size : Part → ℕ
 part_size part = sum_by (λ area. area.size) part.areas
 
--- all areas have at most so many bytes together
+-- all areas have at most this many bytes together
 unfoldable pub rule_10 : Conf → List Broken
 rule_10 conf = unless (nat_le (sum_by part_size conf.parts) most_memory) (alone 10 item.Whole)
 
@@ -322,7 +322,7 @@ stray_slots parts p plan = added_by_each (stray_slot parts p) plan.slots
 unfoldable pub rule_13 : Conf → List Broken
 rule_13 conf = added_by_each (stray_slots (length conf.parts)) conf.plans
 
--- whether a console is one of so many UARTs, where there is one
+-- whether a console is one of this many UARTs, where there is one
 abbrev pub is_console : ℕ → Option ℕ → Bool
 is_console uarts None = true
 is_console uarts (Some uart) = nat_lt uart uarts
@@ -430,7 +430,7 @@ rule_18 conf = along (meets 18 same_end) (added_by_each chan_ends conf.chans)
 
 -- Rules 19 and 20: health events and requirements.
 
--- whether an action has its plan, where there are so many plans
+-- whether an action has its plan, where there are this many plans
 abbrev pub has_plan : ℕ → Action → Bool
 has_plan plans action.Ignore = true
 has_plan plans action.Shutdown = true
@@ -479,7 +479,7 @@ rule_20 conf = added_by_each unfit_need conf.parts
 
 -- Rules 21 and 22: links.
 
--- whether a partition exists, where there are so many
+-- whether a partition exists, where there are this many
 abbrev pub exists : ℕ → ℕ → Bool
 exists parts part = nat_lt part parts
 
@@ -523,13 +523,13 @@ chan_rules conf = rule_15 conf ++ rule_16 conf ++ rule_17 conf ++ rule_18 conf
 unfoldable pub link_rules : Conf → List Broken
 link_rules conf = rule_21 conf ++ rule_22 conf
 
--- all that breaks a rule, by the rules' numbers, where so many partitions are the most
+-- all that breaks a rule, by the rules' numbers, where this many partitions are the most
 unfoldable pub all_broken : ℕ → Description → List Broken
 all_broken most d =
     rule_1 most d.conf ++ rule_2 d.ids ++ rule_3 d.conf ++ memory_rules d.conf ++ plan_rules d.conf ++ chan_rules d.conf
     ++ rule_19 (length d.conf.plans) d.monitors ++ rule_20 d.conf ++ link_rules d.conf
 
--- the first rule that is broken, with the first item that breaks it and the item that it clashes with, where so many
+-- the first rule that is broken, with the first item that breaks it and the item that it clashes with, where this many
 -- partitions are the most
 unfoldable pub first_broken : ℕ → Description → Option Broken
 first_broken most d = head_of (all_broken most d)

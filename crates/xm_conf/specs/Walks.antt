@@ -1,4 +1,4 @@
--- What the rules on areas, ends and answers come to along the lists that have them.
+-- The outcome of the rules on areas, ends and answers along the lists that have them.
 use Rattle.std.specs.Prelude.{ℕ, ◌+◌, List, [], ◌∷◌, ◌++◌, length, map, Option}
 use Rattle.xm_conf.specs.Along.{added_by_each, along, unless}
 use Rattle.xm_conf.specs.Configuration.{Part, Chan, Conf}
@@ -72,7 +72,7 @@ action_broken plans p n action =
 unfoldable pub part_monitor : ℕ → ℕ → Part → List Broken
 part_monitor plans p part = monitor_broken plans p (monitor_of part)
 
--- all that breaks a rule in a configuration, where so many partitions are the most: its ids are its places, and break none
+-- all that breaks a rule in a configuration, where this many partitions are the most: its ids are its places, and break none
 unfoldable pub walk_broken : ℕ → Conf → List Broken
 walk_broken most conf =
     rule_1 most conf ++ rule_3 conf ++ memory_rules conf ++ plan_rules conf ++ chan_rules conf

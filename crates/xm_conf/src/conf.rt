@@ -53,7 +53,7 @@ impl Conf {
         Conf::within(PARTS, raw)
     }
 
-    /// The same, where it may have no more than so many partitions.
+    /// The same, where it may have no more than this many partitions.
     #[tactic(auto, using(crate::proofs::RuleLaws::first_broken_none, crate::specs::FitLemmas::fits_within))]
     pub fn within(most: u8, raw: RawConf) -> Result<Conf, Broken>
         requires { most ≤ most_parts }

@@ -243,7 +243,7 @@ pub fn allowed(event: Event, action: Action) -> bool
     }
 }
 
-/// Whether an action has its plan, where there are so many plans.
+/// Whether an action has its plan, where there are this many plans.
 pub fn has_plan(plans: usize, action: Action) -> bool
     ensures { result ≡ rules.has_plan plans action }
 {

@@ -2,7 +2,7 @@
 
 use crate::name::Name;
 
-/// What a port keeps of the messages that come to it.
+/// What a port keeps of the messages that it gets.
 #[derive(Clone, Copy, Debug, PartialEq, Eq)]
 pub enum Kind {
     /// The last one.

@@ -101,7 +101,7 @@ fn channels_broken(raw: &RawConf) -> Option<Broken>
     rule_18(raw)
 }
 
-/// The first rule that is broken, in the order of the rules, where so many partitions are the most.
+/// The first rule that is broken, in the order of the rules, where this many partitions are the most.
 #[tactic(auto, using(crate::specs::AlongLemmas::in_turn), unfolding(crate::specs::Walks::walk_broken))]
 fn walk(most: u8, raw: &RawConf) -> Option<Broken>
     requires { most ≤ most_parts }
@@ -138,7 +138,7 @@ fn walk(most: u8, raw: &RawConf) -> Option<Broken>
     links_broken(raw)
 }
 
-/// The first rule that is broken, with the items, where so many partitions are the most.
+/// The first rule that is broken, with the items, where this many partitions are the most.
 #[tactic(auto, using(crate::proofs::WalkLemmas::walk_first))]
 pub(crate) fn first_broken(most: u8, raw: &RawConf) -> Option<Broken>
     requires { most ≤ most_parts }

@@ -1,4 +1,4 @@
--- A container tells its length, and a system is unpacked from its container.
+-- A container states its length, and a system is unpacked from its container.
 use Rattle.std.proofs.Common.{◌≡◌, ℕ, zero, suc, ◌+◌, ◌-◌, ◌%◌, ◌^◌, ◌<◌, ◌≤◌, Bool, true, false, not, List, [], ◌∷◌, ◌++◌, length, drop, None, Some, Result, Ok, refl, sym, ap, ◌∙◌, append_assoc, arith, codes}
 use Rattle.std.specs.Prelude.{nat_le, nat_lt, ◌==◌, ◌&&◌, ◌||◌, All}
 use Rattle.std.specs.Int.{w8, w32, to_be_bytes}
@@ -18,7 +18,7 @@ use Rattle.bin_config.specs.declared.version.Version.{Version}
 use Rattle.bin_config.specs.Xmc.{xmc}
 use Rattle.bin_config.specs.XmcLemmas.{one_is_short, spelled_read, xmc_short, numbered_back, number_small}
 use Rattle.bin_config.specs.declared.version.Version.TheVariants.{One, Two}
-use Rattle.sealed_files.specs.FieldLemmas.{wide8, wide32}
+use Rattle.file_headers.specs.FieldLemmas.{wide8, wide32}
 use Rattle.xef_images.specs.Image.{Image, IsImage}
 use Rattle.xef_images.specs.ImageLemmas.{Decides-nat_le}
 use Rattle.xef_images.specs.Reading.{xef}
@@ -27,11 +27,11 @@ use Rattle.xef_images.specs.XefLemmas.{length-xef_text, xef_again}
 use Rattle.loaded_system.specs.Inside.{first_outside}
 use Rattle.loaded_system.specs.InsideLemmas.{none_if_inside}
 use Rattle.loaded_system.specs.System.{System, IsSystem}
-use Rattle.sealed_files.specs.Fields.{field_bytes, number_at}
-use Rattle.sealed_files.specs.HeadLemmas.{IsSealed, stated_again, stated_version_again, unsealed_again}
-use Rattle.sealed_files.specs.Heads.{is_version, lead_text, stated_length}
+use Rattle.file_headers.specs.Fields.{field_bytes, number_at}
+use Rattle.file_headers.specs.HeadLemmas.{IsSealed, stated_again, stated_version_again, unsealed_again}
+use Rattle.file_headers.specs.Heads.{is_version, lead_text, stated_length}
 use Rattle.xm_container.specs.Box.{sized_text, image_entry_text, entries_text, fields_text, front_text, sealed_text, box_text}
-use Rattle.sealed_files.specs.FieldLemmas.{Reads, bytes_again, number_again, listed_again}
+use Rattle.file_headers.specs.FieldLemmas.{Reads, bytes_again, number_again, listed_again}
 use Rattle.xm_container.specs.Laws.{ContainersArePrefixFree, PackedIsUnpacked, VersionsAreAlike}
 use Rattle.xm_container.proofs.NumberLemmas.{numbers}
 use Rattle.xm_container.specs.Numbers.{least_where, has_id, extra, missing}
@@ -59,10 +59,10 @@ unfolding sealed_text
 length-sealed v fields =
     omega (arith, length-append (front_text v fields) (md5 (front_text v fields)), length-md5 (front_text v fields), length-front v fields)
 
--- a container tells its length, whatever stands after it
-sealed_told : (v : Version) (fields rest : List ℕ) → 26 + length fields < 2 ^ 32 → stated_length box_faults (codes "XMPK") 2 (sealed_text v fields ++ rest) ≡ Ok (26 + length fields)
+-- a container states its length, whatever stands after it
+sealed_stated : (v : Version) (fields rest : List ℕ) → 26 + length fields < 2 ^ 32 → stated_length box_faults (codes "XMPK") 2 (sealed_text v fields ++ rest) ≡ Ok (26 + length fields)
 unfolding sealed_text front_text
-sealed_told v fields rest below =
+sealed_stated v fields rest below =
     let lead = lead_text (codes "XMPK") (version_number v) (26 + length fields) in
     ap (stated_length box_faults (codes "XMPK") 2) (ap (λ x. x ++ rest) (append_assoc lead fields (md5 (front_text v fields))) ∙ append_assoc lead (fields ++ md5 (front_text v fields)) rest)
     ∙ stated_again box_faults (codes "XMPK") 2 (version_number v) (26 + length fields) ((fields ++ md5 (front_text v fields)) ++ rest) refl (is_container_version v) (number_small v) below
@@ -80,9 +80,9 @@ none_goes_on v w one other rest below is =
     let long = ap length is ∙ length-append (sealed_text v a) rest in
     let size_a = length-sealed v a in
     let size_b = length-sealed w b in
-    let told_b : stated_length box_faults (codes "XMPK") 2 (sealed_text w b) ≡ Ok (26 + length b) = ap (stated_length box_faults (codes "XMPK") 2) (sym (append-nil (sealed_text w b))) ∙ sealed_told w b [] (omega (arith, below, size_b)) in
-    let told_a : stated_length box_faults (codes "XMPK") 2 (sealed_text w b) ≡ Ok (26 + length a) = ap (stated_length box_faults (codes "XMPK") 2) is ∙ sealed_told v a rest (omega (arith, below, size_a, long)) in
-    let same : 26 + length b ≡ 26 + length a = same_value (26 + length b) (26 + length a) (sym told_b ∙ told_a) in
+    let stated_b : stated_length box_faults (codes "XMPK") 2 (sealed_text w b) ≡ Ok (26 + length b) = ap (stated_length box_faults (codes "XMPK") 2) (sym (append-nil (sealed_text w b))) ∙ sealed_stated w b [] (omega (arith, below, size_b)) in
+    let stated_a : stated_length box_faults (codes "XMPK") 2 (sealed_text w b) ≡ Ok (26 + length a) = ap (stated_length box_faults (codes "XMPK") 2) is ∙ sealed_stated v a rest (omega (arith, below, size_a, long)) in
+    let same : 26 + length b ≡ 26 + length a = same_value (26 + length b) (26 + length a) (sym stated_b ∙ stated_a) in
     nil_from_length rest (omega (arith, same, size_a, size_b, long))
 
 -- bytes after their length are read
@@ -198,7 +198,7 @@ front_version v fields = version_in_again v (26 + length fields) fields
 sealed_signed : (v : Version) (fields : List ℕ) → 26 + length fields < 2 ^ 32 → IsSealed box_faults (codes "XMPK") 2 (sealed_text v fields) (front_text v fields)
 unfolding sealed_text
 sealed_signed v fields below = record {
-  stated = ap (stated_length box_faults (codes "XMPK") 2) (sym (append-nil (sealed_text v fields))) ∙ sealed_told v fields [] below ∙ ap (λ n. Ok n) (sym (length-sealed v fields));
+  stated = ap (stated_length box_faults (codes "XMPK") 2) (sym (append-nil (sealed_text v fields))) ∙ sealed_stated v fields [] below ∙ ap (λ n. Ok n) (sym (length-sealed v fields));
   parts = refl;
   count = omega (arith, length-front v fields, length-sealed v fields);
 }

@@ -5,28 +5,28 @@ use Rattle.std.specs.Int.{w8, w32}
 use Rattle.xm_base.specs.Cursor.{Place, left, past, cursor_start}
 use Rattle.xm_conf.specs.Configuration.{Conf}
 use Rattle.bin_config.specs.Reading.{read_as}
-use Rattle.file_texts.specs.declared.fault.XmcFault.{XmcFault}
-use Rattle.file_texts.specs.declared.fault.XmcFault.TheVariants as xmc
+use Rattle.fault_messages.specs.declared.fault.XmcFault.{XmcFault}
+use Rattle.fault_messages.specs.declared.fault.XmcFault.TheVariants as xmc
 use Rattle.bin_config.specs.Version.{version_numbered}
 use Rattle.bin_config.specs.declared.version.Version.{Version}
 use Rattle.xef_images.specs.Image.{Image}
 use Rattle.xef_images.specs.Reading.{xef}
-use Rattle.file_texts.specs.declared.fault.XefFault.{XefFault}
-use Rattle.file_texts.specs.declared.fault.XefFault.TheVariants as xef_fault
+use Rattle.fault_messages.specs.declared.fault.XefFault.{XefFault}
+use Rattle.fault_messages.specs.declared.fault.XefFault.TheVariants as xef_fault
 use Rattle.loaded_system.specs.Inside.{first_outside}
 use Rattle.loaded_system.specs.System.{System}
-use Rattle.sealed_files.specs.Fields.{number_at, field_bytes}
-use Rattle.sealed_files.specs.Gives.{Gives}
-use Rattle.sealed_files.specs.Heads.{ReportsDigests, unsealed, stated_version}
-use Rattle.sealed_files.specs.Steps.{unless, ◌>>=◌}
-use Rattle.sealed_files.specs.DigestLemmas.{IsPlain, fields_report, plain_bytes, plain_cond, plain_fault, plain_number, plain_then, value_is_none, plain_stated_version}
-use Rattle.sealed_files.specs.Faults.{AreApart}
+use Rattle.file_headers.specs.Fields.{number_at, field_bytes}
+use Rattle.file_headers.specs.Gives.{Gives}
+use Rattle.file_headers.specs.Heads.{ReportsDigests, unsealed, stated_version}
+use Rattle.file_headers.specs.Steps.{unless, ◌>>=◌}
+use Rattle.file_headers.specs.DigestLemmas.{IsPlain, fields_report, plain_bytes, plain_cond, plain_fault, plain_number, plain_then, value_is_none, plain_stated_version}
+use Rattle.file_headers.specs.Faults.{AreApart}
 use Rattle.xm_container.specs.Entries.{Entries}
 use Rattle.xm_container.specs.Gives.{Fails}
 use Rattle.xm_container.specs.Numbers.{extra, missing}
 use Rattle.xm_container.specs.Reading.{as_config, as_image, length_at, conf_at, id_at, image_at, image_entry_at, with_entry, image_entries_at, image_table_at, container_fields, unless_some, assigned, system_in, box_faults, box_field, box_short, or_container_version, version_in}
-use Rattle.file_texts.specs.declared.fault.BoxFault.{BoxFault}
-use Rattle.file_texts.specs.declared.fault.BoxFault.TheVariants as fault
+use Rattle.fault_messages.specs.declared.fault.BoxFault.{BoxFault}
+use Rattle.fault_messages.specs.declared.fault.BoxFault.TheVariants as fault
 
 -- no other fault is one of digests
 pub apart : AreApart box_faults
@@ -48,7 +48,7 @@ plain_some : {X A : Type 0} (refusal : X → BoxFault) (there : Option X) (later
 plain_some refusal None later first second = second
 plain_some refusal (Some x) later first second = first x
 
--- the faults of a configuration are told as its own
+-- the faults of a configuration are reported as its own
 plain_config : (read : Result Conf XmcFault) → IsPlain box_faults (as_config read)
 plain_config (Ok conf) = value_is_none box_faults conf
 plain_config (Err xmc.Magic) = plain_fault box_faults _ (λ s f e. absurd cc)
@@ -59,7 +59,7 @@ plain_config (Err (xmc.Field at)) = plain_fault box_faults _ (λ s f e. absurd c
 plain_config (Err (xmc.NotFit rule)) = plain_fault box_faults _ (λ s f e. absurd cc)
 plain_config (Err xmc.Memory) = plain_fault box_faults _ (λ s f e. absurd cc)
 
--- the faults of an image are told as its own
+-- the faults of an image are reported as its own
 plain_xef : (id : ℕ) (read : Result Image XefFault) → IsPlain box_faults (as_image id read)
 plain_xef id (Ok image) = value_is_none box_faults image
 plain_xef id (Err xef_fault.Magic) = plain_fault box_faults _ (λ s f e. absurd cc)

@@ -2,12 +2,12 @@
 use Rattle.std.proofs.Common.{ℕ, Result, ap}
 use Rattle.xm_conf.specs.Configuration.{Conf}
 use Rattle.bin_config.specs.Gives.{Fails as XmcFails}
-use Rattle.file_texts.specs.declared.fault.XmcFault.{XmcFault}
-use Rattle.file_texts.specs.declared.fault.XmcFault.TheVariants as xmc
+use Rattle.fault_messages.specs.declared.fault.XmcFault.{XmcFault}
+use Rattle.fault_messages.specs.declared.fault.XmcFault.TheVariants as xmc
 use Rattle.xef_images.specs.Image.{Image}
 use Rattle.xef_images.specs.Gives.{Fails as XefFails}
-use Rattle.file_texts.specs.declared.fault.XefFault.{XefFault}
-use Rattle.file_texts.specs.declared.fault.XefFault.TheVariants as xef
+use Rattle.fault_messages.specs.declared.fault.XefFault.{XefFault}
+use Rattle.fault_messages.specs.declared.fault.XefFault.TheVariants as xef
 use Rattle.xm_container.specs.Gives.{Fails}
 use Rattle.xm_container.specs.Reading.{as_config, as_image, config_fault, image_fault}
 

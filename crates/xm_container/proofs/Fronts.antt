@@ -6,22 +6,22 @@ use Rattle.std.proofs.lemmas.List.{append-nil}
 use Rattle.xef_images.specs.ImageLemmas.{Decides-nat_le}
 use Rattle.xm_base.specs.Cursor.{Place}
 use Rattle.xef_images.specs.Image.{Image}
-use Rattle.sealed_files.specs.Steps.{◌>>=◌, unless}
-use Rattle.sealed_files.specs.StepLemmas.{stepped, ok_is, passed}
-use Rattle.sealed_files.specs.Fields.{number_at}
+use Rattle.file_headers.specs.Steps.{◌>>=◌, unless}
+use Rattle.file_headers.specs.StepLemmas.{stepped, ok_is, passed}
+use Rattle.file_headers.specs.Fields.{number_at}
 use Rattle.xm_container.specs.Entries.{Entries, RiseFrom}
 use Rattle.xm_container.specs.Gives.{Fails}
 use Rattle.xm_container.specs.Reading.{id_at, image_at, image_entry_at, image_entries_at, with_entry, box_field, box_short}
 use Rattle.xm_container.specs.declared.image.Image.{Image as Given}
-use Rattle.file_texts.specs.declared.fault.BoxFault.{BoxFault}
-use Rattle.file_texts.specs.declared.fault.BoxFault.TheVariants as fault
+use Rattle.fault_messages.specs.declared.fault.BoxFault.{BoxFault}
+use Rattle.fault_messages.specs.declared.fault.BoxFault.TheVariants as fault
 
 -- what was read before, and what is still read
 abbrev pub with_front : List ℕ → List Image → Result (Entries × Place) BoxFault → Result (Entries × Place) BoxFault
 with_front ids images read = read >>= λ x. Ok (record { ids = ids ++ x.0.ids; images = images ++ x.0.images }, x.1)
 
 -- a fault that is met in a part is that of the whole
-fails_on : {Y Z : Type 0} (told : BoxFault) (part : Result Y BoxFault) (whole : Result Z BoxFault) → ((f : BoxFault) → part ≡ Err f → whole ≡ Err f) → Fails told part → Fails told whole
+fails_on : {Y Z : Type 0} (reported : BoxFault) (part : Result Y BoxFault) (whole : Result Z BoxFault) → ((f : BoxFault) → part ≡ Err f → whole ≡ Err f) → Fails reported part → Fails reported whole
 fails_on fault.Memory part whole so e = tt
 fails_on other part whole so e = so _ e
 
@@ -31,7 +31,7 @@ regroup : (ids : List ℕ) (images : List Image) (entry : Given) (read : Result 
 regroup ids images entry (Ok later) =
     ap (λ all. Ok (record { ids = all; images = images ++ entry.xef ∷ later.0.images }, later.1)) (sym (append_assoc ids (entry.id ∷ []) later.0.ids))
     ∙ ap (λ all. Ok (record { ids = (ids ++ entry.id ∷ []) ++ later.0.ids; images = all }, later.1)) (sym (append_assoc images (entry.xef ∷ []) later.0.images))
-regroup ids images entry (Err told) = refl
+regroup ids images entry (Err reported) = refl
 
 -- an image more
 entries_on : (ids : List ℕ) (images : List Image) (count i floor : ℕ) (place : Place) (entry : Given) (after : Place) (total : Result (Entries × Place) BoxFault) → i < count
@@ -58,13 +58,13 @@ entries_pushed ids new_ids images new_images count i floor above id xef place en
     ∙ entries_on ids images count i floor place entry after total below read so_far
 
 -- an image that fails
-pub entries_fail : (told : BoxFault) (ids : List ℕ) (images : List Image) (count i floor : ℕ) (place : Place) (total : Result (Entries × Place) BoxFault) → i < count
-    → Fails told (image_entry_at floor place)
-    → with_front ids images (image_entries_at (count - i) floor place) ≡ total → Fails told total
+pub entries_fail : (reported : BoxFault) (ids : List ℕ) (images : List Image) (count i floor : ℕ) (place : Place) (total : Result (Entries × Place) BoxFault) → i < count
+    → Fails reported (image_entry_at floor place)
+    → with_front ids images (image_entries_at (count - i) floor place) ≡ total → Fails reported total
 unfolding image_entries_at
-entries_fail told ids images count i floor place total below read so_far =
+entries_fail reported ids images count i floor place total below read so_far =
     let more : count - i ≡ suc (count - (i + 1)) = omega arith in
-    fails_on told (image_entry_at floor place) total
+    fails_on reported (image_entry_at floor place) total
     (λ f met.
     let one : with_front ids images (image_entries_at (count - i) floor place) ≡ Err f = rw (more, met) refl in
     sym so_far ∙ one)

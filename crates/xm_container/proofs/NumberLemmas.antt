@@ -13,7 +13,7 @@ use Rattle.xm_container.specs.Numbers.{least_where, has_id, extra, missing}
 eqb-false : (a b : ℕ) → (a ≡ b → ⊥) → (a == b) ≡ false
 eqb-false a b differ = grind (arith, nat_tests)
 
--- a number that does not pass: the rest tells the smallest
+-- a number that does not pass: the rest determines the smallest
 pub least_on : (test : ℕ → Bool) (end n : ℕ) (r : Option ℕ) → n < end → test n ≡ false → least_where test n (end - n) ≡ r → least_where test (n + 1) (end - (n + 1)) ≡ r
 least_on test end n r below fails so_far =
     let more : end - n ≡ suc (end - (n + 1)) = omega arith in
@@ -124,7 +124,7 @@ all_counted parts ids rise below none =
     let whole : length ids + 0 ≡ parts = rising_count ids 0 parts rise below (λ n least most. none_missing parts ids n none most) (omega arith) in
     omega (arith, whole)
 
--- the numbers from one on, so many
+-- the numbers from one on, this many
 abbrev pub numbers : ℕ → ℕ → List ℕ
 numbers from zero = []
 numbers from (suc count) = from ∷ numbers (from + 1) count

@@ -60,7 +60,7 @@ rest_on parts images id part image below is some =
     ∙ rw (drop-cons parts id part below, add-one) refl
     ∙ ap (λ p. outside_or id (outside_in p.areas image.segments) (first_outside_from (id + 1) (drop (id + 1) parts) later)) (sym is)
 
--- an image that lies inside: the rest tells the first
+-- an image that lies inside: the rest determines the first
 pub outside_on : (parts : List Part) (images : List Given) (id : ℕ) (part : Part) (image : Image) (r : Option Outside) → id < length parts → part ≡ get_or parts id part
     → image_of images id ≡ Some image → outside_in part.areas image.segments ≡ None
     → first_outside_from id (drop id parts) (in_order images id (length parts - id)) ≡ r
@@ -108,7 +108,7 @@ loads_on images parts id image whole below some loads so_far rest =
 pub loads_done : (images : List Given) (parts id : ℕ) (whole : List Image) → parts ≤ id → (All IsImage (in_order images id (parts - id)) → All IsImage whole) → All IsImage whole
 loads_done images parts id whole past so_far = so_far (subst (λ (list : List Image). All IsImage list) (sym (order_done images parts id past)) (All-nil IsImage))
 
--- so many images as there are partitions
+-- as many images as there are partitions
 order_counted : (images : List Given) (parts count id : ℕ) → missing parts (partition_numbers images) ≡ None → id + count ≡ parts → length (in_order images id count) ≡ count
 order_counted images parts zero id none all = refl
 order_counted images parts (suc count) id none all =
@@ -118,7 +118,7 @@ order_counted images parts (suc count) id none all =
     at None e rest = absurd (image_there images parts id none (omega (arith, all)) e)
     at (Some image) e rest = ap suc rest
 
--- so many images as there are partitions
+-- as many images as there are partitions
 pub length-in_order : (images : List Given) (parts : ℕ) → missing parts (partition_numbers images) ≡ None → length (in_order images 0 parts) ≡ parts
 length-in_order images parts none = order_counted images parts parts 0 none (omega arith)
 

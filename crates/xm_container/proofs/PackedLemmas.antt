@@ -20,8 +20,8 @@ use Rattle.xm_container.specs.Numbers.{missing}
 use Rattle.xm_container.specs.Pack.{Packs, partition_numbers, in_order, sealed, system_of}
 use Rattle.xm_container.proofs.PackLemmas.{length-in_order}
 use Rattle.xm_container.specs.Reading.{unpacked}
-use Rattle.file_texts.specs.declared.fault.PackFault.{PackFault}
-use Rattle.file_texts.specs.declared.fault.PackFault.TheVariants as fault
+use Rattle.fault_messages.specs.declared.fault.PackFault.{PackFault}
+use Rattle.fault_messages.specs.declared.fault.PackFault.TheVariants as fault
 use Rattle.xm_container.specs.declared.image.Image.{Image as Given}
 
 -- a configuration and images of which none is missing and none lies outside are a system

@@ -22,33 +22,33 @@ use Rattle.bin_config.specs.Laws.{IsSpellingOf}
 use Rattle.bin_config.specs.Spelled.{HasConfRanges}
 use Rattle.bin_config.specs.Xmc.{xmc}
 use Rattle.bin_config.specs.XmcLemmas.{read_spelled, numbered_there}
-use Rattle.file_texts.specs.declared.fault.XmcFault.{XmcFault}
-use Rattle.sealed_files.specs.FieldLemmas.{AreBytes-drop, AreBytes-take, Takes, takes_both, wide8, wide32}
+use Rattle.fault_messages.specs.declared.fault.XmcFault.{XmcFault}
+use Rattle.file_headers.specs.FieldLemmas.{AreBytes-drop, AreBytes-take, Takes, takes_both, wide8, wide32}
 use Rattle.xef_images.specs.Image.{Image, IsImage}
 use Rattle.xef_images.specs.ImageLemmas.{Decides-nat_le}
 use Rattle.xef_images.specs.Reading.{xef}
 use Rattle.xef_images.specs.Spelling.{xef_text}
-use Rattle.sealed_files.specs.StepLemmas.{stepped, ok_is, passed}
-use Rattle.sealed_files.specs.Steps.{◌>>=◌, unless}
+use Rattle.file_headers.specs.StepLemmas.{stepped, ok_is, passed}
+use Rattle.file_headers.specs.Steps.{◌>>=◌, unless}
 use Rattle.xef_images.specs.XefLemmas.{xef_takes}
-use Rattle.file_texts.specs.declared.fault.XefFault.{XefFault}
+use Rattle.fault_messages.specs.declared.fault.XefFault.{XefFault}
 use Rattle.loaded_system.specs.Inside.{first_outside}
 use Rattle.loaded_system.specs.InsideLemmas.{inside_if_none}
 use Rattle.loaded_system.specs.System.{System, IsSystem}
-use Rattle.sealed_files.specs.Fields.{field_bytes, listed_at, number_at}
-use Rattle.sealed_files.specs.HeadLemmas.{stated_takes, stated_version_again, unsealed_takes}
-use Rattle.sealed_files.specs.Heads.{is_version, lead_text, stated_version, unsealed}
+use Rattle.file_headers.specs.Fields.{field_bytes, listed_at, number_at}
+use Rattle.file_headers.specs.HeadLemmas.{stated_takes, stated_version_again, unsealed_takes}
+use Rattle.file_headers.specs.Heads.{is_version, lead_text, stated_version, unsealed}
 use Rattle.xm_container.specs.Box.{sized_text, image_entry_text, entries_text, fields_text, front_text, sealed_text, box_text}
 use Rattle.xm_container.proofs.BoxLemmas.{byte_of}
 use Rattle.xm_container.specs.Entries.{Entries, RiseFrom}
-use Rattle.sealed_files.specs.FieldLemmas.{bytes_take, number_takes, listed_takes}
+use Rattle.file_headers.specs.FieldLemmas.{bytes_take, number_takes, listed_takes}
 use Rattle.xm_container.specs.Laws.{UnpackedIsPacked}
 use Rattle.xm_container.proofs.NumberLemmas.{numbers, all_below, all_counted, all_numbers}
 use Rattle.xm_container.specs.Numbers.{extra, missing}
 use Rattle.xm_container.specs.Reading.{as_config, as_image, length_at, conf_at, id_at, image_at, image_entry_at, with_entry, image_entries_at, image_table_at, container_fields, unless_some, assigned, version_in, system_in, unpacked, box_faults, box_field, box_short, or_container_version}
 use Rattle.xm_container.specs.declared.image.Image.{Image as Given}
-use Rattle.file_texts.specs.declared.fault.BoxFault.{BoxFault}
-use Rattle.file_texts.specs.declared.fault.BoxFault.TheVariants as fault
+use Rattle.fault_messages.specs.declared.fault.BoxFault.{BoxFault}
+use Rattle.fault_messages.specs.declared.fault.BoxFault.TheVariants as fault
 
 -- the bytes of a prefix are bytes
 bytes_front : (xs ys : List ℕ) → AreBytes (xs ++ ys) → AreBytes xs
@@ -69,12 +69,12 @@ sized_takes place count bytes each first second =
 -- a configuration that was read
 config_read : (read : Result Conf XmcFault) (conf : Conf) → as_config read ≡ Ok conf → read ≡ Ok conf
 config_read (Ok c) conf e = ap (λ x. Ok x) (ok_is c conf e)
-config_read (Err told) conf e = absurd cc
+config_read (Err reported) conf e = absurd cc
 
 -- an image that was read
 image_read : (id : ℕ) (read : Result Image XefFault) (image : Image) → as_image id read ≡ Ok image → read ≡ Ok image
 image_read id (Ok i) image e = ap (λ x. Ok x) (ok_is i image e)
-image_read id (Err told) image e = absurd cc
+image_read id (Err reported) image e = absurd cc
 
 -- a configuration that is read stands there
 conf_takes : IsBrokenUnlessFits → (v : Version) (place : Place) (conf : Conf) (after : Place) → AreBytes (ahead (past 10 place)) → conf_at v place ≡ Ok (conf, after)
@@ -203,12 +203,12 @@ fields_take law v front conf entries each e =
     let t = entries_take c.value.0 0 c.value.1 b.value.0 b.value.1 n.0.rest c.led in
     let ended : ahead b.value.1 ≡ [] = nil_from_length (ahead b.value.1) ((Decides-eqb (left b.value.1) 0).0 p.true) in
     let text = given_text b.value.0.ids b.value.0.images in
-    let behind : ahead a.value.1 ≡ length b.value.0.ids ∷ text
+    let following : ahead a.value.1 ≡ length b.value.0.ids ∷ text
     = n.0.parts
     ∙ ap (λ byte. byte ++ ahead c.value.1) (byte_of c.value.0 n.1 ∙ ap (λ k. k ∷ []) (sym t.ids))
     ∙ ap (λ rest. length b.value.0.ids ∷ rest) (t.stands.parts ∙ ap (λ rest. text ++ rest) ended ∙ append-nil text) in
-    let parts : drop 10 front ≡ given_fields v a.value.0 b.value.0 = first.0.parts ∙ ap (λ rest. sized_text (xmc v a.value.0) ++ rest) behind in
-    let some : length (ahead a.value.1) ≡ suc (length text) = ap length behind in
+    let parts : drop 10 front ≡ given_fields v a.value.0 b.value.0 = first.0.parts ∙ ap (λ rest. sized_text (xmc v a.value.0) ++ rest) following in
+    let some : length (ahead a.value.1) ≡ suc (length text) = ap length following in
     let P : Conf × Entries → Type 0 = λ x. AreFields v front x.0 x.1 in
     subst P {x = made} p.is
     (record {

@@ -5,11 +5,11 @@ use Rattle.xm_base.specs.Bytes.{AreBytes}
 use Rattle.bin_config.specs.declared.version.Version.{Version}
 use Rattle.loaded_system.specs.System.{System}
 use Rattle.xm_container.specs.Box.{box_text, IsSpelledContainer}
-use Rattle.sealed_files.specs.Gives.{Gives}
+use Rattle.file_headers.specs.Gives.{Gives}
 use Rattle.xm_container.specs.Gives.{Fails}
 use Rattle.xm_container.specs.Laws.{PackedIsUnpacked, UnpackedIsPacked}
 use Rattle.xm_container.specs.Reading.{unpacked}
-use Rattle.file_texts.specs.declared.fault.BoxFault.{BoxFault}
+use Rattle.fault_messages.specs.declared.fault.BoxFault.{BoxFault}
 
 -- what is unpacked is what the bytes spell
 pub found_spelled : UnpackedIsPacked → (bytes : List ℕ) (result : Result System BoxFault) → AreBytes bytes → Gives Fails (λ found. found) result (unpacked bytes) → IfOk result (λ system. (v : Version) × IsSpelledContainer v bytes system)

@@ -2,7 +2,7 @@
 use Rattle.std.specs.Prelude.{ℕ, zero, suc, ◌+◌, ◌-◌, ◌==◌, Bool, not, if◌then◌else◌, List, Option, Some, None}
 use Rattle.std.specs.List.{list_any}
 
--- the smallest number that passes a test, of so many from one on
+-- the smallest number that passes a test, of this many from one on
 abbrev pub least_where : (ℕ → Bool) → ℕ → ℕ → Option ℕ
 least_where test from zero = None
 least_where test from (suc count) = if test from then Some from else least_where test (from + 1) count

@@ -1,4 +1,4 @@
--- What a configuration and images come to: a container of version 2, or why there is none.
+-- The outcome of a configuration and images: a container of version 2, or why there is none.
 use Rattle.std.specs.Prelude.{◌≡◌, ℕ, zero, suc, ◌+◌, ◌==◌, nat_le, if◌then◌else◌, List, [], ◌∷◌, ◌++◌, length, map, Option, Some, None, Result, Ok, Err, Vec}
 use Rattle.std.specs.Option.{option_to_list}
 use Rattle.xm_base.specs.declared.limits.TheConstants.{FILE_BYTES}
@@ -11,8 +11,8 @@ use Rattle.loaded_system.specs.declared.system.Outside.{Outside}
 use Rattle.xm_container.specs.Box.{box_length, fields_text, sealed_text}
 use Rattle.xm_container.specs.Numbers.{extra, missing}
 use Rattle.xm_container.specs.declared.image.Image.{Image as Given}
-use Rattle.file_texts.specs.declared.fault.PackFault.{PackFault}
-use Rattle.file_texts.specs.declared.fault.PackFault.TheVariants as fault
+use Rattle.fault_messages.specs.declared.fault.PackFault.{PackFault}
+use Rattle.fault_messages.specs.declared.fault.PackFault.TheVariants as fault
 
 -- the numbers of images
 abbrev pub partition_numbers : List Given → List ℕ
@@ -23,7 +23,7 @@ abbrev pub image_of : List Given → ℕ → Option Image
 image_of [] id = None
 image_of (image ∷ later) id = if image.id == id then Some image.xef else image_of later id
 
--- the images of so many partitions from one on, in the order of their numbers
+-- the images of this many partitions from one on, in the order of their numbers
 abbrev pub in_order : List Given → ℕ → ℕ → List Image
 in_order images from zero = []
 in_order images from (suc count) = option_to_list (image_of images from) ++ in_order images (from + 1) count
@@ -61,7 +61,7 @@ packed conf images =
     (unless_outside (first_outside conf.parts (in_order images 0 (length conf.parts)))
     (sealed (fields_text Two (system_of conf images)))))
 
--- what was answered is what packing comes to, unless there was no memory
+-- what was answered is the outcome of packing, unless memory runs out
 abbrev pub Packs : {A : Type 0} → Result (Vec ℕ A) PackFault → Result (List ℕ) PackFault → Type 0
 Packs (Ok bytes) packed = packed ≡ Ok bytes.items
 Packs (Err fault.Memory) packed = Unit {0}

@@ -3,29 +3,29 @@ use Rattle.std.specs.Prelude.{ℕ, zero, suc, ◌+◌, ◌==◌, nat_le, List, [
 use Rattle.std.specs.Int.{w8, w32}
 use Rattle.xm_base.specs.Cursor.{Place, left, past, cursor_start}
 use Rattle.xm_conf.specs.Configuration.{Conf}
-use Rattle.file_texts.specs.OfHeads.{box_fault}
-use Rattle.sealed_files.specs.Faults.{HeadFaults}
-use Rattle.sealed_files.specs.Fields.{field_bytes, listed_at, number_at}
-use Rattle.sealed_files.specs.Heads.{stated_version, unsealed}
-use Rattle.sealed_files.specs.Known.{head_faults}
-use Rattle.sealed_files.specs.Lifted.{lifted_faults}
-use Rattle.sealed_files.specs.Steps.{◌>>=◌, unless}
+use Rattle.fault_messages.specs.OfHeads.{box_fault}
+use Rattle.file_headers.specs.Faults.{HeadFaults}
+use Rattle.file_headers.specs.Fields.{field_bytes, listed_at, number_at}
+use Rattle.file_headers.specs.Heads.{stated_version, unsealed}
+use Rattle.file_headers.specs.Known.{head_faults}
+use Rattle.file_headers.specs.Lifted.{lifted_faults}
+use Rattle.file_headers.specs.Steps.{◌>>=◌, unless}
 use Rattle.bin_config.specs.Reading.{read_as}
 use Rattle.bin_config.specs.Version.{version_numbered}
 use Rattle.bin_config.specs.declared.version.Version.{Version}
-use Rattle.file_texts.specs.declared.fault.XmcFault.{XmcFault}
-use Rattle.file_texts.specs.declared.fault.XmcFault.TheVariants as xmc
+use Rattle.fault_messages.specs.declared.fault.XmcFault.{XmcFault}
+use Rattle.fault_messages.specs.declared.fault.XmcFault.TheVariants as xmc
 use Rattle.xef_images.specs.Image.{Image}
 use Rattle.xef_images.specs.Reading.{xef}
-use Rattle.file_texts.specs.declared.fault.XefFault.{XefFault}
-use Rattle.file_texts.specs.declared.fault.XefFault.TheVariants as xef_fault
+use Rattle.fault_messages.specs.declared.fault.XefFault.{XefFault}
+use Rattle.fault_messages.specs.declared.fault.XefFault.TheVariants as xef_fault
 use Rattle.loaded_system.specs.Inside.{first_outside}
 use Rattle.loaded_system.specs.System.{System}
 use Rattle.xm_container.specs.Entries.{Entries}
 use Rattle.xm_container.specs.Numbers.{extra, missing}
 use Rattle.xm_container.specs.declared.image.Image.{Image as Given}
-use Rattle.file_texts.specs.declared.fault.BoxFault.{BoxFault}
-use Rattle.file_texts.specs.declared.fault.BoxFault.TheVariants as fault
+use Rattle.fault_messages.specs.declared.fault.BoxFault.{BoxFault}
+use Rattle.fault_messages.specs.declared.fault.BoxFault.TheVariants as fault
 
 -- how the faults of its head and its digest are made
 abbrev pub box_faults : HeadFaults BoxFault
@@ -46,7 +46,7 @@ config_fault other = fault.Config other
 -- a configuration that was read, with its fault as that of the container
 abbrev pub as_config : Result Conf XmcFault → Result Conf BoxFault
 as_config (Ok conf) = Ok conf
-as_config (Err told_fault) = Err (config_fault told_fault)
+as_config (Err reported_fault) = Err (config_fault reported_fault)
 
 -- the fault of an image as that of its container
 abbrev pub image_fault : ℕ → XefFault → BoxFault
@@ -56,7 +56,7 @@ image_fault id other = fault.Image id other
 -- an image that was read, with its fault as that of the container
 abbrev pub as_image : ℕ → Result Image XefFault → Result Image BoxFault
 as_image id (Ok image) = Ok image
-as_image id (Err told_fault) = Err (image_fault id told_fault)
+as_image id (Err reported_fault) = Err (image_fault id reported_fault)
 
 -- the length of the configuration, after the 10 bytes of name, version and length. A file so short that its head and its digest overlap never has the digest of its other bytes, so what is said here of fewer than 10 bytes is reported for no file
 unfoldable pub length_at : Place → Result (ℕ × Place) BoxFault
@@ -93,7 +93,7 @@ image_entry_at floor place = do
 abbrev pub with_entry : Given → Entries → Entries
 with_entry entry later = record { ids = entry.id ∷ later.ids; images = entry.xef ∷ later.images }
 
--- so many images, each with a number above that of the one before it
+-- this many images, each with a number above that of the one before it
 unfoldable pub image_entries_at : ℕ → ℕ → Place → Result (Entries × Place) BoxFault
 image_entries_at zero floor place = Ok (record { ids = []; images = [] }, place)
 image_entries_at (suc count) floor place = do

@@ -2,7 +2,7 @@
 use Rattle.std.specs.Prelude.{ℕ, ◌+◌, ◌-◌, List, [], ◌∷◌, ◌++◌, length, drop, codes, decimal}
 use Rattle.hex.specs.Hex.{encode_lower}
 use Rattle.md5.specs.Md5.{md5}
-use Rattle.file_texts.specs.Texts.{address_text}
+use Rattle.fault_messages.specs.Texts.{address_text}
 use Rattle.xef_images.specs.Image.{Image}
 use Rattle.xef_images.specs.Spelling.{before_text, xef_text}
 use Rattle.loaded_system.specs.System.{System}

@@ -10,7 +10,7 @@ mod put;
 mod reading;
 mod writing;
 
-pub use file_texts::{BoxFault, PackFault};
+pub use fault_messages::{BoxFault, PackFault};
 pub use image::Image;
 pub use law::{none_goes_on, packed_is_unpacked, unpacked_is_packed, versions_are_alike};
 pub use lines::list_lines;

@@ -4,9 +4,9 @@ ghost use Rattle.std.specs.Prelude.{◌≡◌, ◌++◌, ◌-◌, ◌≤◌, IfO
 ghost use Rattle.xm_container.specs.Reading.{unpacked};
 ghost use Rattle.xm_container.specs.Texts.{box_lines, container_line, file_line, image_line, image_lines, system_line};
 
-use file_texts::{put_address, put_digest, put_number};
+use fault_messages::{put_address, put_digest, put_number};
+use file_headers::stored_digest;
 use loaded_system::System;
-use sealed_files::stored_digest;
 use std::alloc::Global;
 use xef_images::{Xef, build_xef};
 use xm_base::Memory;

@@ -6,8 +6,8 @@ ghost use Rattle.bin_config.specs.declared.version.Version.{Version as AVersion}
 ghost use Rattle.xef_images.specs.Reading.{xef};
 ghost use Rattle.xm_base.specs.Cursor.{left};
 ghost use Rattle.loaded_system.specs.System.{System as Meaning};
-ghost use Rattle.sealed_files.specs.Gives.{Gives, GivesAt, IsRead, IsReadAt};
-ghost use Rattle.sealed_files.specs.Heads.{ReportsDigests, stated_version, unsealed};
+ghost use Rattle.file_headers.specs.Gives.{Gives, GivesAt, IsRead, IsReadAt};
+ghost use Rattle.file_headers.specs.Heads.{ReportsDigests, stated_version, unsealed};
 ghost use Rattle.xm_conf.specs.Limits.{most_parts};
 ghost use Rattle.xm_container.specs.Box.{IsSpelledContainer};
 ghost use Rattle.xm_container.specs.Entries.{AreEntries};
@@ -19,9 +19,9 @@ use crate::image::Image;
 use crate::law::{packed_is_unpacked, unpacked_is_packed};
 use crate::numbers::{extra, missing};
 use bin_config::{Version, XmcFault, read_version};
-use file_texts::BoxFault;
+use fault_messages::BoxFault;
+use file_headers::{stated_version, unsealed};
 use loaded_system::System;
-use sealed_files::{stated_version, unsealed};
 use std::alloc::Global;
 use xef_images::{Xef, XefFault, read_xef};
 use xm_base::Cursor;
@@ -166,7 +166,7 @@ fn entry(alloc: Global, cursor: &mut Cursor<'_>, floor: u16) -> Result<Image, Bo
     Ok(Image { id, xef })
 }
 
-/// So many images, each with a number above that of the one before it.
+/// This many images, each with a number above that of the one before it.
 fn entries(alloc: Global, cursor: &mut Cursor<'_>, count: u8) -> Result<Entries, BoxFault>
     ensures exact { GivesAt Fails (λ entries. entries) result cursor.new (image_entries_at count 0 cursor.old) }
     ensures entries { IfOk result AreEntries }

@@ -14,35 +14,35 @@ use Rattle.machine_model.specs.Facts.{KeepsNumbers}
 use Rattle.machine_model.specs.LocalTick.{bounded, local_tick, worked}
 use Rattle.machine_model.specs.Machine.{Machine, SlotTurn, act_of, after, clock_after, copies, happened, happened_by, local, local_in, local_of, next_clock, next_plan_clock, run, sight_of_state, start, step, taken_by, turn_of}
 use Rattle.machine_model.specs.Partition.{PartitionState, takes_turns}
-use Rattle.machine_model.specs.Told as told
-use Rattle.machine_model.specs.Told.{Act, Asked, Directed, Maintenance, NoEvent, WholeEvent, reach_of}
+use Rattle.machine_model.specs.Emission as emission
+use Rattle.machine_model.specs.Emission.{Act, Asked, Directed, Maintenance, NoEvent, WholeEvent, reach_of}
 use Rattle.machine_model.specs.View.{PartitionView, System, no_part, part_of, view_of}
 use Rattle.xm_flows.proofs.ActLemmas.{does_reach}
 use Rattle.xm_flows.specs.Groups.{Members}
 use Rattle.xm_flows.specs.Laws.{NoneSteers}
 use Rattle.xm_flows.specs.Rights.{ActsByRight, IsByRight, IsUnsteered, MaySteer, reaches_all}
-use Rattle.xm_flows.specs.Steering.{Steering, no_steering, plan_told, steering, steering_in, steering_unless, to_member}
+use Rattle.xm_flows.specs.Steering.{Steering, no_steering, steered_plan, steering, steering_in, steering_unless, to_member}
 
 -- an act that reaches others by channels alone
 abbrev IsCalm : Act → Type 0
-IsCalm told.Nothing = Unit {0}
-IsCalm (told.Trades traffic) = Unit {0}
-IsCalm (told.Upon id order) = ⊥
-IsCalm (told.Plans change) = ⊥
-IsCalm (told.UponAll event) = ⊥
+IsCalm emission.Nothing = Unit {0}
+IsCalm (emission.Trades traffic) = Unit {0}
+IsCalm (emission.Upon id order) = ⊥
+IsCalm (emission.Plans change) = ⊥
+IsCalm (emission.UponAll event) = ⊥
 
 calm_bounded : (view : PartitionView) → (MaySteer view → ⊥) → (act : Act) → IsByRight view act → IsCalm (bounded view act)
-calm_bounded view never told.Nothing right = tt
-calm_bounded view never (told.Trades traffic) right = grind (arith)
-calm_bounded view never (told.Upon id order) right = by (id == view.id) refl
+calm_bounded view never emission.Nothing right = tt
+calm_bounded view never (emission.Trades traffic) right = grind (arith)
+calm_bounded view never (emission.Upon id order) right = by (id == view.id) refl
   where
-    by : (b : Bool) → (id == view.id) ≡ b → IsCalm (if b then told.Nothing else told.Upon id order)
+    by : (b : Bool) → (id == view.id) ≡ b → IsCalm (if b then emission.Nothing else emission.Upon id order)
     by true its = tt
     by false other = absurd (never (inl right.1))
-calm_bounded view never (told.Plans (Asked plan)) right = absurd (never (inl right.1))
-calm_bounded view never (told.Plans Maintenance) right = absurd (never (inr (record { event = right.event; reaches = ap reaches_all right.is })))
-calm_bounded view never (told.UponAll event) (inl system) = absurd (never (inl system))
-calm_bounded view never (told.UponAll event) (inr table) =
+calm_bounded view never (emission.Plans (Asked plan)) right = absurd (never (inl right.1))
+calm_bounded view never (emission.Plans Maintenance) right = absurd (never (inr (record { event = right.event; reaches = ap reaches_all right.is })))
+calm_bounded view never (emission.UponAll event) (inl system) = absurd (never (inl system))
+calm_bounded view never (emission.UponAll event) (inr table) =
     absurd (never (inr (record { event = table.event; reaches = does_reach (action_in view.part.hm table.event) table.enabled event table.is })))
 
 -- no partition may steer
@@ -94,25 +94,25 @@ unfolding local
 act_calm rights g plain = turn_calm rights g plain (turn_of g)
 
 calm_reach : (act : Act) → IsCalm act → (reach_of act).plan ≡ None
-calm_reach told.Nothing calm = refl
-calm_reach (told.Trades traffic) calm = refl
-calm_reach (told.Upon id order) calm = absurd calm
-calm_reach (told.Plans change) calm = absurd calm
-calm_reach (told.UponAll event) calm = absurd calm
+calm_reach emission.Nothing calm = refl
+calm_reach (emission.Trades traffic) calm = refl
+calm_reach (emission.Upon id order) calm = absurd calm
+calm_reach (emission.Plans change) calm = absurd calm
+calm_reach (emission.UponAll event) calm = absurd calm
 
 calm_event : (act : Act) → IsCalm act → (reach_of act).event ≡ NoEvent
-calm_event told.Nothing calm = refl
-calm_event (told.Trades traffic) calm = refl
-calm_event (told.Upon id order) calm = absurd calm
-calm_event (told.Plans change) calm = absurd calm
-calm_event (told.UponAll event) calm = absurd calm
+calm_event emission.Nothing calm = refl
+calm_event (emission.Trades traffic) calm = refl
+calm_event (emission.Upon id order) calm = absurd calm
+calm_event (emission.Plans change) calm = absurd calm
+calm_event (emission.UponAll event) calm = absurd calm
 
 calm_order : (act : Act) → IsCalm act → (reach_of act).directed ≡ None
-calm_order told.Nothing calm = refl
-calm_order (told.Trades traffic) calm = refl
-calm_order (told.Upon id order) calm = absurd calm
-calm_order (told.Plans change) calm = absurd calm
-calm_order (told.UponAll event) calm = absurd calm
+calm_order emission.Nothing calm = refl
+calm_order (emission.Trades traffic) calm = refl
+calm_order (emission.Upon id order) calm = absurd calm
+calm_order (emission.Plans change) calm = absurd calm
+calm_order (emission.UponAll event) calm = absurd calm
 
 -- the clock goes on in the same plan where none is asked for
 record GoesOn (clock next : CyclicClock) : Type 0 where
@@ -147,7 +147,7 @@ abbrev steering_of : Option ℕ → WholeEvent → Option Directed → Steering
 steering_of plan event order = record { plan = plan; event = event; order = order }
 
 in_parts : (members : Members) (g : Machine) → steering_in members g (happened g)
-    ≡ steering_of (plan_told (reach_of (act_of (local g))).plan g.clock.plan (next_clock g (happened g)).plan) (reach_of (act_of (local g))).event (to_member members (reach_of (act_of (local g))).directed)
+    ≡ steering_of (steered_plan (reach_of (act_of (local g))).plan g.clock.plan (next_clock g (happened g)).plan) (reach_of (act_of (local g))).event (to_member members (reach_of (act_of (local g))).directed)
 unfolding happened happened_by steering_in
 in_parts members g = refl
 
@@ -156,7 +156,7 @@ unfolding no_steering
 nothing_steered rights members g plain none =
     let calm = act_calm rights g plain in
     in_parts members g
-    ∙ ap (λ change. steering_of (plan_told change g.clock.plan (next_clock g (happened g)).plan) (reach_of (act_of (local g))).event (to_member members (reach_of (act_of (local g))).directed))
+    ∙ ap (λ change. steering_of (steered_plan change g.clock.plan (next_clock g (happened g)).plan) (reach_of (act_of (local g))).event (to_member members (reach_of (act_of (local g))).directed))
     (calm_reach (act_of (local g)) calm)
     ∙ ap (λ plan. steering_of (other_plan g.clock.plan plan) (reach_of (act_of (local g))).event (to_member members (reach_of (act_of (local g))).directed)) (next_on rights g plain none).plan
     ∙ ap (λ plan. steering_of plan (reach_of (act_of (local g))).event (to_member members (reach_of (act_of (local g))).directed)) (same_again g.clock.plan)

@@ -17,9 +17,9 @@ use Rattle.xm_conf.specs.declared.port.Port.{Port}
 use Rattle.xm_conf.specs.declared.port.Way.TheVariants as way
 use Rattle.machine_model.specs.EndLemmas.{end_is, view_channel, view_port}
 use Rattle.machine_model.specs.NameLemmas.{name_is, named_is}
-use Rattle.machine_model.specs.Told as told
-use Rattle.machine_model.specs.Told.{Act, OwnPuts, OwnSignals, OwnStill, OwnTakes}
-use Rattle.machine_model.specs.Traffic.{heard_as, own_puts_at, own_takes_at, puts_at, takes_at, told_as, traffic_of}
+use Rattle.machine_model.specs.Emission as emission
+use Rattle.machine_model.specs.Emission.{Act, OwnPuts, OwnSignals, OwnStill, OwnTakes}
+use Rattle.machine_model.specs.Traffic.{heard_as, own_puts_at, own_takes_at, puts_at, takes_at, traffic_as, traffic_of}
 use Rattle.machine_model.specs.View.{PortChannel, System, name_of, named, no_part, part_of, port_channel, view_of, with_its_name, with_name}
 use Rattle.xm_flows.specs.Groups.{HasItsPeers, KeepsLink, KeepsRule, KeepsIn, Members, has_dest_in, has_end_in, is_in}
 use Rattle.machine_model.specs.OwnActs.{HasPortOn}
@@ -171,14 +171,14 @@ takes_unheard conf p None none = refl
 takes_unheard conf p (Some c) none = ap own_takes_at (none c refl)
 
 pub unheard : (system : System) (members : Members) → Fits (described system.conf) → HasItsPeers system.conf members → (p q : ℕ) → members p ≡ true → members q ≡ false
-    → (act : Act) → IsByRight (view_of system q) act → heard_as system.conf p (told_as system.conf q (traffic_of act)) ≡ OwnStill
-unheard system members fits peers p q member stranger told.Nothing right = refl
-unheard system members fits peers p q member stranger (told.Trades OwnStill) right = refl
-unheard system members fits peers p q member stranger (told.Trades (OwnPuts name bytes)) right =
+    → (act : Act) → IsByRight (view_of system q) act → heard_as system.conf p (traffic_as system.conf q (traffic_of act)) ≡ OwnStill
+unheard system members fits peers p q member stranger emission.Nothing right = refl
+unheard system members fits peers p q member stranger (emission.Trades OwnStill) right = refl
+unheard system members fits peers p q member stranger (emission.Trades (OwnPuts name bytes)) right =
     puts_unheard system.conf p bytes (named system.conf q name) (λ c is. put_unnamed system members fits peers p q name c member stranger right is)
-unheard system members fits peers p q member stranger (told.Trades (OwnTakes name)) right =
+unheard system members fits peers p q member stranger (emission.Trades (OwnTakes name)) right =
     takes_unheard system.conf p (named system.conf q name) (λ c is. take_unnamed system members fits peers p q name c member stranger right is)
-unheard system members fits peers p q member stranger (told.Trades (OwnSignals number)) right =
+unheard system members fits peers p q member stranger (emission.Trades (OwnSignals number)) right =
     no_signal system.conf p q number (λ is.
     let its = its_source system.conf p q number is in
     let source : members its.link.source ≡ true =
@@ -187,9 +187,9 @@ unheard system members fits peers p q member stranger (told.Trades (OwnSignals n
     let holds : members q ≡ true = ap members (sym its.source_is) ∙ source in
     let fails : true ≡ false = sym holds ∙ stranger in
     cc)
-unheard system members fits peers p q member stranger (told.Upon id order) right = refl
-unheard system members fits peers p q member stranger (told.Plans change) right = refl
-unheard system members fits peers p q member stranger (told.UponAll event) right = refl
+unheard system members fits peers p q member stranger (emission.Upon id order) right = refl
+unheard system members fits peers p q member stranger (emission.Plans change) right = refl
+unheard system members fits peers p q member stranger (emission.UponAll event) right = refl
 
 -- the source of a channel is a port that its partition has
 port_within : (parts : List Part) (p r : ℕ) → IsSome (port_of r (slice_get parts p)) → r < length (slice_index_or parts p no_part).ports

@@ -13,7 +13,7 @@ use Rattle.xm_conf.specs.View.{is_link_of, link_of}
 use Rattle.xm_conf.specs.declared.link.Link.{Link}
 use Rattle.machine_model.specs.NameLemmas.{number_is}
 use Rattle.machine_model.specs.Lists.{is_number}
-use Rattle.machine_model.specs.Told.{OwnSignals, OwnStill}
+use Rattle.machine_model.specs.Emission.{OwnSignals, OwnStill}
 use Rattle.machine_model.specs.Traffic.{Signals, heard_as, own_signals_at}
 use Rattle.machine_model.specs.View.{linked, unless_itself}
 use Rattle.xm_flows.specs.Alike.{HasLinksOf}

@@ -10,8 +10,8 @@ use Rattle.xm_conf.specs.View.{channel_of, has_end, is_port}
 use Rattle.xm_conf.specs.declared.channel.End.{End}
 use Rattle.machine_model.specs.EndLemmas.{end_is}
 use Rattle.machine_model.specs.Lists.{is_number, then_some}
-use Rattle.machine_model.specs.Told.{OwnPuts, OwnSignals, OwnStill, OwnTakes, OwnTraffic}
-use Rattle.machine_model.specs.Traffic.{heard_as, own_puts_at, own_takes_at, puts_at, takes_at, told_as}
+use Rattle.machine_model.specs.Emission.{OwnPuts, OwnSignals, OwnStill, OwnTakes, OwnTraffic}
+use Rattle.machine_model.specs.Traffic.{heard_as, own_puts_at, own_takes_at, puts_at, takes_at, traffic_as}
 use Rattle.machine_model.specs.View.{if_named, name_from, name_of, named, part_of}
 use Rattle.xm_flows.specs.Alike.{HasChannelsOf, HasLinksOf, chan_among}
 use Rattle.xm_flows.specs.Groups.{Members, has_dest_in, has_end_in, is_in}
@@ -179,7 +179,7 @@ takes_alike members one other same p member (Some c) None paired = absurd paired
 takes_alike members one other same p member (Some c) (Some d) paired = ap own_takes_at (same_name members one other same c d paired p member)
 
 pub heard_alike : (members : Members) (one other : Conf) → HaveSameChannels members one other → (p q : ℕ) → members p ≡ true → members q ≡ true → (traffic : OwnTraffic)
-    → heard_as one p (told_as one q traffic) ≡ heard_as other p (told_as other q traffic)
+    → heard_as one p (traffic_as one q traffic) ≡ heard_as other p (traffic_as other q traffic)
 heard_alike members one other same p q member member_too OwnStill = refl
 heard_alike members one other same p q member member_too (OwnPuts name bytes) =
     puts_alike members one other same p member bytes (named one q name) (named other q name) (named_pair members one other same q name member_too)

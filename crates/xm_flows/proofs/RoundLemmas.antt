@@ -141,7 +141,7 @@ rises parts chans joins mask low other =
     in
     grind (arith, nat_tests)
 
--- so the rounds come to an end
+-- so the rounds end
 rounds_end : (count parts : ℕ) (chans : List Chan) (joins : List Link) (mask : ℕ) → AreAllLow chans joins → KeepsBelow parts chans joins → IsBelow parts mask → parts ≤ count_in (members_of mask) parts + count
     → widened_all chans joins (after_rounds count chans joins mask) ≡ after_rounds count chans joins mask
 rounds_end zero parts chans joins mask low keeps below left = by (count_in (members_of mask) parts == count_in (members_of (widened_all chans joins mask)) parts) refl

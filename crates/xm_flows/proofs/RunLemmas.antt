@@ -13,9 +13,9 @@ use Rattle.xm_flows.specs.Laws.{AreClosedAlike, ClosedRunsAlike, NoneSteers, Uns
 use Rattle.xm_flows.specs.Rights.{ActsByRight}
 use Rattle.xm_flows.specs.Steering.{steering}
 use Rattle.xm_flows.proofs.AgreeLemmas.{agree_of}
-use Rattle.xm_flows.proofs.TickLemmas.{GoTogether, ToldTheSame, part_alike, same_part, steered, together_after, told_alike}
+use Rattle.xm_flows.proofs.TickLemmas.{GoTogether, ReceivesTheSame, part_alike, same_part, steered, together_after, received_alike}
 
--- two machines after so many ticks, and what the members were told in them
+-- two machines after this many ticks, and what the members received in them
 record RunTogether (members : Members) (g h : Machine) (count : ℕ) : Type 0 where
   ends : GoTogether members (run g count) (run h count)
   scripts : (p : ℕ) → members p ≡ true → script g p count ≡ script h p count
@@ -41,11 +41,11 @@ more_script : (g : Machine) (p count : ℕ) → g.halted ≡ false → script g 
 more_script g p count runs = ap (λ b. script_unless b (cue g p) (script (step g) p count)) runs
 
 -- a tick more at the beginning
-more : (members : Members) (g h : Machine) (count : ℕ) → g.halted ≡ false → h.halted ≡ false → ToldTheSame members g h → RunTogether members (step g) (step h) count → RunTogether members g h (suc count)
-more members g h count runs runs_too told_so rest = record {
+more : (members : Members) (g h : Machine) (count : ℕ) → g.halted ≡ false → h.halted ≡ false → ReceivesTheSame members g h → RunTogether members (step g) (step h) count → RunTogether members g h (suc count)
+more members g h count runs runs_too received_so rest = record {
   ends = rest.ends;
   scripts = λ p member.
-      more_script g p count runs ∙ ap (λ c. c ∷ script (step g) p count) (told_so.cues p member) ∙ ap (λ others. cue h p ∷ others) (rest.scripts p member)
+      more_script g p count runs ∙ ap (λ c. c ∷ script (step g) p count) (received_so.cues p member) ∙ ap (λ others. cue h p ∷ others) (rest.scripts p member)
       ∙ sym (more_script h p count runs_too);
 }
 
@@ -65,7 +65,7 @@ run_together given members (suc count) g h alike go steers =
     by false runs further =
         let runs_too : h.halted ≡ false = sym go.halted ∙ runs in
         let steered_so = steered members g h runs runs_too (steers 0 (omega arith)) in
-        more members g h count runs runs_too (told_alike given.rights given.sees members g h alike go steered_so)
+        more members g h count runs runs_too (received_alike given.rights given.sees members g h alike go steered_so)
         (further (together_after given.tick given.rights given.sees members g h alike go runs runs_too steered_so))
 
 -- the machines as they boot

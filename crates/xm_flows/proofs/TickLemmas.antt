@@ -1,4 +1,4 @@
--- One tick of two machines that go together for a closed set of partitions: its members are told the same, and the machines still go together.
+-- One tick of two machines that go together for a closed set of partitions: its members receive the same, and the machines still go together.
 use Rattle.std.proofs.Common.{◌≡◌, ℕ, ◌+◌, Bool, true, false, List, length, Option, None, Some, refl, sym, ap, ◌∙◌, arith, subst}
 use Rattle.std.specs.Prelude.{slice_get, ◌==◌, ◌-◌, if◌then◌else◌, is_some}
 use Rattle.std.proofs.lemmas.Bool.{eqb-true}
@@ -18,14 +18,14 @@ use Rattle.machine_model.specs.Laws.{OneTick, SeesNothing, part, alone_part_at}
 use Rattle.machine_model.specs.LocalTick.{LocalTick, local_tick, worked}
 use Rattle.machine_model.specs.Machine.{Machine, SlotTurn, act_of, after, clock_after, copies, happened, happened_by, if_its_turn, is_halt, is_turn_of, local, local_in, local_of, next_clock, order_for, order_upon, sight, sight_in, sight_of_state, step, system_traffic, taken_by, tick_of, turn_of}
 use Rattle.machine_model.specs.Partition.{PartitionState, takes_turns}
-use Rattle.machine_model.specs.Told.{Directed, OwnStill, OwnTraffic, Sight, Unseen, WholeEvent, reach_of}
+use Rattle.machine_model.specs.Emission.{Directed, OwnStill, OwnTraffic, Sight, Unseen, WholeEvent, reach_of}
 use Rattle.machine_model.specs.Traffic.{heard_as, traffic_of}
 use Rattle.machine_model.specs.View.{System, part_of, view_of}
 use Rattle.machine_model.specs.Whole.{event_of, ticks_after, time_after}
 use Rattle.xm_flows.specs.Groups.{HasItsPeers, Members}
 use Rattle.xm_flows.specs.Laws.{AreClosedAlike}
 use Rattle.xm_flows.specs.Rights.{ActsByRight, IsByRight}
-use Rattle.xm_flows.specs.Steering.{plan_told, steering, steering_in, steering_unless, to_member}
+use Rattle.xm_flows.specs.Steering.{steered_plan, steering, steering_in, steering_unless, to_member}
 use Rattle.xm_flows.proofs.ActLemmas.{bounded_right}
 use Rattle.xm_flows.proofs.ClockLemmas.{RunTheSame, clocks_alike}
 use Rattle.xm_flows.proofs.HeardLemmas.{unheard}
@@ -139,12 +139,12 @@ same_cue : (mine mine' : CueSlot) (traffic traffic' : OwnTraffic) (order order' 
     → mine ≡ mine' → traffic ≡ traffic' → order ≡ order' → whole ≡ whole' → seen ≡ seen' → cue_of mine traffic order whole seen ≡ cue_of mine' traffic' order' whole' seen'
 same_cue mine mine' traffic traffic' order order' whole whole' seen seen' a b c d e = rw (a, b, c, d, e) refl
 
--- the traffic of others that a partition is told, by the turn and the local tick
-abbrev traffic_told : Conf → ℕ → Option SlotTurn → Option LocalTick → OwnTraffic
-traffic_told conf p o tick = unless_own (is_some (if_its_turn (is_turn_of o p) tick)) (heard_as conf p (system_traffic conf o (traffic_of (act_of tick))))
+-- the traffic of others that a partition receives, by the turn and the local tick
+abbrev traffic_cued : Conf → ℕ → Option SlotTurn → Option LocalTick → OwnTraffic
+traffic_cued conf p o tick = unless_own (is_some (if_its_turn (is_turn_of o p) tick)) (heard_as conf p (system_traffic conf o (traffic_of (act_of tick))))
 
 -- a cue, by the turn, the local tick and what is shown
-cue_is : (g : Machine) (p : ℕ) → cue g p ≡ cue_of (slot_of (turn_of g) p) (traffic_told g.system.conf p (turn_of g) (local g)) (order_upon (act_of (local g)) p) (event_of (act_of (local g))) (sight g p)
+cue_is : (g : Machine) (p : ℕ) → cue g p ≡ cue_of (slot_of (turn_of g) p) (traffic_cued g.system.conf p (turn_of g) (local g)) (order_upon (act_of (local g)) p) (event_of (act_of (local g))) (sight g p)
 unfolding cue cue_in happened happened_by tick_of
 cue_is g p = refl
 
@@ -165,7 +165,7 @@ order_is members (Some directed) p member = by (members directed.id) refl
 
 -- the steering of a machine that has not halted
 pub record IsSteered (members : Members) (g h : Machine) : Type 0 where
-  pub plan : plan_told (reach_of (act_of (local g))).plan g.clock.plan (next_clock g (happened g)).plan ≡ plan_told (reach_of (act_of (local h))).plan h.clock.plan (next_clock h (happened h)).plan
+  pub plan : steered_plan (reach_of (act_of (local g))).plan g.clock.plan (next_clock g (happened g)).plan ≡ steered_plan (reach_of (act_of (local h))).plan h.clock.plan (next_clock h (happened h)).plan
   pub event : event_of (act_of (local g)) ≡ event_of (act_of (local h))
   pub order : to_member members (reach_of (act_of (local g))).directed ≡ to_member members (reach_of (act_of (local h))).directed
 
@@ -183,7 +183,7 @@ steered members g h runs runs_too same =
 
 -- in the turn of a member, whose work is the same in both
 own_traffic : (members : Members) (g h : Machine) → AreClosedAlike members g.system h.system → (p : ℕ) → members p ≡ true → (turn : SlotTurn) → members turn.part ≡ true → (tick : Option LocalTick)
-    → traffic_told g.system.conf p (Some turn) tick ≡ traffic_told h.system.conf p (Some turn) tick
+    → traffic_cued g.system.conf p (Some turn) tick ≡ traffic_cued h.system.conf p (Some turn) tick
 own_traffic members g h alike p member turn member_too tick =
     ap (unless_own (is_some (if_its_turn (turn.part == p) tick)))
     (heard_alike members g.system.conf h.system.conf (same_channels members g.system h.system alike) p turn.part member member_too (traffic_of (act_of tick)))
@@ -211,23 +211,23 @@ strange_traffic rights members g fits peers p member (Some turn) fails =
     unheard g.system members fits peers p turn.part member (stranger_turn members turn turn fails)
     (act_of (taken_by g turn.part turn.first (slice_get g.parts turn.part))) (taken_right rights g turn.part turn.first (slice_get g.parts turn.part))
 
-nothing_told : ActsByRight → (members : Members) (g : Machine) → Fits (described g.system.conf) → HasItsPeers g.system.conf members → (p : ℕ) → members p ≡ true
-    → member_turn members (turn_of g) ≡ None → traffic_told g.system.conf p (turn_of g) (local g) ≡ OwnStill
+nothing_received : ActsByRight → (members : Members) (g : Machine) → Fits (described g.system.conf) → HasItsPeers g.system.conf members → (p : ℕ) → members p ≡ true
+    → member_turn members (turn_of g) ≡ None → traffic_cued g.system.conf p (turn_of g) (local g) ≡ OwnStill
 unfolding local
-nothing_told rights members g fits peers p member fails =
+nothing_received rights members g fits peers p member fails =
     ap (λ b. unless_own (is_some (if_its_turn b (local_in g (turn_of g)))) (heard_as g.system.conf p (system_traffic g.system.conf (turn_of g) (traffic_of (act_of (local_in g (turn_of g)))))))
     (away members p member (turn_of g) fails)
     ∙ strange_traffic rights members g fits peers p member (turn_of g) fails
 
--- a member is told the same in both
-pub record ToldTheSame (members : Members) (g h : Machine) : Type 0 where
+-- a member receives the same in both
+pub record ReceivesTheSame (members : Members) (g h : Machine) : Type 0 where
   pub cues : (p : ℕ) → members p ≡ true → cue g p ≡ cue h p
 
-told_with : (members : Members) (g h : Machine) → SeesNothing → AreClosedAlike members g.system h.system → IsSteered members g h
+received_with : (members : Members) (g h : Machine) → SeesNothing → AreClosedAlike members g.system h.system → IsSteered members g h
     → ((p : ℕ) → members p ≡ true → slot_of (turn_of g) p ≡ slot_of (turn_of h) p)
-    → ((p : ℕ) → members p ≡ true → traffic_told g.system.conf p (turn_of g) (local g) ≡ traffic_told h.system.conf p (turn_of h) (local h))
-    → ToldTheSame members g h
-told_with members g h sees alike steered_so slots traffic = record {
+    → ((p : ℕ) → members p ≡ true → traffic_cued g.system.conf p (turn_of g) (local g) ≡ traffic_cued h.system.conf p (turn_of h) (local h))
+    → ReceivesTheSame members g h
+received_with members g h sees alike steered_so slots traffic = record {
   cues = λ p member.
       cue_is g p
       ∙ same_cue _ _ _ _ _ _ _ _ _ _ (slots p member) (traffic p member)
@@ -237,29 +237,29 @@ told_with members g h sees alike steered_so slots traffic = record {
       ∙ sym (cue_is h p);
 }
 
-told_by_turn : ActsByRight → SeesNothing → (members : Members) (g h : Machine) → AreClosedAlike members g.system h.system → GoTogether members g h → IsSteered members g h
-    → (o o' : Option SlotTurn) → member_turn members (turn_of g) ≡ o → member_turn members (turn_of h) ≡ o' → o ≡ o' → ToldTheSame members g h
-told_by_turn rights sees members g h alike go steered_so None None fails fails_too same =
-    told_with members g h sees alike steered_so
+received_by_turn : ActsByRight → SeesNothing → (members : Members) (g h : Machine) → AreClosedAlike members g.system h.system → GoTogether members g h → IsSteered members g h
+    → (o o' : Option SlotTurn) → member_turn members (turn_of g) ≡ o → member_turn members (turn_of h) ≡ o' → o ≡ o' → ReceivesTheSame members g h
+received_by_turn rights sees members g h alike go steered_so None None fails fails_too same =
+    received_with members g h sees alike steered_so
     (λ p member. away_slot p (turn_of g) (away members p member (turn_of g) fails) ∙ sym (away_slot p (turn_of h) (away members p member (turn_of h) fails_too)))
-    (λ p member. nothing_told rights members g alike.fits_one alike.closed_one.peers p member fails ∙ sym (nothing_told rights members h alike.fits_other alike.closed_other.peers p member fails_too))
-told_by_turn rights sees members g h alike go steered_so None (Some turn) fails is same = absurd cc
-told_by_turn rights sees members g h alike go steered_so (Some turn) None is fails same = absurd cc
-told_by_turn rights sees members g h alike go steered_so (Some turn) (Some turn') is is' same =
+    (λ p member. nothing_received rights members g alike.fits_one alike.closed_one.peers p member fails ∙ sym (nothing_received rights members h alike.fits_other alike.closed_other.peers p member fails_too))
+received_by_turn rights sees members g h alike go steered_so None (Some turn) fails is same = absurd cc
+received_by_turn rights sees members g h alike go steered_so (Some turn) None is fails same = absurd cc
+received_by_turn rights sees members g h alike go steered_so (Some turn) (Some turn') is is' same =
     let its = turn_is members (turn_of g) turn is in
     let its_too : turn_of h ≡ Some turn = (turn_is members (turn_of h) turn' is').0 ∙ sym same in
     let work = local_alike sees members g h alike go turn its.1 its.0 its_too in
-    told_with members g h sees alike steered_so
+    received_with members g h sees alike steered_so
     (λ p member. ap (λ o. slot_of o p) (its.0 ∙ sym its_too))
     (λ p member.
-    ap (λ o. traffic_told g.system.conf p o (local g)) its.0
+    ap (λ o. traffic_cued g.system.conf p o (local g)) its.0
     ∙ own_traffic members g h alike p member turn its.1 (local g)
-    ∙ ap (traffic_told h.system.conf p (Some turn)) work
-    ∙ ap (λ o. traffic_told h.system.conf p o (local h)) (sym its_too))
+    ∙ ap (traffic_cued h.system.conf p (Some turn)) work
+    ∙ ap (λ o. traffic_cued h.system.conf p o (local h)) (sym its_too))
 
-pub told_alike : ActsByRight → SeesNothing → (members : Members) (g h : Machine) → AreClosedAlike members g.system h.system → GoTogether members g h → IsSteered members g h → ToldTheSame members g h
-told_alike rights sees members g h alike go steered_so =
-    told_by_turn rights sees members g h alike go steered_so (member_turn members (turn_of g)) (member_turn members (turn_of h)) refl refl
+pub received_alike : ActsByRight → SeesNothing → (members : Members) (g h : Machine) → AreClosedAlike members g.system h.system → GoTogether members g h → IsSteered members g h → ReceivesTheSame members g h
+received_alike rights sees members g h alike go steered_so =
+    received_by_turn rights sees members g h alike go steered_so (member_turn members (turn_of g)) (member_turn members (turn_of h)) refl refl
     (same_turn members g h alike.fits_one alike.fits_other alike.same.slots go.time go.clock.plan go.clock.frame_start)
 
 -- The machines after the tick.
@@ -290,15 +290,15 @@ unfolding part
 part_alike members g h go p ps contents =
     ap (λ c. alone_of ps c g.ticks g.time) contents ∙ ap (λ n. alone_of ps (copies h p) n g.time) go.ticks ∙ ap (alone_of ps (copies h p) h.ticks) go.time
 
-part_after_tick : OneTick → (members : Members) (g h : Machine) → AreClosedAlike members g.system h.system → GoTogether members g h → ToldTheSame members g h → g.halted ≡ false → h.halted ≡ false
+part_after_tick : OneTick → (members : Members) (g h : Machine) → AreClosedAlike members g.system h.system → GoTogether members g h → ReceivesTheSame members g h → g.halted ≡ false → h.halted ≡ false
     → (p : ℕ) → members p ≡ true → HasSamePart (step g) (step h) p
-part_after_tick tick members g h alike go told_so runs runs_too p member =
+part_after_tick tick members g h alike go received_so runs runs_too p member =
     let same = go.parts p member in
     same_part (step g) (step h) p (alone_step (view_of h.system p) (part h p same.state) (cue h p))
     ((tick g p same.state runs same.there).state
     ∙ ap (λ v. Some (alone_step v (part g p same.state) (cue g p))) (alike.same.views p member)
     ∙ ap (λ a. Some (alone_step (view_of h.system p) a (cue g p))) (part_alike members g h go p same.state same.copies)
-    ∙ ap (λ c. Some (alone_step (view_of h.system p) (part h p same.state) c)) (told_so.cues p member))
+    ∙ ap (λ c. Some (alone_step (view_of h.system p) (part h p same.state) c)) (received_so.cues p member))
     (tick h p same.state runs_too same.there_too).state
 
 -- the counts and the clock
@@ -336,10 +336,10 @@ clock_alike members g h alike go steered_so =
     let moved : RunTheSame (clock_after event g.system.conf (act_of (local g)) g.clock g.time) (clock_after event h.system.conf (act_of (local h)) h.clock g.time) =
     clocks_alike event (act_of (local g)) (act_of (local h)) g.system.conf h.system.conf g.clock h.clock g.time go.clock
     (ends_alike members g h alike go ∙ ap (ends_frame h.system.conf h.clock) (sym go.time))
-    (sym (ap (λ (c : CyclicClock). plan_told (reach_of (act_of (local g))).plan g.clock.plan c.plan) (next_is g)) ∙ steered_so.plan
-    ∙ ap (λ (c : CyclicClock). plan_told (reach_of (act_of (local h))).plan h.clock.plan c.plan) (next_is h)
-    ∙ ap (λ e. plan_told (reach_of (act_of (local h))).plan h.clock.plan (clock_after e h.system.conf (act_of (local h)) h.clock h.time).plan) (sym steered_so.event)
-    ∙ ap (λ t. plan_told (reach_of (act_of (local h))).plan h.clock.plan (clock_after event h.system.conf (act_of (local h)) h.clock t).plan) (sym go.time))
+    (sym (ap (λ (c : CyclicClock). steered_plan (reach_of (act_of (local g))).plan g.clock.plan c.plan) (next_is g)) ∙ steered_so.plan
+    ∙ ap (λ (c : CyclicClock). steered_plan (reach_of (act_of (local h))).plan h.clock.plan c.plan) (next_is h)
+    ∙ ap (λ e. steered_plan (reach_of (act_of (local h))).plan h.clock.plan (clock_after e h.system.conf (act_of (local h)) h.clock h.time).plan) (sym steered_so.event)
+    ∙ ap (λ t. steered_plan (reach_of (act_of (local h))).plan h.clock.plan (clock_after event h.system.conf (act_of (local h)) h.clock t).plan) (sym go.time))
     in
     subst (λ (t : ℕ). RunTheSame (clock_after event g.system.conf (act_of (local g)) g.clock g.time) (clock_after (event_of (act_of (local h))) h.system.conf (act_of (local h)) h.clock t)) go.time
     (subst (λ (e : WholeEvent). RunTheSame (clock_after event g.system.conf (act_of (local g)) g.clock g.time) (clock_after e h.system.conf (act_of (local h)) h.clock g.time)) steered_so.event moved)
@@ -351,7 +351,7 @@ together_after tick rights sees members g h alike go runs runs_too steered_so =
     let one = step_runs g runs in
     let other = step_runs h runs_too in
     record {
-      parts = part_after_tick tick members g h alike go (told_alike rights sees members g h alike go steered_so) runs runs_too;
+      parts = part_after_tick tick members g h alike go (received_alike rights sees members g h alike go steered_so) runs runs_too;
       ticks = ap (λ (m : Machine). m.ticks) one ∙ ticks_are g ∙ ap (λ e. ticks_after e g.ticks) steered_so.event ∙ ap (ticks_after (event_of (act_of (local h)))) go.ticks
           ∙ sym (ap (λ (m : Machine). m.ticks) other ∙ ticks_are h);
       time = ap (λ (m : Machine). m.time) one ∙ time_is g ∙ ap (λ e. time_after e g.time) steered_so.event ∙ ap (time_after (event_of (act_of (local h)))) go.time

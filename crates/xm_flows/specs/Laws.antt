@@ -30,7 +30,7 @@ pub record Agree (members : Members) (one other : Machine) : Type 0 where
   pub frame_start : one.clock.frame_start ≡ other.clock.frame_start
   pub halted : one.halted ≡ other.halted
 
--- each tick of so many steers a set of partitions alike in two runs
+-- each tick of this many steers a set of partitions alike in two runs
 abbrev pub AreSteeredAlike : Members → System → System → ℕ → Type 0
 AreSteeredAlike members one other count = (k : ℕ) → k < count → steering members (run (start one) k) ≡ steering members (run (start other) k)
 
@@ -44,7 +44,7 @@ pub record AreClosedAlike (members : Members) (one other : System) : Type 0 wher
   pub closed_other : IsClosed other.conf members
   pub same : AreSameFor members one other
 
--- after so many ticks two runs agree on a set of partitions, and each member has printed the same lines and written the same console bytes
+-- after this many ticks two runs agree on a set of partitions, and each member has printed the same lines and written the same console bytes
 pub record RunAlike (members : Members) (one other : System) (count : ℕ) : Type 0 where
   pub agree : Agree members (run (start one) count) (run (start other) count)
   pub lines : (p : ℕ) → members p ≡ true → own p (lines (start one) count) ≡ own p (lines (start other) count)

@@ -47,7 +47,7 @@ widened_by_links (link ∷ joins) mask = widened_by_links joins (widened_by_link
 abbrev pub widened_all : List Chan → List Link → ℕ → ℕ
 widened_all chans joins mask = widened_by_links joins (widened chans mask)
 
--- what so many rounds leave
+-- what this many rounds leave
 abbrev pub after_rounds : ℕ → List Chan → List Link → ℕ → ℕ
 after_rounds zero chans joins mask = mask
 after_rounds (suc count) chans joins mask = after_rounds count chans joins (widened_all chans joins mask)

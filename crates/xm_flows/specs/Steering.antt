@@ -2,7 +2,7 @@
 use Rattle.std.specs.Prelude.{ℕ, Bool, true, false, if◌then◌else◌, Option, Some, None}
 use Rattle.cyclic_plans.specs.PlanClock.{other_plan}
 use Rattle.machine_model.specs.Machine.{Happened, Machine, happened, next_clock}
-use Rattle.machine_model.specs.Told.{Asked, Directed, Maintenance, NoEvent, PlanChange, WholeEvent, reach_of}
+use Rattle.machine_model.specs.Emission.{Asked, Directed, Maintenance, NoEvent, PlanChange, WholeEvent, reach_of}
 use Rattle.xm_flows.specs.Groups.{Members}
 
 -- the steering of a tick: the plan of the next tick, where an action started the maintenance plan or where it is another than before; the hypervisor
@@ -16,11 +16,11 @@ pub record Steering : Type 0 where
 unfoldable pub no_steering : Steering
 no_steering = record { plan = None; event = NoEvent; order = None }
 
--- the plan of the next tick, where it is told
-abbrev pub plan_told : Option PlanChange → ℕ → ℕ → Option ℕ
-plan_told None old new = other_plan old new
-plan_told (Some (Asked plan)) old new = other_plan old new
-plan_told (Some Maintenance) old new = Some new
+-- the plan of the next tick, where steering has it
+abbrev pub steered_plan : Option PlanChange → ℕ → ℕ → Option ℕ
+steered_plan None old new = other_plan old new
+steered_plan (Some (Asked plan)) old new = other_plan old new
+steered_plan (Some Maintenance) old new = Some new
 
 -- an order, where it is to a member
 abbrev pub to_member : Members → Option Directed → Option Directed
@@ -30,7 +30,7 @@ to_member members (Some directed) = if members directed.id then Some directed el
 -- the steering of a tick in which this happened
 unfoldable pub steering_in : Members → Machine → Happened → Steering
 steering_in members g h = record {
-  plan = plan_told (reach_of h.act).plan g.clock.plan (next_clock g h).plan;
+  plan = steered_plan (reach_of h.act).plan g.clock.plan (next_clock g h).plan;
   event = h.event;
   order = to_member members (reach_of h.act).directed;
 }

@@ -24,14 +24,14 @@ ticks_alone law count old new is p ps there =
       said = alone.said;
     }
 
--- one tick, where so many ticks at most were done
+-- one tick, where this many ticks at most were done
 one_alone : AllTicks → (done : ℕ) (old new : Machine) → 0 < done → done ≤ 1 → new ≡ run old done → AreAlone 1 old new
 one_alone law done old new some within is =
     let one : done ≡ 1 = omega (arith, some, within) in
     ticks_alone law 1 old new (is ∙ ap (run old) one)
 
-pub tick_alone : AllTicks → (told : ℕ) (old new : Machine) (had got : Option (List ℕ)) → IsStep told 1 old new had got → AreAlone 1 old new
-tick_alone law told old new had got step = one_alone law step.done old new step.some step.within step.are.state
+pub tick_alone : AllTicks → (printed : ℕ) (old new : Machine) (had got : Option (List ℕ)) → IsStep printed 1 old new had got → AreAlone 1 old new
+tick_alone law printed old new had got step = one_alone law step.done old new step.some step.within step.are.state
 
 pub cut_tick_alone : AllTicks → (old new : Machine) (had got : Option (List ℕ)) → IsStepCut 1 old new had got → AreAlone 1 old new
 cut_tick_alone law old new had got step = one_alone law step.done old new step.some step.within step.are.state

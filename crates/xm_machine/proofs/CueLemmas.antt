@@ -1,4 +1,4 @@
--- What is kept of a tick tells each partition its cue.
+-- What is kept of a tick gives each partition its cue.
 use Rattle.std.proofs.Common.{◌≡◌, ℕ, Bool, true, false, Option, None, Some, refl, sym, ap, ◌∙◌}
 use Rattle.std.specs.Prelude.{◌==◌, ◌&&◌, if◌then◌else◌, is_some, slice_get}
 use Rattle.std.proofs.lemmas.Bool.{eqb-true}
@@ -7,9 +7,9 @@ use Rattle.machine_model.specs.Cue.{cue, cue_in, slot_of, unless_own}
 use Rattle.machine_model.specs.LocalTick.{LocalTick}
 use Rattle.machine_model.specs.Machine.{Happened, Machine, SlotTurn, happened, happened_by, if_its_turn, is_turn_of, local, order_upon, sight, sight_in, sight_of_state, tick_of, turn_of}
 use Rattle.machine_model.specs.Partition.{PartitionState}
-use Rattle.machine_model.specs.Told.{Sight, Unseen}
+use Rattle.machine_model.specs.Emission.{Sight, Unseen}
 use Rattle.machine_model.specs.Traffic.{heard_as}
-use Rattle.tick_pieces.specs.Kept.{kept_cue, kept_in, kept_tick, shown_to}
+use Rattle.tick_steps.specs.Kept.{kept_cue, kept_in, kept_tick, shown_to}
 
 -- whether the tick of a partition is there
 is_its_tick : (b : Bool) (tick : Option LocalTick) → (b && is_some tick) ≡ is_some (if_its_turn b tick)

@@ -1,4 +1,4 @@
--- What is kept after ticks tells each partition the last cue of its script of them.
+-- What is kept after ticks gives each partition the last cue of its script of them.
 use Rattle.std.proofs.Common.{◌≡◌, ℕ, zero, suc, ◌+◌, ◌-◌, ◌≤◌, Bool, true, false, List, Option, Result, Ok, Err, refl, sym, ap, ◌∙◌, arith}
 use Rattle.std.proofs.Math.Nat.{suc-add, zero-add}
 use Rattle.xm_conf.specs.Configuration.{Conf}
@@ -8,17 +8,17 @@ use Rattle.machine_model.specs.Cue.{Cue, cue, script, script_unless}
 use Rattle.machine_model.specs.Facts.{KeepsNumbers, RunsKeepNumbers}
 use Rattle.machine_model.specs.Machine.{Machine, run, step}
 use Rattle.machine_model.specs.View.{System}
-use Rattle.whole_system.specs.State.{SysState}
-use Rattle.xm_machine.specs.Cues.{AreCued, AreCuedUpTo, KeepsLastTick, KeepsUpTo, last_or, told_to}
-use Rattle.tick_pieces.specs.Kept.{KeptTick, kept_after, kept_cue, kept_tick, kept_unless}
+use Rattle.system_state.specs.State.{SysState}
+use Rattle.xm_machine.specs.Cues.{AreCued, AreCuedUpTo, KeepsLastTick, KeepsUpTo, last_or, last_received}
+use Rattle.tick_steps.specs.Kept.{KeptTick, kept_after, kept_cue, kept_tick, kept_unless}
 use Rattle.xm_machine.specs.Machine.{Meaning}
-use Rattle.system_ticks.specs.Spans.{IsSpanDone}
+use Rattle.span_engine.specs.Spans.{IsSpanDone}
 use Rattle.xm_machine.specs.Stretch.{AreStepped, KeepsStepped, stepped_by}
-use Rattle.tick_pieces.specs.declared.span.Span.{Span}
+use Rattle.tick_steps.specs.declared.span.Span.{Span}
 use Rattle.xm_machine.specs.declared.stretch.Stepped.{Stepped}
 use Rattle.xm_machine.proofs.CueLemmas.{kept_cues}
 use Rattle.xm_machine.proofs.GoingLemmas.{state_on}
-use Rattle.tick_pieces.specs.KeptLemmas.{ran_on, run_halted, ticks_exact}
+use Rattle.tick_steps.specs.KeptLemmas.{ran_on, run_halted, ticks_exact}
 
 -- a machine that has halted keeps what was kept before
 kept_halted : (count : ℕ) (g : Machine) (before : KeptTick) → g.halted ≡ true → kept_after g count before ≡ before
@@ -67,8 +67,8 @@ keeps_ticks span most old new got before kept done kept_is =
     kept_is ∙ sym (kept_last (span.ticks - 1) old.machine before done.running) ∙ ap (λ n. kept_after old.machine n before) some
 
 -- and so are those whose lines may have been cut off
-pub keeps_so : (told : Result ℕ WriteFault) (ends : Bool) (span : Span) (most : ℕ) (old new : SysState) (got : List ReportLine) (before kept : KeptTick) → IsSpanDone span most old new got
-    → kept ≡ kept_tick (run old.machine (span.ticks - 1)) → KeepsStepped (stepped_by told span.ticks ends) most (record { state = old.machine; kept = before }) (record { state = new.machine; kept = kept })
+pub keeps_so : (printed : Result ℕ WriteFault) (ends : Bool) (span : Span) (most : ℕ) (old new : SysState) (got : List ReportLine) (before kept : KeptTick) → IsSpanDone span most old new got
+    → kept ≡ kept_tick (run old.machine (span.ticks - 1)) → KeepsStepped (stepped_by printed span.ticks ends) most (record { state = old.machine; kept = before }) (record { state = new.machine; kept = kept })
 keeps_so (Ok lines) ends span most old new got before kept done is = keeps_ticks span most old new got before kept done is
 keeps_so (Err fault) ends span most old new got before kept done is = keeps_span span most old new got before kept done is
 
@@ -100,7 +100,7 @@ pub keeps_counted : (asked : ℕ) (g new : Meaning) → (goes : KeepsUpTo asked 
 keeps_counted asked g new goes runs =
     ap (λ (m : Machine). m.ticks) goes.state ∙ ticks_exact goes.done g.state (sym (ap (λ (m : Machine). m.halted) goes.state) ∙ runs)
 
--- it has come to its end: the hypervisor has halted, or all ticks are done
+-- it has reached its end: the hypervisor has halted, or all ticks are done
 pub keeps_out : (asked : ℕ) (g new : Meaning) → KeepsUpTo asked g new → g.state.ticks ≡ 0 → (new.state.halted ≡ false → asked ≤ new.state.ticks)
     → new.kept ≡ kept_after g.state asked g.kept
 keeps_out asked g new goes fresh ends = at new.state.halted refl
@@ -116,11 +116,11 @@ keeps_out asked g new goes fresh ends = at new.state.halted refl
         let all : goes.done ≡ asked = omega (arith, keeps_counted asked g new goes runs, fresh, ends runs, goes.within) in
         goes.kept ∙ ap (λ n. kept_after g.state n g.kept) all
 
--- what is kept after ticks tells a partition the last cue of its script
-told_last : KeepsNumbers → (count : ℕ) (g : Machine) (before : KeptTick) (conf : Conf) (p : ℕ) → g.system.conf ≡ conf
+-- what is kept after ticks gives a partition the last cue of its script
+received_last : KeepsNumbers → (count : ℕ) (g : Machine) (before : KeptTick) (conf : Conf) (p : ℕ) → g.system.conf ≡ conf
     → kept_cue conf (kept_after g count before) p ≡ last_or (kept_cue conf before p) (script g p count)
-told_last law zero g before conf p same = refl
-told_last law (suc count) g before conf p same = at g.halted (told_last law count (step g) (kept_tick g) conf p (ap (λ (s : System). s.conf) (law g).system ∙ same))
+received_last law zero g before conf p same = refl
+received_last law (suc count) g before conf p same = at g.halted (received_last law count (step g) (kept_tick g) conf p (ap (λ (s : System). s.conf) (law g).system ∙ same))
   where
     at : (b : Bool) → kept_cue conf (kept_after (step g) count (kept_tick g)) p ≡ last_or (kept_cue conf (kept_tick g) p) (script (step g) p count)
         → kept_cue conf (kept_unless b before (kept_after (step g) count (kept_tick g))) p
@@ -133,7 +133,7 @@ pub cued : KeepsNumbers → RunsKeepNumbers → (count : ℕ) (old new : Meaning
 cued ticks runs count old new state kept p =
     ap (λ (k : KeptTick). kept_cue new.state.system.conf k p) kept
     ∙ ap (λ (s : System). kept_cue s.conf (kept_after old.state count old.kept) p) (ap (λ (m : Machine). m.system) state ∙ (runs old.state count).system)
-    ∙ told_last ticks count old.state old.kept old.state.system.conf p refl
+    ∙ received_last ticks count old.state old.kept old.state.system.conf p refl
 
 -- the tick of a machine, and of one that has halted
 pub tick_cued : KeepsNumbers → RunsKeepNumbers → (old new : Meaning) → KeepsLastTick 1 old new → AreCued 1 old new
@@ -142,7 +142,7 @@ tick_cued ticks runs old new last =
     cued ticks runs 1 old new (last.state ∙ ap (run old.state) one) (last.kept ∙ ap (λ n. kept_after old.state n old.kept) one)
 
 pub halted_cued : (g : Meaning) → g.state.halted ≡ true → AreCued 1 g g
-halted_cued g halts p = sym (ap (λ b. last_or (told_to g p) (script_unless b (cue g.state p) (script (step g.state) p 0))) halts)
+halted_cued g halts p = sym (ap (λ b. last_or (last_received g p) (script_unless b (cue g.state p) (script (step g.state) p 0))) halts)
 
 -- a run of which a line did not go out
 pub cut_cued : KeepsNumbers → RunsKeepNumbers → (asked : ℕ) (old new : Meaning) → KeepsUpTo asked old new → AreCuedUpTo asked old new

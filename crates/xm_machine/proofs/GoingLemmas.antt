@@ -10,16 +10,16 @@ use Rattle.machine_model.specs.TickLemmas.{step_halted}
 use Rattle.machine_model.specs.Lines.{lines, lines_unless, step_lines}
 use Rattle.machine_model.specs.Machine.{Machine, run, step}
 use Rattle.machine_model.specs.Structures.{flag}
-use Rattle.whole_system.specs.State.{SysState}
-use Rattle.slot_runs.specs.RunLemmas.{lines_add, run_add}
+use Rattle.system_state.specs.State.{SysState}
+use Rattle.span_model.specs.RunLemmas.{lines_add, run_add}
 use Rattle.xm_machine.proofs.FrontLemmas.{front_of_all}
-use Rattle.tick_pieces.specs.KeptLemmas.{run_halted, ticks_exact, ticks_least}
+use Rattle.tick_steps.specs.KeptLemmas.{run_halted, ticks_exact, ticks_least}
 use Rattle.xm_machine.specs.Outcome.{HasWriteCause, IsTick}
-use Rattle.system_ticks.specs.Spans.{IsSpanDone}
-use Rattle.tick_pieces.specs.Span.{console_lines, ends_so}
-use Rattle.xm_machine.specs.Steps.{AreCut, AreRun, IsStep, IsStepCut, Tells}
+use Rattle.span_engine.specs.Spans.{IsSpanDone}
+use Rattle.tick_steps.specs.Span.{console_lines, ends_so}
+use Rattle.xm_machine.specs.Steps.{AreCut, AreRun, IsStep, IsStepCut, Prints}
 use Rattle.xm_machine.specs.Stretch.{AreStepped, IsStretchCut, Steps, stepped_by}
-use Rattle.tick_pieces.specs.declared.span.Span.{Span}
+use Rattle.tick_steps.specs.declared.span.Span.{Span}
 
 -- the lines of a run, and of more ticks
 texts_add : (g mid : Machine) (j k : ℕ) → mid ≡ run g j → texts (lines g (j + k)) ≡ texts (lines g j) ++ texts (lines mid k)
@@ -56,19 +56,19 @@ halted_tick g had halts = record {
   report = sym (grown-nothing had) ∙ ap (λ (l : List ReportLine). grown had (texts l)) (sym (step_silent g halts));
 }
 
--- ticks of a span were done, and what they told was put out
-pub step_told : (told : ℕ) (ends : Bool) (span : Span) (most : ℕ) (old new : SysState) (after : List ReportLine) (had got : Option (List ℕ)) → IsSpanDone span most old new after
-    → ends ≡ ends_so span.note span.reach → Tells (Ok told) (console_lines span old.machine new.machine ++ after) had got
-    → AreStepped (record { ticks = span.ticks; lines = told; ends = ends }) most old.machine new.machine had got
-step_told told ends span most old new after had got done ends_is tells = record {
+-- ticks of a span were done, and what they emitted was printed
+pub step_printed : (printed : ℕ) (ends : Bool) (span : Span) (most : ℕ) (old new : SysState) (after : List ReportLine) (had got : Option (List ℕ)) → IsSpanDone span most old new after
+    → ends ≡ ends_so span.note span.reach → Prints (Ok printed) (console_lines span old.machine new.machine ++ after) had got
+    → AreStepped (record { ticks = span.ticks; lines = printed; ends = ends }) most old.machine new.machine had got
+step_printed printed ends span most old new after had got done ends_is prints = record {
   step = record {
     done = span.ticks;
     some = done.some;
     within = done.within;
     are = record {
       state = ap (λ (s : SysState). s.machine) done.state;
-      count = tells.0 ∙ ap length (sym done.lines);
-      report = tells.1 ∙ ap (λ (l : List ReportLine). grown had (texts l)) (sym done.lines);
+      count = prints.0 ∙ ap length (sym done.lines);
+      report = prints.1 ∙ ap (λ (l : List ReportLine). grown had (texts l)) (sym done.lines);
     };
   };
   ticks = refl;
@@ -76,7 +76,7 @@ step_told told ends span most old new after had got done ends_is tells = record 
   ends = done.ends ∙ sym ends_is;
 }
 
--- and what they told was not all put out
+-- and what they emitted was not all printed
 pub step_cut : (span : Span) (most : ℕ) (old new : SysState) (after : List ReportLine) (had got : Option (List ℕ)) → IsSpanDone span most old new after
     → GrewByPrefix had (texts (console_lines span old.machine new.machine ++ after)) got → IsStretchCut most old.machine new.machine had got
 step_cut span most old new after had got done cut =
@@ -98,27 +98,27 @@ step_cut span most old new after had got done cut =
     }
 
 -- and both
-pub step_so : (told : Result ℕ WriteFault) (ends : Bool) (span : Span) (most : ℕ) (old new : SysState) (after : List ReportLine) (had got : Option (List ℕ)) → IsSpanDone span most old new after
-    → ends ≡ ends_so span.note span.reach → Tells told (console_lines span old.machine new.machine ++ after) had got
-    → Steps (stepped_by told span.ticks ends) most old.machine new.machine had got
-step_so (Ok lines) ends span most old new after had got done is tells = step_told lines ends span most old new after had got done is tells
-step_so (Err fault) ends span most old new after had got done is tells = step_cut span most old new after had got done tells
+pub step_so : (printed : Result ℕ WriteFault) (ends : Bool) (span : Span) (most : ℕ) (old new : SysState) (after : List ReportLine) (had got : Option (List ℕ)) → IsSpanDone span most old new after
+    → ends ≡ ends_so span.note span.reach → Prints printed (console_lines span old.machine new.machine ++ after) had got
+    → Steps (stepped_by printed span.ticks ends) most old.machine new.machine had got
+step_so (Ok lines) ends span most old new after had got done is prints = step_printed lines ends span most old new after had got done is prints
+step_so (Err fault) ends span most old new after had got done is prints = step_cut span most old new after had got done prints
 
--- they told few lines, and the sink's count has the cause that it has
-pub few_so : (told : Result ℕ WriteFault) (ticks : ℕ) (ends : Bool) → IfOk told (λ lines. lines ≤ 41) → IfOk (stepped_by told ticks ends) (λ s. s.lines ≤ 41)
+-- they printed few lines, and the sink's count has the cause that it has
+pub few_so : (printed : Result ℕ WriteFault) (ticks : ℕ) (ends : Bool) → IfOk printed (λ lines. lines ≤ 41) → IfOk (stepped_by printed ticks ends) (λ s. s.lines ≤ 41)
 few_so (Ok lines) ticks ends few = few
 few_so (Err fault) ticks ends few = tt
 
-pub cause_so : (told : Result ℕ WriteFault) (ticks : ℕ) (ends : Bool) (before now : ℕ) → HasWriteCause told before now → HasWriteCause (stepped_by told ticks ends) before now
+pub cause_so : (printed : Result ℕ WriteFault) (ticks : ℕ) (ends : Bool) (before now : ℕ) → HasWriteCause printed before now → HasWriteCause (stepped_by printed ticks ends) before now
 cause_so (Ok lines) ticks ends before now cause = cause
 cause_so (Err fault) ticks ends before now cause = cause
 
--- a run is on its way: so many of its ticks at most were done, and each told a few lines
-pub record Goes (told ticks : ℕ) (old new : Machine) (had got : Option (List ℕ)) : Type 0 where
+-- a run is on its way: this many of its ticks at most were done, and each printed a few lines
+pub record Goes (printed ticks : ℕ) (old new : Machine) (had got : Option (List ℕ)) : Type 0 where
   pub done : ℕ
   pub within : done ≤ ticks
-  pub few : told ≤ 41 * done
-  pub are : AreRun done told old new had got
+  pub few : printed ≤ 41 * done
+  pub are : AreRun done printed old new had got
 
 -- it begins
 pub begins : (ticks : ℕ) (g : Machine) (had : Option (List ℕ)) → Goes 0 ticks g g had had
@@ -134,13 +134,13 @@ pub state_on : (g mid new : Machine) (done more : ℕ) → mid ≡ run g done �
 state_on g mid new done more is then = then ∙ ap (λ (m : Machine). run m more) is ∙ sym (run_add g done more)
 
 -- as long as the hypervisor has not halted the ticks done are those that were counted
-pub counted : (told ticks : ℕ) (old new : Machine) (had got : Option (List ℕ)) → (goes : Goes told ticks old new had got) → new.halted ≡ false → new.ticks ≡ old.ticks + goes.done
-counted told ticks old new had got goes runs =
+pub counted : (printed ticks : ℕ) (old new : Machine) (had got : Option (List ℕ)) → (goes : Goes printed ticks old new had got) → new.halted ≡ false → new.ticks ≡ old.ticks + goes.done
+counted printed ticks old new had got goes runs =
     ap (λ (m : Machine). m.ticks) goes.are.state ∙ ticks_exact goes.done old (sym (ap (λ (m : Machine). m.halted) goes.are.state) ∙ runs)
 
 -- ticks that were done, and more of them
-pub run_on : (g mid new : Machine) (told count done more : ℕ) (had before got : Option (List ℕ)) → AreRun done told g mid had before → AreRun more count mid new before got → AreRun (done + more) (told + count) g new had got
-run_on g mid new told count done more had before got are then = record {
+pub run_on : (g mid new : Machine) (printed count done more : ℕ) (had before got : Option (List ℕ)) → AreRun done printed g mid had before → AreRun more count mid new before got → AreRun (done + more) (printed + count) g new had got
+run_on g mid new printed count done more had before got are then = record {
   state = state_on g mid new done more are.state then.state;
   count = omega (arith, are.count, then.count, ap length (lines_add g done more), length-append (lines g done) (lines (run g done) more), ap (λ (m : Machine). length (lines m more)) are.state);
   report = then.report ∙ ap (λ (m : Option (List ℕ)). grown m (texts (lines mid more))) are.report
@@ -148,8 +148,8 @@ run_on g mid new told count done more had before got are then = record {
 }
 
 -- and more, of which the last was cut off
-pub cut_on : (g mid new : Machine) (told done more : ℕ) (had before got : Option (List ℕ)) → AreRun done told g mid had before → AreCut more mid new before got → AreCut (done + more) g new had got
-cut_on g mid new told done more had before got are then =
+pub cut_on : (g mid new : Machine) (printed done more : ℕ) (had before got : Option (List ℕ)) → AreRun done printed g mid had before → AreCut more mid new before got → AreCut (done + more) g new had got
+cut_on g mid new printed done more had before got are then =
     let both : texts (lines g (done + more)) ≡ texts (lines g done) ++ texts (lines mid more) = texts_add g mid done more are.state in
     let front : GrewByPrefix had (texts (lines g (done + more))) got =
     front_of_all had before got (texts (lines g done)) (texts (lines mid more)) [] (texts (lines g (done + more)))
@@ -176,26 +176,26 @@ cut_on g mid new told done more had before got are then =
         )
 
 -- it goes on
-pub goes_on : (g mid new : Machine) (told count most ticks : ℕ) (had before got : Option (List ℕ)) → (goes : Goes told ticks g mid had before) → (step : IsStep count most mid new before got) → count ≤ 41 * step.done → goes.done + most ≤ ticks → Goes (told + count) ticks g new had got
-goes_on g mid new told count most ticks had before got goes step few room = record {
+pub goes_on : (g mid new : Machine) (printed count most ticks : ℕ) (had before got : Option (List ℕ)) → (goes : Goes printed ticks g mid had before) → (step : IsStep count most mid new before got) → count ≤ 41 * step.done → goes.done + most ≤ ticks → Goes (printed + count) ticks g new had got
+goes_on g mid new printed count most ticks had before got goes step few room = record {
   done = goes.done + step.done;
   within = omega (arith, step.within, room);
   few = omega (arith, goes.few, few);
-  are = run_on g mid new told count goes.done step.done had before got goes.are step.are;
+  are = run_on g mid new printed count goes.done step.done had before got goes.are step.are;
 }
 
 -- it is cut off
-pub goes_cut : (g mid new : Machine) (told most ticks : ℕ) (had before got : Option (List ℕ)) → (goes : Goes told ticks g mid had before) → IsStepCut most mid new before got → goes.done + most ≤ ticks → IsStepCut ticks g new had got
-goes_cut g mid new told most ticks had before got goes step room = record {
+pub goes_cut : (g mid new : Machine) (printed most ticks : ℕ) (had before got : Option (List ℕ)) → (goes : Goes printed ticks g mid had before) → IsStepCut most mid new before got → goes.done + most ≤ ticks → IsStepCut ticks g new had got
+goes_cut g mid new printed most ticks had before got goes step room = record {
   done = goes.done + step.done;
   some = omega (arith, step.some);
   within = omega (arith, step.within, room);
-  are = cut_on g mid new told goes.done step.done had before got goes.are step.are;
+  are = cut_on g mid new printed goes.done step.done had before got goes.are step.are;
 }
 
 -- a run after which the hypervisor has halted is one of more ticks, too
-halted_run : (g new : Machine) (done ticks told : ℕ) (had got : Option (List ℕ)) → AreRun done told g new had got → new.halted ≡ true → done ≤ ticks → AreRun ticks told g new had got
-halted_run g new done ticks told had got are halts within =
+halted_run : (g new : Machine) (done ticks printed : ℕ) (had got : Option (List ℕ)) → AreRun done printed g new had got → new.halted ≡ true → done ≤ ticks → AreRun ticks printed g new had got
+halted_run g new done ticks printed had got are halts within =
     let rest : ticks ≡ done + (ticks - done) = omega arith in
     let still : (run g done).halted ≡ true = sym (ap (λ (m : Machine). m.halted) are.state) ∙ halts in
     let stays : run g ticks ≡ run g done = ap (run g) rest ∙ run_add g done (ticks - done) ∙ run_halted (ticks - done) (run g done) still in
@@ -207,15 +207,15 @@ halted_run g new done ticks told had got are halts within =
       report = are.report ∙ ap (λ (l : List ReportLine). grown had (texts l)) (sym same);
     }
 
--- the run has come to its end: the hypervisor has halted, or all ticks are done
-pub goes_out : (told ticks : ℕ) (g new : Machine) (had got : Option (List ℕ)) → Goes told ticks g new had got → g.ticks ≡ 0 → (new.halted ≡ false → ticks ≤ new.ticks) → AreRun ticks told g new had got
-goes_out told ticks g new had got goes fresh ends = at new.halted refl
+-- the run has reached its end: the hypervisor has halted, or all ticks are done
+pub goes_out : (printed ticks : ℕ) (g new : Machine) (had got : Option (List ℕ)) → Goes printed ticks g new had got → g.ticks ≡ 0 → (new.halted ≡ false → ticks ≤ new.ticks) → AreRun ticks printed g new had got
+goes_out printed ticks g new had got goes fresh ends = at new.halted refl
   where
-    at : (b : Bool) → new.halted ≡ b → AreRun ticks told g new had got
-    at true halts = halted_run g new goes.done ticks told had got goes.are halts goes.within
+    at : (b : Bool) → new.halted ≡ b → AreRun ticks printed g new had got
+    at true halts = halted_run g new goes.done ticks printed had got goes.are halts goes.within
     at false runs =
-        let all : goes.done ≡ ticks = omega (arith, counted told ticks g new had got goes runs, fresh, ends runs, goes.within) in
-        subst (λ (n : ℕ). AreRun n told g new had got) all goes.are
+        let all : goes.done ≡ ticks = omega (arith, counted printed ticks g new had got goes runs, fresh, ends runs, goes.within) in
+        subst (λ (n : ℕ). AreRun n printed g new had got) all goes.are
 
 -- what a run has still to do: ticks, and to halt
 abbrev pub to_come : ℕ → Machine → ℕ

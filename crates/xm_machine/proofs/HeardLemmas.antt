@@ -1,4 +1,4 @@
--- What lines of ticks tell of console bytes is what UARTs get of these ticks; and what a board has got after them.
+-- What lines of ticks have of console bytes is what UARTs get of these ticks; and what a board has got after them.
 use Rattle.std.proofs.Common.{◌≡◌, ◌≢◌, ⊎_elim, ℕ, zero, suc, ◌+◌, ◌-◌, ◌<◌, ◌≤◌, Bool, false, true, List, [], ◌∷◌, ◌++◌, length, map, Option, None, Some, refl, sym, ap, ◌∙◌, subst, arith}
 use Rattle.std.specs.Prelude.{All, IfSome, ◌==◌, if◌then◌else◌, slice_get, slice_index_or}
 use Rattle.std.specs.List.{flat_map}
@@ -15,8 +15,8 @@ use Rattle.xm_conf.specs.Configuration.{Conf, Part}
 use Rattle.xm_conf.specs.Description.{described}
 use Rattle.xm_conf.specs.Fits.{Fits}
 use Rattle.xm_report.specs.Report.{ConsoleLine, EndPart, EndWhole, HealthLine, MovedLine, PlanLine, ReportLine, SystemLine, TraceLine, WholeLine}
-use Rattle.whole_system.specs.State.{SysState}
-use Rattle.alone_passes.specs.Passes.{part_in}
+use Rattle.system_state.specs.State.{SysState}
+use Rattle.replay_model.specs.Passes.{part_in}
 use Rattle.machine_model.specs.TickLemmas.{step_halted}
 use Rattle.machine_model.specs.Alone.{Alone, alone_lines_of, alone_local, alone_local_in, alone_step_lines, alone_step_said}
 use Rattle.machine_model.specs.Cue.{Away, Cue, Mine, CueSlot}
@@ -25,22 +25,22 @@ use Rattle.machine_model.specs.Laws.{part}
 use Rattle.machine_model.specs.Lines.{console, has_console, lines, lines_of, lines_unless, local_lines, local_said, order_lines, plan_lines, said_unless, step_console, step_lines, step_said}
 use Rattle.machine_model.specs.Lists.{all_of, is_number}
 use Rattle.machine_model.specs.LocalTick.{LocalTick, local_tick, said_in, worked}
-use Rattle.machine_model.specs.Machine.{Happened, Machine, SlotTurn, copies, happened, happened_by, if_its_turn, is_turn_of, local, local_in, local_of, next_clock, obeyed_told, order_upon, run, sight_of_state, step, taken_by, tick_of, turn_of, worked_in}
-use Rattle.machine_model.specs.Partition.{PartitionState, applies, order_told, ordered_told, takes_turns}
-use Rattle.machine_model.specs.Told as told
-use Rattle.machine_model.specs.Told.{Told, line_of}
+use Rattle.machine_model.specs.Machine.{Happened, Machine, SlotTurn, copies, happened, happened_by, if_its_turn, is_turn_of, local, local_in, local_of, next_clock, obeyed_emissions, order_upon, run, sight_of_state, step, taken_by, tick_of, turn_of, worked_in}
+use Rattle.machine_model.specs.Partition.{PartitionState, applies, order_emissions, ordered_emissions, takes_turns}
+use Rattle.machine_model.specs.Emission as emission
+use Rattle.machine_model.specs.Emission.{Emission, line_of}
 use Rattle.machine_model.specs.View.{System, part_of, view_of}
 use Rattle.machine_model.specs.Whole.{AllHalted, AllReset, NoEvent, WholeEvent, event_lines, whole_lines}
-use Rattle.slot_runs.specs.Passes.{part_at}
-use Rattle.slot_runs.specs.RunLemmas.{console_add, run_add}
+use Rattle.span_model.specs.Passes.{part_at}
+use Rattle.span_model.specs.RunLemmas.{console_add, run_add}
 use Rattle.xm_machine.proofs.GoingLemmas.{lines_halted, state_on}
-use Rattle.tick_pieces.specs.KeptLemmas.{ticks_exact}
-use Rattle.tick_pieces.specs.TickLines.{IsOtherLine}
+use Rattle.tick_steps.specs.KeptLemmas.{ticks_exact}
+use Rattle.tick_steps.specs.TickLines.{IsOtherLine}
 use Rattle.xm_machine.specs.AloneStep.{said_alone}
 use Rattle.xm_machine.specs.Heard.{IsRunHeard, console_to, line_to, lines_to}
-use Rattle.system_ticks.specs.Spans.{IsSpanDone}
-use Rattle.tick_pieces.specs.Span.{console_lines}
-use Rattle.tick_pieces.specs.declared.span.Span.{Span}
+use Rattle.span_engine.specs.Spans.{IsSpanDone}
+use Rattle.tick_steps.specs.Span.{console_lines}
+use Rattle.tick_steps.specs.declared.span.Span.{Span}
 
 -- nothing, whatever is asked
 if_none : (b : Bool) (bytes : List ℕ) → bytes ≡ [] → (if b then bytes else []) ≡ []
@@ -48,31 +48,31 @@ if_none true bytes none = none
 if_none false bytes none = refl
 
 -- what a line of a partition's tale says, where the UART is its console, and where it is not
-line_its : (g : Machine) (uart n p : ℕ) (t : Told) → has_console g uart p ≡ true → line_to g uart (line_of n p t) ≡ said_in t
-line_its g uart n p (told.Console bytes) its = ap (λ (b : Bool). if b then bytes else []) its
-line_its g uart n p (told.Health event word action) its = refl
-line_its g uart n p (told.Trace bits load) its = refl
-line_its g uart n p (told.Moved to) its = refl
+line_its : (g : Machine) (uart n p : ℕ) (t : Emission) → has_console g uart p ≡ true → line_to g uart (line_of n p t) ≡ said_in t
+line_its g uart n p (emission.Console bytes) its = ap (λ (b : Bool). if b then bytes else []) its
+line_its g uart n p (emission.Health event word action) its = refl
+line_its g uart n p (emission.Trace bits load) its = refl
+line_its g uart n p (emission.Moved to) its = refl
 
-line_not : (g : Machine) (uart n p : ℕ) (t : Told) → has_console g uart p ≡ false → line_to g uart (line_of n p t) ≡ []
-line_not g uart n p (told.Console bytes) not_its = ap (λ (b : Bool). if b then bytes else []) not_its
-line_not g uart n p (told.Health event word action) not_its = refl
-line_not g uart n p (told.Trace bits load) not_its = refl
-line_not g uart n p (told.Moved to) not_its = refl
+line_not : (g : Machine) (uart n p : ℕ) (t : Emission) → has_console g uart p ≡ false → line_to g uart (line_of n p t) ≡ []
+line_not g uart n p (emission.Console bytes) not_its = ap (λ (b : Bool). if b then bytes else []) not_its
+line_not g uart n p (emission.Health event word action) not_its = refl
+line_not g uart n p (emission.Trace bits load) not_its = refl
+line_not g uart n p (emission.Moved to) not_its = refl
 
 -- so do its lines
-tale_its : (g : Machine) (uart n p : ℕ) (ts : List Told) → has_console g uart p ≡ true → flat_map (line_to g uart) (map (line_of n p) ts) ≡ flat_map said_in ts
+tale_its : (g : Machine) (uart n p : ℕ) (ts : List Emission) → has_console g uart p ≡ true → flat_map (line_to g uart) (map (line_of n p) ts) ≡ flat_map said_in ts
 tale_its g uart n p [] its = refl
 tale_its g uart n p (t ∷ ts) its =
     ap (λ (first : List ℕ). first ++ flat_map (line_to g uart) (map (line_of n p) ts)) (line_its g uart n p t its)
     ∙ ap (λ (rest : List ℕ). said_in t ++ rest) (tale_its g uart n p ts its)
 
-tale_not : (g : Machine) (uart n p : ℕ) (ts : List Told) → has_console g uart p ≡ false → flat_map (line_to g uart) (map (line_of n p) ts) ≡ []
+tale_not : (g : Machine) (uart n p : ℕ) (ts : List Emission) → has_console g uart p ≡ false → flat_map (line_to g uart) (map (line_of n p) ts) ≡ []
 tale_not g uart n p [] not_its = refl
 tale_not g uart n p (t ∷ ts) not_its =
     ap (λ (first : List ℕ). first ++ flat_map (line_to g uart) (map (line_of n p) ts)) (line_not g uart n p t not_its) ∙ tale_not g uart n p ts not_its
 
-tale_to : (g : Machine) (uart n p : ℕ) (ts : List Told) → flat_map (line_to g uart) (map (line_of n p) ts) ≡ (if has_console g uart p then flat_map said_in ts else [])
+tale_to : (g : Machine) (uart n p : ℕ) (ts : List Emission) → flat_map (line_to g uart) (map (line_of n p) ts) ≡ (if has_console g uart p then flat_map said_in ts else [])
 tale_to g uart n p ts = at (has_console g uart p) refl
   where
     at : (b : Bool) → has_console g uart p ≡ b → flat_map (line_to g uart) (map (line_of n p) ts) ≡ (if b then flat_map said_in ts else [])
@@ -107,28 +107,28 @@ none_said f h (x ∷ xs) none =
 silent_after : (f : ReportLine → List ℕ) (a b : List ReportLine) → flat_map f b ≡ [] → flat_map f (a ++ b) ≡ flat_map f a
 silent_after f a b none = flat_map-append f a b ∙ ap (λ (rest : List ℕ). flat_map f a ++ rest) none ∙ append-nil (flat_map f a)
 
--- an order tells no console bytes
-order_silent : (an_order : Order) → flat_map said_in (order_told an_order) ≡ []
+-- an order emits no console bytes
+order_silent : (an_order : Order) → flat_map said_in (order_emissions an_order) ≡ []
 order_silent order.Halt = refl
 order_silent order.Suspend = refl
 order_silent order.Resume = refl
 order_silent order.Shutdown = refl
 order_silent (order.Reset mode status) = refl
 
-obeyed_silent : (o : Option Order) (ps : PartitionState) → flat_map said_in (obeyed_told o ps) ≡ []
-unfolding ordered_told
+obeyed_silent : (o : Option Order) (ps : PartitionState) → flat_map said_in (obeyed_emissions o ps) ≡ []
+unfolding ordered_emissions
 obeyed_silent None ps = refl
 obeyed_silent (Some an_order) ps = at (applies an_order ps.state)
   where
-    at : (b : Bool) → flat_map said_in (if b then order_told an_order else []) ≡ []
+    at : (b : Bool) → flat_map said_in (if b then order_emissions an_order else []) ≡ []
     at true = order_silent an_order
     at false = refl
 
 orders_silent : (g : Machine) (h : Happened) (uart p : ℕ) (ps : PartitionState) → flat_map (line_to g uart) (order_lines g h p ps) ≡ []
 unfolding order_lines
 orders_silent g h uart p ps =
-    tale_to g uart g.ticks p (obeyed_told (order_upon h.act p) (worked_in (tick_of h p) ps))
-    ∙ if_none (has_console g uart p) (flat_map said_in (obeyed_told (order_upon h.act p) (worked_in (tick_of h p) ps))) (obeyed_silent (order_upon h.act p) (worked_in (tick_of h p) ps))
+    tale_to g uart g.ticks p (obeyed_emissions (order_upon h.act p) (worked_in (tick_of h p) ps))
+    ∙ if_none (has_console g uart p) (flat_map said_in (obeyed_emissions (order_upon h.act p) (worked_in (tick_of h p) ps))) (obeyed_silent (order_upon h.act p) (worked_in (tick_of h p) ps))
 
 -- nor do the lines of the hypervisor and of plans
 whole_silent : (g : Machine) (uart n : ℕ) (event : WholeEvent) → flat_map (line_to g uart) (whole_lines n event) ≡ []
@@ -150,7 +150,7 @@ plan_silent g uart n old new = at (old == new)
 
 -- a local tick of partition q: its lines are those of a tale, and its console bytes are what that says
 record HasTale (g : Machine) (q : ℕ) (l : Option LocalTick) : Type 0 where
-  tale : List Told
+  tale : List Emission
   its_lines : local_lines l ≡ map (line_of g.ticks q) tale
   its_bytes : local_said l ≡ flat_map said_in tale
 
@@ -159,7 +159,7 @@ unfolding local_of local_tick view_of
 taken_tale g q first ps = at (takes_turns ps.state)
   where
     at : (b : Bool) → HasTale g q (if b then Some (local_of g q first ps) else None)
-    at true = record { tale = (worked (view_of g.system q) (copies g q) g.time first (sight_of_state g q first ps) ps).told; its_lines = refl; its_bytes = refl }
+    at true = record { tale = (worked (view_of g.system q) (copies g q) g.time first (sight_of_state g q first ps) ps).emitted; its_lines = refl; its_bytes = refl }
     at false = record { tale = []; its_lines = refl; its_bytes = refl }
 
 -- what each UART gets of the local tick of a turn
@@ -170,9 +170,9 @@ abbrev tick_to : Machine → ℕ → ℕ → Option LocalTick → ℕ → Partit
 tick_to g uart q l p ps = if has_console g uart p then local_said (if_its_turn (q == p) l) else []
 
 -- no tick has no bytes
-untold : (b : Bool) → local_said (if_its_turn b None) ≡ []
-untold true = refl
-untold false = refl
+nothing_said : (b : Bool) → local_said (if_its_turn b None) ≡ []
+nothing_said true = refl
+nothing_said false = refl
 
 not_its : (g : Machine) (uart q p : ℕ) (l : Option LocalTick) (ps : PartitionState) → p ≢ q → tick_to g uart q l p ps ≡ []
 not_its g uart q p l ps differ =
@@ -192,7 +192,7 @@ turns_to g uart (Some turn) = at (slice_get g.parts turn.part) refl
   where
     at : (o : Option PartitionState) → slice_get g.parts turn.part ≡ o
         → all_of (tick_to g uart turn.part (taken_by g turn.part turn.first o)) g.parts ≡ flat_map (line_to g uart) (local_lines (taken_by g turn.part turn.first o))
-    at None e = none_of (tick_to g uart turn.part None) g.parts (λ p ps. if_none (has_console g uart p) (local_said (if_its_turn (turn.part == p) None)) (untold (turn.part == p)))
+    at None e = none_of (tick_to g uart turn.part None) g.parts (λ p ps. if_none (has_console g uart p) (local_said (if_its_turn (turn.part == p) None)) (nothing_said (turn.part == p)))
     at (Some ps) e =
         one_of (tick_to g uart turn.part (taken_by g turn.part turn.first (Some ps))) g.parts turn.part ps e (λ p other differ. not_its g uart turn.part p (taken_by g turn.part turn.first (Some ps)) other differ)
         ∙ its_tick g uart turn.part (taken_by g turn.part turn.first (Some ps)) ps (taken_tale g turn.part turn.first ps)
@@ -240,7 +240,7 @@ halted_silent : (g : Machine) (uart : ℕ) → g.halted ≡ true → flat_map (l
 unfolding step_lines
 halted_silent g uart halts = ap (λ (b : Bool). flat_map (line_to g uart) (lines_unless b g)) halts
 
--- what a UART gets of a tick is what the tick's lines tell
+-- what a UART gets of a tick is what the tick's lines have
 step_heard : (g : Machine) (uart : ℕ) → step_console g uart ≡ flat_map (line_to g uart) (step_lines g)
 step_heard g uart = at g.halted refl
   where
@@ -260,7 +260,7 @@ line_same g m uart (PlanLine n plan) same = refl
 line_same g m uart (EndPart p state resets exec pc) same = refl
 line_same g m uart (EndWhole halted plan clock ticks) same = refl
 
-lines_same : (g m : Machine) (told_lines : List ReportLine) (uart : ℕ) → m.system ≡ g.system → lines_to m told_lines uart ≡ lines_to g told_lines uart
+lines_same : (g m : Machine) (emitted_lines : List ReportLine) (uart : ℕ) → m.system ≡ g.system → lines_to m emitted_lines uart ≡ lines_to g emitted_lines uart
 lines_same g m [] uart same = refl
 lines_same g m (line ∷ rest) uart same =
     ap (λ (first : List ℕ). first ++ lines_to m rest uart) (line_same g m uart line same)
@@ -311,7 +311,7 @@ pub heard_as : (said other : ℕ → List ℕ) (before after : BoardView) → ((
 heard_as said other before after same heard place =
     subst (λ (bytes : List ℕ). IsHeardAt bytes (view_at place before) (mark_at place before.marks) (view_at place after) (mark_at place after.marks)) (same place) (heard place)
 
--- so many ticks lead to a state, and their console bytes were said
+-- this many ticks lead to a state, and their console bytes were said
 pub ran_heard : RunsKeepNumbers → (g new : Machine) (count : ℕ) (before after : BoardView) → new ≡ run g count → IsHeard (console g count) before after → IsRunHeard g new before after
 ran_heard keeps g new count before after is heard ticks leads =
     heard_as (console g count) (console g ticks) before after (λ uart. console_same keeps g count ticks uart (sym is ∙ leads)) heard
@@ -350,11 +350,11 @@ span_heard keeps span most old new others before after done heard =
     heard)
 
 -- a line of console bytes was said
-pub line_heard : (g : Machine) (n p : ℕ) (bytes : List ℕ) (before after : BoardView) → IsHeard (console_to g p bytes) before after → IsHeard (lines_to g (line_of n p (told.Console bytes) ∷ [])) before after
+pub line_heard : (g : Machine) (n p : ℕ) (bytes : List ℕ) (before after : BoardView) → IsHeard (console_to g p bytes) before after → IsHeard (lines_to g (line_of n p (emission.Console bytes) ∷ [])) before after
 line_heard g n p bytes before after heard =
-    heard_as (console_to g p bytes) (lines_to g (line_of n p (told.Console bytes) ∷ [])) before after (λ uart. sym (append-nil (console_to g p bytes uart))) heard
+    heard_as (console_to g p bytes) (lines_to g (line_of n p (emission.Console bytes) ∷ [])) before after (λ uart. sym (append-nil (console_to g p bytes uart))) heard
 
--- lines that tell no console bytes
+-- lines that have no console bytes
 others_silent : (g : Machine) (others : List ReportLine) (uart : ℕ) → All IsOtherLine others → lines_to g others uart ≡ []
 others_silent g [] uart all = refl
 others_silent g (line ∷ rest) uart all =
@@ -407,7 +407,7 @@ console_below conf p part fits below is =
     at None within = within
     at (Some place) within = omega (arith, within, few)
 
--- the same of a tick of one partition without the others
+-- the same of a tick of one partition in isolation
 alone_tale : (g : Machine) (p : ℕ) (cue : Cue) → HasTale g p (alone_local (view_of g.system p) (part_in g p) cue)
 unfolding alone_local local_tick part view_of
 alone_tale g p cue = by cue.mine
@@ -417,7 +417,7 @@ alone_tale g p cue = by cue.mine
     by (Mine first) = at (takes_turns (part_at p g).state)
       where
         at : (b : Bool) → HasTale g p (if b then Some (local_tick (view_of g.system p) (part_at p g) (copies g p) g.ticks g.time first cue.seen) else None)
-        at true = record { tale = (worked (view_of g.system p) (copies g p) g.time first cue.seen (part_at p g)).told; its_lines = refl; its_bytes = refl }
+        at true = record { tale = (worked (view_of g.system p) (copies g p) g.time first cue.seen (part_at p g)).emitted; its_lines = refl; its_bytes = refl }
         at false = record { tale = []; its_lines = refl; its_bytes = refl }
 
 lines_alone : (m g : Machine) (uart p : ℕ) (cue : Cue)
@@ -428,11 +428,11 @@ lines_alone m g uart p cue =
     let a : Alone = part_in g p in
     let its = alone_tale g p cue in
     let l : Option LocalTick = alone_local view a cue in
-    silent_after (line_to m uart) (local_lines l ++ map (line_of a.ticks view.id) (obeyed_told cue.order (worked_in l a.state))) (event_lines a.ticks cue.whole view.id)
+    silent_after (line_to m uart) (local_lines l ++ map (line_of a.ticks view.id) (obeyed_emissions cue.order (worked_in l a.state))) (event_lines a.ticks cue.whole view.id)
     (event_silent m uart a.ticks view.id cue.whole)
-    ∙ silent_after (line_to m uart) (local_lines l) (map (line_of a.ticks view.id) (obeyed_told cue.order (worked_in l a.state)))
-    (tale_to m uart a.ticks view.id (obeyed_told cue.order (worked_in l a.state))
-    ∙ if_none (has_console m uart view.id) (flat_map said_in (obeyed_told cue.order (worked_in l a.state))) (obeyed_silent cue.order (worked_in l a.state)))
+    ∙ silent_after (line_to m uart) (local_lines l) (map (line_of a.ticks view.id) (obeyed_emissions cue.order (worked_in l a.state)))
+    (tale_to m uart a.ticks view.id (obeyed_emissions cue.order (worked_in l a.state))
+    ∙ if_none (has_console m uart view.id) (flat_map said_in (obeyed_emissions cue.order (worked_in l a.state))) (obeyed_silent cue.order (worked_in l a.state)))
     ∙ ap (flat_map (line_to m uart)) its.its_lines
     ∙ tale_to m uart g.ticks p its.tale
     ∙ ap (λ (bytes : List ℕ). if has_console m uart p then bytes else []) (sym its.its_bytes)

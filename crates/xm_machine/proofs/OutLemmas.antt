@@ -10,12 +10,12 @@ use Rattle.machine_model.specs.Lines.{end_line}
 use Rattle.machine_model.specs.Lists.{all_of}
 use Rattle.machine_model.specs.Partition.{PartitionState}
 
--- the first lines of all went out, so many, and these are left
+-- the first lines of all went out, this many, and these are left
 pub record AreOut (all rest : List ReportLine) (count : ℕ) (had got : Option (List ℕ)) : Type 0 where
   pub front : List ReportLine
   pub these : all ≡ front ++ rest
   pub out : got ≡ grown had (texts front)
-  pub told : count ≡ length front
+  pub printed : count ≡ length front
 
 -- lines that went out, and others after them that did, too
 pub both_out : (before after : List ReportLine) (had mid got : Option (List ℕ)) → mid ≡ grown had (texts before) → got ≡ grown mid (texts after) → got ≡ grown had (texts (before ++ after))
@@ -43,7 +43,7 @@ more_out all rest line count had mid got are put = record {
   front = are.front ++ line ∷ [];
   these = are.these ∙ sym (append_assoc are.front (line ∷ []) rest);
   out = both_out are.front (line ∷ []) had mid got are.out (one_line line mid got put);
-  told = omega (arith, length-append are.front (line ∷ []), are.told);
+  printed = omega (arith, length-append are.front (line ∷ []), are.printed);
 }
 
 -- the next line did not go out whole

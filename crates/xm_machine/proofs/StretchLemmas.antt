@@ -12,23 +12,23 @@ use Rattle.machine_model.specs.Lines.{lines}
 use Rattle.machine_model.specs.Machine.{Machine, run}
 use Rattle.xm_machine.specs.Alone.{AreAlone, AreAloneUpTo}
 use Rattle.xm_machine.specs.Cues.{AreCued, AreCuedUpTo, KeepsLastTick}
-use Rattle.tick_pieces.specs.Kept.{kept_after}
+use Rattle.tick_steps.specs.Kept.{kept_after}
 use Rattle.xm_machine.specs.Machine.{Meaning}
-use Rattle.tick_pieces.specs.Quiet.{AreQuiet, ends_in}
-use Rattle.tick_pieces.specs.QuietRunLemmas.{AllQuiet, all_quiet, quiet_on, quiet_runs, run_from}
+use Rattle.tick_steps.specs.Quiet.{AreQuiet, ends_in}
+use Rattle.tick_steps.specs.QuietRunLemmas.{AllQuiet, all_quiet, quiet_on, quiet_runs, run_from}
 use Rattle.xm_machine.specs.Steps.{AreRun}
 use Rattle.xm_machine.specs.Stretch.{AreStepped, IsStretchCut, IsStretched, left_of}
 use Rattle.xm_machine.specs.declared.stretch.Stepped.{Stepped}
 use Rattle.xm_machine.proofs.AloneLemmas.{ticks_alone}
 use Rattle.xm_machine.proofs.CuedLemmas.{cued, kept_add}
 use Rattle.xm_machine.proofs.GoingLemmas.{cut_on, run_on, state_on}
-use Rattle.tick_pieces.specs.KeptLemmas.{ticks_exact}
+use Rattle.tick_steps.specs.KeptLemmas.{ticks_exact}
 
--- a stretch is on its way: so many of its ticks were done, and whether it ends with the last of them
-pub record GoesStretch (ticks told : ℕ) (ends : Bool) (most : ℕ) (old new : Meaning) (had got : Option (List ℕ)) : Type 0 where
+-- a stretch is on its way: this many of its ticks were done, and whether it ends with the last of them
+pub record GoesStretch (ticks printed : ℕ) (ends : Bool) (most : ℕ) (old new : Meaning) (had got : Option (List ℕ)) : Type 0 where
   pub within : ticks ≤ most
-  pub few : told ≤ 41 * ticks
-  pub are : AreRun ticks told old.state new.state had got
+  pub few : printed ≤ 41 * ticks
+  pub are : AreRun ticks printed old.state new.state had got
   pub quiet : AreQuiet ticks old.state
   pub last : 0 < ticks → ends_in (run old.state (ticks - 1)) ≡ ends
   pub some : ends ≡ true → 0 < ticks
@@ -47,28 +47,28 @@ stretch_begins most g had = record {
 }
 
 -- it has not ended
-still_quiet : (ticks told_lines : ℕ) (ends : Bool) (most : ℕ) (old mid : Meaning) (had before : Option (List ℕ)) → GoesStretch ticks told_lines ends most old mid had before → ends ≡ false
+still_quiet : (ticks emitted_lines : ℕ) (ends : Bool) (most : ℕ) (old mid : Meaning) (had before : Option (List ℕ)) → GoesStretch ticks emitted_lines ends most old mid had before → ends ≡ false
     → AllQuiet ticks old.state
-still_quiet ticks told_lines ends most old mid had before goes more = all_quiet ticks old.state goes.quiet (λ some. goes.last some ∙ more)
+still_quiet ticks emitted_lines ends most old mid had before goes more = all_quiet ticks old.state goes.quiet (λ some. goes.last some ∙ more)
 
-pub stretch_runs : (ticks told_lines : ℕ) (ends : Bool) (most : ℕ) (old mid : Meaning) (had before : Option (List ℕ)) → GoesStretch ticks told_lines ends most old mid had before
+pub stretch_runs : (ticks emitted_lines : ℕ) (ends : Bool) (most : ℕ) (old mid : Meaning) (had before : Option (List ℕ)) → GoesStretch ticks emitted_lines ends most old mid had before
     → ends ≡ false → old.state.halted ≡ false → mid.state.halted ≡ false
-stretch_runs ticks told_lines ends most old mid had before goes more runs =
+stretch_runs ticks emitted_lines ends most old mid had before goes more runs =
     ap (λ (m : Machine). m.halted) goes.are.state
-    ∙ quiet_runs ticks old.state runs (still_quiet ticks told_lines ends most old mid had before goes more)
+    ∙ quiet_runs ticks old.state runs (still_quiet ticks emitted_lines ends most old mid had before goes more)
 
 -- the ticks done are those that were counted
-pub stretch_counted : (ticks told_lines : ℕ) (ends : Bool) (most : ℕ) (old mid : Meaning) (had before : Option (List ℕ)) → GoesStretch ticks told_lines ends most old mid had before
+pub stretch_counted : (ticks emitted_lines : ℕ) (ends : Bool) (most : ℕ) (old mid : Meaning) (had before : Option (List ℕ)) → GoesStretch ticks emitted_lines ends most old mid had before
     → mid.state.halted ≡ false → mid.state.ticks ≡ old.state.ticks + ticks
-stretch_counted ticks told_lines ends most old mid had before goes runs =
+stretch_counted ticks emitted_lines ends most old mid had before goes runs =
     ap (λ (m : Machine). m.ticks) goes.are.state ∙ ticks_exact ticks old.state (sym (ap (λ (m : Machine). m.halted) goes.are.state) ∙ runs)
 
 -- it goes on
-pub stretch_on : (ticks told_lines : ℕ) (ends : Bool) (most : ℕ) (stepped : Stepped) (old mid new : Meaning) (had before got : Option (List ℕ))
-    → GoesStretch ticks told_lines ends most old mid had before → ends ≡ false
+pub stretch_on : (ticks emitted_lines : ℕ) (ends : Bool) (most : ℕ) (stepped : Stepped) (old mid new : Meaning) (had before got : Option (List ℕ))
+    → GoesStretch ticks emitted_lines ends most old mid had before → ends ≡ false
     → AreStepped stepped (most - ticks) mid.state new.state before got → stepped.lines ≤ 41 → new.kept ≡ kept_after mid.state stepped.ticks mid.kept
-    → GoesStretch (ticks + stepped.ticks) (told_lines + stepped.lines) stepped.ends most old new had got
-stretch_on ticks told_lines ends most stepped old mid new had before got goes more are few kept =
+    → GoesStretch (ticks + stepped.ticks) (emitted_lines + stepped.lines) stepped.ends most old new had got
+stretch_on ticks emitted_lines ends most stepped old mid new had before got goes more are few kept =
     let state : mid.state ≡ run old.state ticks = goes.are.state in
     let some : 0 < stepped.ticks = omega (arith, are.step.some, are.ticks) in
     let these : AreRun stepped.ticks stepped.lines mid.state new.state before got =
@@ -76,8 +76,8 @@ stretch_on ticks told_lines ends most stepped old mid new had before got goes mo
     record {
       within = omega (arith, are.step.within, are.ticks, goes.within);
       few = omega (arith, goes.few, few, some);
-      are = run_on old.state mid.state new.state told_lines stepped.lines ticks stepped.ticks had before got goes.are these;
-      quiet = quiet_on old.state mid.state ticks stepped.ticks state (still_quiet ticks told_lines ends most old mid had before goes more) are.quiet;
+      are = run_on old.state mid.state new.state emitted_lines stepped.lines ticks stepped.ticks had before got goes.are these;
+      quiet = quiet_on old.state mid.state ticks stepped.ticks state (still_quiet ticks emitted_lines ends most old mid had before goes more) are.quiet;
       last = λ any. run_from old.state mid.state ticks (ticks + stepped.ticks - 1) state (omega (arith, some))
           ∙ ap (λ (n : ℕ). ends_in (run mid.state n)) (rest some) ∙ are.ends;
       some = λ it. omega (arith, some);
@@ -91,22 +91,22 @@ stretch_on ticks told_lines ends most stepped old mid new had before got goes mo
     rest some = omega (arith, some)
 
 -- it is cut off
-pub stretch_cut : (ticks told_lines : ℕ) (ends : Bool) (most : ℕ) (old mid new : Meaning) (had before got : Option (List ℕ))
-    → GoesStretch ticks told_lines ends most old mid had before → ends ≡ false → IsStretchCut (most - ticks) mid.state new.state before got
+pub stretch_cut : (ticks emitted_lines : ℕ) (ends : Bool) (most : ℕ) (old mid new : Meaning) (had before got : Option (List ℕ))
+    → GoesStretch ticks emitted_lines ends most old mid had before → ends ≡ false → IsStretchCut (most - ticks) mid.state new.state before got
     → IsStretchCut most old.state new.state had got
-stretch_cut ticks told_lines ends most old mid new had before got goes more next = record {
+stretch_cut ticks emitted_lines ends most old mid new had before got goes more next = record {
   cut = record {
     done = ticks + next.cut.done;
     some = omega (arith, next.cut.some);
     within = omega (arith, next.cut.within, goes.within);
-    are = cut_on old.state mid.state new.state told_lines ticks next.cut.done had before got goes.are next.cut.are;
+    are = cut_on old.state mid.state new.state emitted_lines ticks next.cut.done had before got goes.are next.cut.are;
   };
-  quiet = quiet_on old.state mid.state ticks next.cut.done goes.are.state (still_quiet ticks told_lines ends most old mid had before goes more) next.quiet;
+  quiet = quiet_on old.state mid.state ticks next.cut.done goes.are.state (still_quiet ticks emitted_lines ends most old mid had before goes more) next.quiet;
 }
 
-pub stretch_cut_kept : (ticks told_lines : ℕ) (ends : Bool) (most : ℕ) (old mid new : Meaning) (had before : Option (List ℕ))
-    → GoesStretch ticks told_lines ends most old mid had before → KeepsLastTick (most - ticks) mid new → KeepsLastTick most old new
-stretch_cut_kept ticks told_lines ends most old mid new had before goes last =
+pub stretch_cut_kept : (ticks emitted_lines : ℕ) (ends : Bool) (most : ℕ) (old mid new : Meaning) (had before : Option (List ℕ))
+    → GoesStretch ticks emitted_lines ends most old mid had before → KeepsLastTick (most - ticks) mid new → KeepsLastTick most old new
+stretch_cut_kept ticks emitted_lines ends most old mid new had before goes last =
     let state : mid.state ≡ run old.state ticks = goes.are.state in
     record {
       done = ticks + last.done;
@@ -119,10 +119,10 @@ stretch_cut_kept ticks told_lines ends most old mid new had before goes last =
           ∙ sym (kept_add ticks last.done old.state old.kept);
     }
 
--- it has come to its end
-pub stretch_out : (ticks told_lines : ℕ) (ends : Bool) (most : ℕ) (old new : Meaning) (had got : Option (List ℕ)) → GoesStretch ticks told_lines ends most old new had got → 0 < ticks
-    → AreStepped (record { ticks = ticks; lines = told_lines; ends = ends }) most old.state new.state had got
-stretch_out ticks told_lines ends most old new had got goes some = record {
+-- it has reached its end
+pub stretch_out : (ticks emitted_lines : ℕ) (ends : Bool) (most : ℕ) (old new : Meaning) (had got : Option (List ℕ)) → GoesStretch ticks emitted_lines ends most old new had got → 0 < ticks
+    → AreStepped (record { ticks = ticks; lines = emitted_lines; ends = ends }) most old.state new.state had got
+stretch_out ticks emitted_lines ends most old new had got goes some = record {
   step = record { done = ticks; some = some; within = goes.within; are = goes.are };
   ticks = refl;
   quiet = goes.quiet;
@@ -170,7 +170,7 @@ is_stretched stepped most old new had got are whole = record {
     by true ends = inr (inr (are.ends ∙ ends))
     by false goes = ⊎_elim (λ less. inl (omega (arith, less, whole goes))) (λ from. inr (inl (omega (arith, from, whole goes)))) (cases_lt most left)
 
--- what they leave of each partition, and of what each was told
+-- what they leave of each partition, and of what each received
 pub stretch_alone : AllTicks → (done most : ℕ) (old new : Machine) (had got : Option (List ℕ)) → IsStretched done most old new had got → AreAlone done old new
 stretch_alone law done most old new had got are = ticks_alone law done old new are.state
 

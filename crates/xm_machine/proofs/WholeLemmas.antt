@@ -7,10 +7,10 @@ use Rattle.xm_report.specs.Report.{ReportLine, text_of, texts, texts-append}
 use Rattle.machine_model.specs.Lines.{end_line, end_lines, lines}
 use Rattle.machine_model.specs.Lists.{all_of}
 use Rattle.machine_model.specs.Machine.{Machine, run}
-use Rattle.slot_runs.specs.RunLemmas.{lines_add}
+use Rattle.span_model.specs.RunLemmas.{lines_add}
 use Rattle.xm_machine.proofs.FrontLemmas.{front_of_all}
 use Rattle.xm_machine.proofs.GoingLemmas.{lines_grow}
-use Rattle.tick_pieces.specs.KeptLemmas.{ticks_exact, ticks_fewer, ticks_most}
+use Rattle.tick_steps.specs.KeptLemmas.{ticks_exact, ticks_fewer, ticks_most}
 use Rattle.xm_machine.proofs.OutLemmas.{both_out, first_cut, one_cut, one_line, rest_cut}
 use Rattle.uart_board.specs.Heard.{heard_nothing}
 use Rattle.uart_board.specs.Views.{BoardView}
@@ -25,15 +25,15 @@ part_ends g = all_of (λ p ps. end_line p ps ∷ []) g.parts
 
 -- a record of how many lines went out
 pub record EndsOut (count : ℕ) (lines : List ReportLine) (had got : Option (List ℕ)) : Type 0 where
-  pub told : count ≡ length lines
+  pub printed : count ≡ length lines
   pub out : got ≡ grown had (texts lines)
 
 -- the last line, after the ends of the partitions
 pub last_out : (g : Machine) (count : ℕ) (had mid got : Option (List ℕ)) → count ≡ length (all_of (λ p ps. end_line p ps ∷ []) g.parts) → mid ≡ grown had (texts (all_of (λ p ps. end_line p ps ∷ []) g.parts))
     → got ≡ grown mid (text_of (last_line g)) → EndsOut (count + 1) (end_lines g) had got
 unfolding end_lines
-last_out g count had mid got told ends put = record {
-  told = omega (arith, told, length-append (part_ends g) (last_line g ∷ []));
+last_out g count had mid got printed ends put = record {
+  printed = omega (arith, printed, length-append (part_ends g) (last_line g ∷ []));
   out = both_out (part_ends g) (last_line g ∷ []) had mid got ends (one_line (last_line g) mid got put);
 }
 
@@ -66,7 +66,7 @@ length_whole : (g : Machine) (asked : ℕ) → length (report_of g asked) ≡ 1 
 unfolding report_of
 length_whole g asked = length-append (report_to g asked asked) (end_lines (run g asked)) ∙ omega arith
 
--- what a report has after its first so many ticks
+-- what a report has after its first this many ticks
 abbrev later_text : Machine → ℕ → ℕ → List ℕ
 later_text g asked done = texts (lines (run g done) (asked - done)) ++ texts (end_lines (run g asked))
 
@@ -110,9 +110,9 @@ up_to_end g asked had mid end first ticks =
     ticks ∙ ap (λ (m : Option (List ℕ)). grown m (texts (lines g asked))) first ∙ grown_grown had (text_of (first_line g asked)) (texts (lines g asked))
 
 -- the lines of the end did not go out whole
-pub end_cut : (g new : Machine) (asked told : ℕ) (had mid end got : Option (List ℕ)) (before after : BoardView) → mid ≡ grown had (text_of (first_line g asked)) → AreRun asked told g new mid end
+pub end_cut : (g new : Machine) (asked printed : ℕ) (had mid end got : Option (List ℕ)) (before after : BoardView) → mid ≡ grown had (text_of (first_line g asked)) → AreRun asked printed g new mid end
     → GrewByPrefix end (texts (end_lines new)) got → IsRunHeard g new before after → IsCutRun asked g new had got before after
-end_cut g new asked told had mid end got before after first ticks cut heard =
+end_cut g new asked printed had mid end got before after first ticks cut heard =
     let ends : GrewByPrefix end (texts (end_lines (run g asked))) got = subst (λ (x : Machine). GrewByPrefix end (texts (end_lines x)) got) ticks.state cut in
     record {
       report = front_of_all had end got (texts (report_to g asked asked)) (texts (end_lines (run g asked))) [] (texts (report_of g asked))
@@ -146,11 +146,11 @@ fewer_halted g new asked is fresh running = (fewer new.halted refl, halts new.ha
     halts false e stopped = absurd (cc)
 
 -- the whole report went out
-pub whole_out : (ran : Ran) (g new : Machine) (asked told ended : ℕ) (had mid end got : Option (List ℕ)) (before after : BoardView) → mid ≡ grown had (text_of (first_line g asked)) → AreRun asked told g new mid end
+pub whole_out : (ran : Ran) (g new : Machine) (asked printed ended : ℕ) (had mid end got : Option (List ℕ)) (before after : BoardView) → mid ≡ grown had (text_of (first_line g asked)) → AreRun asked printed g new mid end
     → ended ≡ length (end_lines new) → got ≡ grown end (texts (end_lines new))
-    → ran.ticks ≡ new.ticks → ran.halted ≡ new.halted → ran.lines ≡ 1 + told + ended → g.ticks ≡ 0 → g.halted ≡ false → IsRunHeard g new before after
+    → ran.ticks ≡ new.ticks → ran.halted ≡ new.halted → ran.lines ≡ 1 + printed + ended → g.ticks ≡ 0 → g.halted ≡ false → IsRunHeard g new before after
     → IsWholeRun ran asked g new had got before after
-whole_out ran g new asked told ended had mid end got before after first ticks ends out ran_ticks ran_halted ran_lines fresh running heard =
+whole_out ran g new asked printed ended had mid end got before after first ticks ends out ran_ticks ran_halted ran_lines fresh running heard =
     let both = fewer_halted g new asked ticks.state fresh running in
     record {
       state = ticks.state;

@@ -1,4 +1,4 @@
--- What ticks and runs leave of each partition: what it is alone, under what it was told.
+-- What ticks and runs leave of each partition: what it is alone, under what it received.
 use Rattle.std.specs.Prelude.{◌≡◌, ℕ, ◌<◌, ◌≤◌, [], ◌∷◌, ◌++◌, length, Some, Result, Ok, Err, slice_get}
 use Rattle.xm_report.specs.declared.output.WriteFault.{WriteFault}
 use Rattle.machine_model.specs.Alone.{alone_from, alone_lines, alone_said, alone_start}
@@ -11,7 +11,7 @@ use Rattle.machine_model.specs.View.{view_of}
 use Rattle.xm_machine.specs.Outcome.{report_of}
 use Rattle.xm_machine.specs.declared.run.Ran.{Ran}
 
--- so many ticks left of partition p what they leave of it alone under its script of them; its own lines of them and its console bytes are
+-- this many ticks left of partition p what they leave of it alone under its script of them; its own lines of them and its console bytes are
 -- those that it has alone
 pub record IsAlone (count : ℕ) (old new : Machine) (p : ℕ) (ps : PartitionState) : Type 0 where
   pub state : alone_part_at new p ≡ Some (alone_from (view_of old.system p) (part old p ps) (script old p count))
@@ -22,7 +22,7 @@ pub record IsAlone (count : ℕ) (old new : Machine) (p : ℕ) (ps : PartitionSt
 abbrev pub AreAlone : ℕ → Machine → Machine → Type 0
 AreAlone count old new = (p : ℕ) (ps : PartitionState) → slice_get old.parts p ≡ Some ps → IsAlone count old new p ps
 
--- a run that did so many of the ticks asked
+-- a run that did this many of the ticks asked
 pub record AreAloneUpTo (asked : ℕ) (old new : Machine) : Type 0 where
   pub ticks : ℕ
   pub within : ticks ≤ asked

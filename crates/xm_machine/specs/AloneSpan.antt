@@ -1,9 +1,9 @@
--- Many ticks of one partition of a machine without the others, in each of which it is told nothing but whether a slot of its own runs.
+-- Many ticks of one partition of a machine in isolation, in each of which it receives nothing but whether a slot of its own runs.
 use Rattle.std.specs.Prelude.{ℕ, ◌-◌, Bool, List, Option, Result, replicate}
 use Rattle.cue_scripts.specs.Entries.{bare_cue}
 use Rattle.machine_model.specs.Machine.{Machine}
 use Rattle.uart_board.specs.Views.{BoardView}
-use Rattle.lone_ticks.specs.LoneSpan.{AreSilent}
+use Rattle.replay_tick.specs.LoneSpan.{AreSilent}
 use Rattle.xm_machine.specs.AloneStep.{IsSaidAlone, StepsAlone}
 use Rattle.xm_machine.specs.declared.alone_span.AloneFault.{AloneFault}
 

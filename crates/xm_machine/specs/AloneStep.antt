@@ -1,4 +1,4 @@
--- One tick of one partition of a machine without the others: what it leaves of the partition's part, what it tells and what it refuses.
+-- One tick of one partition of a machine in isolation: what it leaves of the partition's part, what it prints and what it refuses.
 use Rattle.std.specs.Prelude.{◌≡◌, ℕ, false, if◌then◌else◌, List, [], ◌++◌, map, Option, Some, None, Result, Ok, Err}
 use Rattle.xm_outside.specs.Causes.{Rose}
 use Rattle.xm_outside.specs.Growth.{GrewByPrefix, grown}
@@ -8,23 +8,23 @@ use Rattle.machine_model.specs.Alone.{alone_step_lines, alone_step_said}
 use Rattle.machine_model.specs.Cue.{Cue}
 use Rattle.machine_model.specs.Lines.{has_console}
 use Rattle.machine_model.specs.Machine.{Machine}
-use Rattle.machine_model.specs.Told.{line_of}
+use Rattle.machine_model.specs.Emission.{line_of}
 use Rattle.machine_model.specs.View.{view_of}
-use Rattle.whole_system.specs.State.{memory_of}
-use Rattle.whole_system.specs.declared.served.Note.{Note}
-use Rattle.tick_pieces.specs.Work.{console_told}
-use Rattle.alone_passes.specs.Passes.{part_in}
-use Rattle.alone_passes.specs.Step.{IsLone}
-use Rattle.alone_passes.specs.Taking.{takes_cue}
+use Rattle.system_state.specs.State.{memory_of}
+use Rattle.system_state.specs.declared.served.Note.{Note}
+use Rattle.tick_steps.specs.Work.{console_emissions}
+use Rattle.replay_model.specs.Passes.{part_in}
+use Rattle.replay_model.specs.Step.{IsLone}
+use Rattle.replay_model.specs.Taking.{takes_cue}
 use Rattle.uart_board.specs.Heard.{IsHeard}
 use Rattle.uart_board.specs.Views.{BoardView}
 use Rattle.xm_machine.specs.Heard.{lines_to}
 use Rattle.xm_machine.specs.Outcome.{HasWriteCause}
-use Rattle.xm_machine.specs.Steps.{Tells}
+use Rattle.xm_machine.specs.Steps.{Prints}
 use Rattle.xm_machine.specs.declared.alone_span.AloneFault.{AloneFault}
 use Rattle.xm_machine.specs.declared.alone_span.AloneFault.TheVariants as fault
 
--- what a tick without the others answers: its lines went out; or it was done, and a prefix of its lines went out; or the partition cannot
+-- what a tick in isolation answers: its lines went out; or it was done, and a prefix of its lines went out; or the partition cannot
 -- take the cue
 abbrev pub StepsAlone : {T : Type 0} → Result T AloneFault → ℕ → Cue → Machine → Machine → Option (List ℕ) → Option (List ℕ) → Type 0
 StepsAlone (Ok done) p cue old new had got =
@@ -40,10 +40,10 @@ HasStepCause (Ok done) before now = now ≡ before
 HasStepCause (Err fault.Write) before now = Rose before now
 HasStepCause (Err fault.Cue) before now = now ≡ before
 
--- what lines that were to go out come to
-abbrev pub told_alone : Result ℕ WriteFault → Result (Unit {0}) AloneFault
-told_alone (Ok count) = Ok tt
-told_alone (Err unwritten) = Err fault.Write
+-- the outcome of lines that were to go out
+abbrev pub printed_alone : Result ℕ WriteFault → Result (Unit {0}) AloneFault
+printed_alone (Ok count) = Ok tt
+printed_alone (Err unwritten) = Err fault.Write
 
 -- what each UART gets of the console bytes of a partition's tick alone
 abbrev pub said_alone : Machine → ℕ → Cue → ℕ → List ℕ
@@ -55,15 +55,15 @@ IsSaidAlone (Ok done) p cue old before after = IsHeard (said_alone old p cue) be
 IsSaidAlone (Err fault.Write) p cue old before after = IsHeard (said_alone old p cue) before after
 IsSaidAlone (Err fault.Cue) p cue old before after = after ≡ before
 
--- what is reported of a tick that was done: bytes for the console that its note tells, and then these lines
-pub record IsToldDone (n p : ℕ) (note : Note) (g : Machine) (lines : List ReportLine) (result : Result (Unit {0}) AloneFault) (had got : Option (List ℕ)) (before now : ℕ) (old new : BoardView) : Type 0 where
+-- what is printed of a tick that was done: the bytes for the console that its note has, and then these lines
+pub record IsPrintedDone (n p : ℕ) (note : Note) (g : Machine) (lines : List ReportLine) (result : Result (Unit {0}) AloneFault) (had got : Option (List ℕ)) (before now : ℕ) (old new : BoardView) : Type 0 where
   pub ends : Result ℕ WriteFault
-  pub is : result ≡ told_alone ends
-  pub told : Tells ends (map (line_of n p) (console_told note (memory_of p g)) ++ lines) had got
+  pub is : result ≡ printed_alone ends
+  pub printed : Prints ends (map (line_of n p) (console_emissions note (memory_of p g)) ++ lines) had got
   pub cause : HasWriteCause ends before now
-  pub heard : IsHeard (lines_to g (map (line_of n p) (console_told note (memory_of p g)) ++ lines)) old new
+  pub heard : IsHeard (lines_to g (map (line_of n p) (console_emissions note (memory_of p g)) ++ lines)) old new
 
 -- the same, and nothing of one that was not
-abbrev pub IsToldAlone : Option Note → ℕ → ℕ → Machine → List ReportLine → Result (Unit {0}) AloneFault → Option (List ℕ) → Option (List ℕ) → ℕ → ℕ → BoardView → BoardView → Type 0
-IsToldAlone (Some note) n p g lines result had got before now old new = IsToldDone n p note g lines result had got before now old new
-IsToldAlone None n p g lines result had got before now old new = (result ≡ Err fault.Cue) × (got ≡ had) × (now ≡ before) × (new ≡ old)
+abbrev pub IsPrintedAlone : Option Note → ℕ → ℕ → Machine → List ReportLine → Result (Unit {0}) AloneFault → Option (List ℕ) → Option (List ℕ) → ℕ → ℕ → BoardView → BoardView → Type 0
+IsPrintedAlone (Some note) n p g lines result had got before now old new = IsPrintedDone n p note g lines result had got before now old new
+IsPrintedAlone None n p g lines result had got before now old new = (result ≡ Err fault.Cue) × (got ≡ had) × (now ≡ before) × (new ≡ old)

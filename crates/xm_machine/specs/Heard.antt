@@ -11,7 +11,7 @@ use Rattle.machine_model.specs.Machine.{Machine, run}
 abbrev pub console_to : Machine → ℕ → List ℕ → ℕ → List ℕ
 console_to g p bytes uart = if has_console g uart p then bytes else []
 
--- what a line says to a UART: the bytes that it tells, where they are for that console
+-- what a line writes to a UART: its bytes, where they are for that console
 abbrev pub line_to : Machine → ℕ → ReportLine → List ℕ
 line_to g uart (SystemLine parts plans ticks) = []
 line_to g uart (ConsoleLine n p bytes) = console_to g p bytes uart

@@ -28,11 +28,11 @@ first_line g asked = SystemLine (length g.system.conf.parts) (length g.system.co
 abbrev pub last_line : Machine → ReportLine
 last_line g = EndWhole g.halted g.clock.plan g.time g.ticks
 
--- the report of a run as far as its first so many ticks, without an end
+-- the report of a run as far as its first this many ticks, without an end
 abbrev pub report_to : Machine → ℕ → ℕ → List ReportLine
 report_to g asked ticks = first_line g asked ∷ lines g ticks
 
--- the report of a run of so many ticks
+-- the report of a run of this many ticks
 unfoldable pub report_of : Machine → ℕ → List ReportLine
 report_of g asked = report_to g asked asked ++ end_lines (run g asked)
 
@@ -48,7 +48,7 @@ pub record IsWholeRun (ran : Ran) (asked : ℕ) (old new : Machine) (had got : O
   pub fewer : (ran.ticks < asked) ↔ IsTrue ran.halted
   pub lines : ran.lines ≡ length (report_of old asked)
 
--- a run whose report the sink did not take whole: so many ticks were done, and the last is the one whose line was cut, or the last asked;
+-- a run whose report the sink did not take whole: this many ticks were done, and the last is the one whose line was cut, or the last asked;
 -- the state and what each UART of the board got are those of these ticks
 pub record IsCutRun (asked : ℕ) (old new : Machine) (had got : Option (List ℕ)) (before after : BoardView) : Type 0 where
   pub report : GrewByPrefix had (texts (report_of old asked)) got
@@ -59,7 +59,7 @@ pub record IsCutRun (asked : ℕ) (old new : Machine) (had got : Option (List �
   pub whole : (k : ℕ) → k < ticks → length (texts (report_to old asked k)) ≤ report.count
   pub cut : ticks < asked → report.count < length (texts (report_to old asked ticks))
 
--- what a run of so many ticks answers
+-- what a run of this many ticks answers
 abbrev pub IsRun : Result Ran WriteFault → ℕ → Machine → Machine → Option (List ℕ) → Option (List ℕ) → BoardView → BoardView → Type 0
 IsRun (Ok ran) asked old new had got before after = IsWholeRun ran asked old new had got before after
 IsRun (Err _) asked old new had got before after = IsCutRun asked old new had got before after

@@ -1,11 +1,11 @@
-//! How ticks of one partition without the others end.
+//! How ticks of one partition in isolation end.
 
 ghost use Rattle.std.specs.Prelude.{◌≡◌};
-ghost use Rattle.xm_machine.specs.AloneStep.{told_alone};
+ghost use Rattle.xm_machine.specs.AloneStep.{printed_alone};
 
 use xm_report::WriteFault;
 
-/// Ticks of one partition without the others that were done, one after the other.
+/// Ticks of one partition in isolation that were done, one after the other.
 #[derive(Clone, Copy, Debug, PartialEq, Eq)]
 pub struct AloneSpan {
     /// How many there were, with the last: at least one. All but the last print and say nothing.
@@ -14,7 +14,7 @@ pub struct AloneSpan {
     pub ended: Result<(), AloneFault>,
 }
 
-/// Why a tick of one partition without the others was not done, or not told.
+/// Why a tick of one partition in isolation was not done, or not printed.
 #[derive(Clone, Copy, Debug, PartialEq, Eq)]
 pub enum AloneFault {
     /// The partition cannot take its cue.
@@ -23,11 +23,11 @@ pub enum AloneFault {
     Write,
 }
 
-/// What a tick without the others comes to, whose lines were to go out.
-pub(crate) fn told_alone(told: Result<u64, WriteFault>) -> Result<(), AloneFault>
-    ensures { result ≡ told_alone told }
+/// The outcome of a tick in isolation, whose lines were to go out.
+pub(crate) fn printed_alone(printed: Result<u64, WriteFault>) -> Result<(), AloneFault>
+    ensures { result ≡ printed_alone printed }
 {
-    match told {
+    match printed {
         Ok(_) => Ok(()),
         Err(WriteFault) => Err(AloneFault::Write),
     }

@@ -1,8 +1,8 @@
 //! What a machine keeps of a tick.
 
-ghost use Rattle.tick_pieces.specs.Kept.{KeepsCues};
+ghost use Rattle.tick_steps.specs.Kept.{KeepsCues};
 
-/// What is kept of a tick tells each partition its cue.
+/// What is kept of a tick gives each partition its cue.
 pub fn keeps_cues()
     ensures law { KeepsCues }
 {}

@@ -15,5 +15,5 @@ pub use law::keeps_cues;
 pub use machine::Machine;
 pub use machine_model::two_runs;
 pub use run::Ran;
-pub use tick_pieces::{Cue, Sight, Traffic};
+pub use tick_steps::{Cue, Sight, Traffic};
 pub use xm_report::{Line, Move, WriteFault, put_line};

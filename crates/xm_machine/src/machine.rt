@@ -2,49 +2,49 @@
 
 ghost use Rattle.std.specs.Prelude.{◌≡◌, ◌+◌, ◌*◌, ◌<◌, ◌≤◌, false, All, IfOk, length};
 ghost use Rattle.cyclic_plans.specs.PlanClock.{started};
-ghost use Rattle.whole_system.specs.State.{with_inputs};
+ghost use Rattle.system_state.specs.State.{with_inputs};
 ghost use Rattle.core_files.specs.Length.{core_length_of};
 ghost use Rattle.machine_model.specs.CoreFile.{core_file};
 ghost use Rattle.machine_model.specs.Lines.{console, end_lines};
 ghost use Rattle.machine_model.specs.Machine.{start};
 ghost use Rattle.machine_model.specs.Partition.{reset};
-ghost use Rattle.machine_model.specs.Told.{AllReset};
+ghost use Rattle.machine_model.specs.Emission.{AllReset};
 ghost use Rattle.machine_model.specs.View.{view_of};
-ghost use Rattle.slot_runs.specs.Passes.{evented, part_at, with_part};
+ghost use Rattle.span_model.specs.Passes.{evented, part_at, with_part};
 ghost use Rattle.uart_board.specs.Heard.{IsHeard};
-ghost use Rattle.alone_passes.specs.Step.{IsOfSystem};
+ghost use Rattle.replay_model.specs.Step.{IsOfSystem};
 ghost use Rattle.cue_scripts.specs.Script.{IsCue};
 ghost use Rattle.xm_machine.specs.AloneSpan.{SpansAlone};
 ghost use Rattle.xm_machine.specs.AloneStep.{HasStepCause, IsSaidAlone, StepsAlone};
 ghost use Rattle.xm_machine.specs.Alone.{AreAlone, AreBootedAlone, RunsEachAlone};
-ghost use Rattle.tick_pieces.specs.CueValues.{cue_value};
-ghost use Rattle.xm_machine.specs.Cues.{AreCued, KeepsTicks, RunsCued, told_to};
+ghost use Rattle.tick_steps.specs.CueValues.{cue_value};
+ghost use Rattle.xm_machine.specs.Cues.{AreCued, KeepsTicks, RunsCued, last_received};
 ghost use Rattle.xm_machine.specs.Heard.{IsRunHeard};
-ghost use Rattle.tick_pieces.specs.Kept.{no_kept};
-ghost use Rattle.tick_pieces.specs.Machine.{IsCounted, IsMachine};
+ghost use Rattle.tick_steps.specs.Kept.{no_kept};
+ghost use Rattle.tick_steps.specs.Machine.{IsCounted, IsMachine};
 ghost use Rattle.xm_machine.specs.Outcome.{HasWriteCause, IsRun, IsTick, first_line, last_line};
-ghost use Rattle.xm_machine.specs.Steps.{RunsTicks, Tells};
+ghost use Rattle.xm_machine.specs.Steps.{RunsTicks, Prints};
 ghost use Rattle.xm_machine.specs.Stretch.{AreAllOfStretch, KeepsStepped, Steps, Stretches, StretchesAlone, StretchesCued, left_of};
 ghost use Rattle.xm_ports.specs.Channels.{shapes_of};
 ghost use Rattle.xm_report.specs.Report.{line_value};
 
 use crate::alone_span::{AloneFault, AloneSpan};
-use crate::report::{end_parts, tell, tell_alone};
+use crate::report::{end_parts, print_alone, print_tick};
 use crate::run::Ran;
 use crate::stretch::{Stepped, ends_stretch, stepped_by};
 use core_files::{core_into, core_length};
 use cyclic_plans::PlanClock;
 use hypercalls::{Inputs, Sys};
 use loaded_system::System;
-use lone_ticks::{span_alone, tick_alone};
 use machine_model::{
     all_ticks, boots_alone, keeps_facts, keeps_hardware_clock, keeps_numbers, keeps_plans,
     own_lines,
 };
+use replay_tick::{span_alone, tick_alone};
+use span_engine::{Engine, reset_all};
 use std::alloc::Global;
 use std::marker::Model;
-use system_ticks::{Kept, reset_all};
-use tick_pieces::{Cue, Lines, reset};
+use tick_steps::{Cue, Lines, reset};
 use uart_board::{Board, ViewBoard};
 use xm_base::{Memory, Mode, PartId, TICKS};
 use xm_outside::Sink;
@@ -56,13 +56,13 @@ use xm_report::{Line, WriteFault, put_line};
 pub struct Machine {
     sys: Sys,
     lines: Lines,
-    kept: Kept,
+    kept: Engine,
 }
 
 impl Model for Machine {
     ghost use Rattle.std.specs.Coded.{codes};
     ghost use Rattle.guest_bus.specs.Memory.{memory_code};
-    ghost use Rattle.tick_pieces.specs.Machine.{IsMachine};
+    ghost use Rattle.tick_steps.specs.Machine.{IsMachine};
     ghost use Rattle.xm_machine.specs.Machine.{Meaning};
 
     ghost Value = { Meaning };
@@ -88,7 +88,7 @@ impl Machine {
         Ok(Machine {
             sys: Sys::new(alloc, system, inputs)?,
             lines: Lines::new(alloc)?,
-            kept: Kept::new(alloc)?,
+            kept: Engine::new(alloc)?,
         })
     }
 
@@ -123,11 +123,11 @@ impl Machine {
         self.sys.halted()
     }
 
-    /// What partition `p` was told in the last tick that was done. Ticks of a machine whose hypervisor has halted are none, and a reset
+    /// What partition `p` received in the last tick that was done. Ticks of a machine whose hypervisor has halted are none, and a reset
     /// from without is none.
     pub fn cue(&self, p: PartId) -> Cue<'_>
         requires { p < length self.now.state.parts }
-        ensures { cue_value result ≡ told_to self.now p }
+        ensures { cue_value result ≡ last_received self.now p }
     {
         self.kept.cue(self.sys.conf(), p)
     }
@@ -151,8 +151,8 @@ impl Machine {
         Ok(())
     }
 
-    /// Ticks of the slot or gap that it is, at most so many, up to and with the first whose partition reaches beyond itself by more than a
-    /// message that it puts or takes. Tells how many they were, with the one in which the hypervisor halts. Their lines go out, and their
+    /// At most this many ticks of the slot or gap that it is, up to and with the first whose partition reaches beyond itself by more than a
+    /// message that it puts or takes. Answers how many they were, with the one in which the hypervisor halts. Their lines go out, and their
     /// console bytes go to their UARTs. After `WriteFault` the tick in hand was done whole, its bytes were said, and no later one was
     /// begun.
     pub fn stretch<O: Sink>(
@@ -179,7 +179,7 @@ impl Machine {
         }
     }
 
-    /// The run of so many ticks, with its whole report: the first line, the ticks' lines and the lines of the end. Console bytes go to
+    /// The run of this many ticks, with its whole report: the first line, the ticks' lines and the lines of the end. Console bytes go to
     /// their
     /// UARTs. It ends with the tick in which the hypervisor halts. After `WriteFault` the tick in hand was done whole, its bytes were said,
     /// and no later one was begun; where the first line failed, none was.
@@ -205,16 +205,16 @@ impl Machine {
         own_lines();
         keeps_numbers();
         put_line(out, &first_line(&self.sys, ticks))?;
-        let told = self.run_ticks(ticks, out, board)?;
+        let printed = self.run_ticks(ticks, out, board)?;
         let ended = self.end(out)?;
         Ok(Ran {
             ticks: self.done(),
             halted: self.halted(),
-            lines: 1 + told + ended,
+            lines: 1 + printed + ended,
         })
     }
 
-    /// One tick of partition `p` without the others: it does its own work, and is told by the cue what others did. Its lines go out, and
+    /// One tick of partition `p` in isolation: it does its own work, and receives by the cue what others did. Its lines go out, and
     /// its console bytes go to their UART. `Cue` comes where the partition cannot take the cue, and then another tick or a part of one was
     /// done; after `Write` the tick was done whole. What the other partitions do, and the plan, is left open.
     pub fn step_alone<O: Sink>(
@@ -238,10 +238,10 @@ impl Machine {
         self.lines.clear();
         let n = self.sys.ticks();
         let done = tick_alone(&mut self.sys, &mut self.lines, p, cue);
-        tell_alone(&self.sys, n, p, done, &self.lines, out, board)
+        print_alone(&self.sys, n, p, done, &self.lines, out, board)
     }
 
-    /// Ticks of partition `p` without the others, at least one and at most so many, in each of which it is told nothing but whether a
+    /// At least one and at most this many ticks of partition `p` in isolation, in each of which it receives nothing but whether a
     /// slot of its own runs. Only the last may print and say something; it ends as that of `step_alone`.
     pub fn span_alone<O: Sink>(
         &mut self,
@@ -267,7 +267,7 @@ impl Machine {
         let begun = self.sys.ticks();
         let span = span_alone(&mut self.sys, &mut self.lines, p, own, most);
         let last = begun + span.ticks - 1;
-        let ended = tell_alone(&self.sys, last, p, span.told, &self.lines, out, board);
+        let ended = print_alone(&self.sys, last, p, span.emitted, &self.lines, out, board);
         AloneSpan {
             ticks: span.ticks,
             ended,
@@ -313,7 +313,7 @@ impl Machine {
         self.sys.set_now(0);
     }
 
-    // Ticks, at most so many, up to the first of which something is told. Its lines go out, and its console bytes go to their UART.
+    // At most this many ticks, up to the first that emits something. Its lines go out, and its console bytes go to their UART.
     fn step<O: Sink>(
         &mut self,
         most: u64,
@@ -341,7 +341,7 @@ impl Machine {
         let ticks = span.ticks;
         let ends = ends_stretch(span.note, span.reach);
         stepped_by(
-            tell(
+            print_tick(
                 &self.sys,
                 last,
                 span.part,
@@ -355,7 +355,7 @@ impl Machine {
         )
     }
 
-    // All ticks of a stretch, so many at most.
+    // All ticks of a stretch, at most this many.
     fn run_stretch<O: Sink>(
         &mut self,
         most: u64,
@@ -388,7 +388,7 @@ impl Machine {
         Ok(Stepped { ticks, lines, ends })
     }
 
-    // Ticks up to so many in all, or to the one in which the hypervisor halts, and how many lines they told.
+    // Ticks up to this many in all, or to the one in which the hypervisor halts, and how many lines they printed.
     fn run_ticks<O: Sink>(
         &mut self,
         ticks: u64,
@@ -400,24 +400,24 @@ impl Machine {
         requires most { ticks ≤ TICKS }
         ensures run { RunsTicks result ticks self.old.state self.new.state (O.got out.old) (O.got out.new) }
         ensures kept { KeepsTicks result ticks self.old self.new }
-        ensures few { IfOk result (λ told. told ≤ 41 * ticks) }
+        ensures few { IfOk result (λ printed. printed ≤ 41 * ticks) }
         ensures cause { HasWriteCause result (O.faults out.old) (O.faults out.new) }
         ensures heard { IsRunHeard self.old.state self.new.state (⟦<Board as ViewBoard>⟧.board_view board.old) (⟦<Board as ViewBoard>⟧.board_view board.new) }
         ensures counters { IsCounted self.new.state }
     {
         keeps_numbers();
-        let mut told = 0;
+        let mut printed = 0;
         while !self.sys.halted() && self.sys.ticks() < ticks {
             let left = ticks - self.sys.ticks();
             let next = self.step(left, out, board)?;
-            told += next.lines;
+            printed += next.lines;
         }
-        Ok(told)
+        Ok(printed)
     }
 
     // The lines of the end, and how many they are.
     fn end<O: Sink>(&self, out: &mut O) -> Result<u64, WriteFault>
-        ensures told { Tells result (end_lines self.now.state) (O.got out.old) (O.got out.new) }
+        ensures printed { Prints result (end_lines self.now.state) (O.got out.old) (O.got out.new) }
         ensures few { IfOk result (λ ended. ended ≤ 33) }
         ensures cause { HasWriteCause result (O.faults out.old) (O.faults out.new) }
     {

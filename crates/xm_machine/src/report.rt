@@ -2,34 +2,34 @@
 
 ghost use Rattle.std.specs.Prelude.{◌≡◌, ◌+◌, ◌-◌, ◌<◌, ◌≤◌, ◌∷◌, ◌++◌, [], All, IfOk, IfSome, length, map, true};
 ghost use Rattle.guest_bus.specs.Memory.{all_from, bytes_at, is_readable};
-ghost use Rattle.whole_system.specs.Serving.{CanBeTold};
-ghost use Rattle.whole_system.specs.State.{areas_in, memory_of};
+ghost use Rattle.system_state.specs.Serving.{CanBeEmitted};
+ghost use Rattle.system_state.specs.State.{areas_in, memory_of};
 ghost use Rattle.machine_model.specs.Lines.{end_line};
 ghost use Rattle.machine_model.specs.Lists.{all_of};
-ghost use Rattle.machine_model.specs.Told as told;
+ghost use Rattle.machine_model.specs.Emission as emission;
 ghost use Rattle.machine_model.specs.View.{part_of};
-ghost use Rattle.slot_runs.specs.Passes.{part_at};
+ghost use Rattle.span_model.specs.Passes.{part_at};
 ghost use Rattle.uart_board.specs.Heard.{IsHeard};
-ghost use Rattle.xm_machine.specs.AloneStep.{IsToldAlone};
+ghost use Rattle.xm_machine.specs.AloneStep.{IsPrintedAlone};
 ghost use Rattle.xm_machine.specs.Heard.{console_to, lines_to};
 ghost use Rattle.xm_machine.specs.Outcome.{HasWriteCause};
-ghost use Rattle.xm_machine.specs.Steps.{Tells};
-ghost use Rattle.tick_pieces.specs.Work.{console_told};
+ghost use Rattle.xm_machine.specs.Steps.{Prints};
+ghost use Rattle.tick_steps.specs.Work.{console_emissions};
 ghost use Rattle.xm_report.specs.Report.{IsShort, line_value};
 
-use crate::alone_span::{AloneFault, told_alone};
+use crate::alone_span::{AloneFault, printed_alone};
 use hypercalls::{Note, Sys};
-use tick_pieces::Lines;
+use system_state::read_memory;
+use tick_steps::Lines;
 use uart_board::{Board, ViewBoard};
-use whole_system::read_memory;
 use xm_base::{CONSOLE_BYTES, PartId};
 use xm_outside::Sink;
 use xm_report::{Line, WriteFault, put_line};
 
-/// Puts out what there is to tell of tick n: the bytes that partition `p` wrote to its console, where its note tells any, and then these
-/// lines. Tells how many lines that was. Those bytes are said to the UART of the console first.
+/// Puts out what tick n emits: the bytes that partition `p` wrote to its console, where its note has any, and then these
+/// lines. Answers how many lines that was. Those bytes are written to the UART of the console first.
 #[inline(always)]
-pub(crate) fn tell<O: Sink>(
+pub(crate) fn print_tick<O: Sink>(
     sys: &Sys,
     n: u64,
     p: PartId,
@@ -39,21 +39,21 @@ pub(crate) fn tell<O: Sink>(
     board: &mut Board,
 ) -> Result<u64, WriteFault>
     requires partition { p < length sys.now.machine.parts }
-    requires readable { CanBeTold note (areas_in p sys.now.machine) }
+    requires readable { CanBeEmitted note (areas_in p sys.now.machine) }
     requires few { length lines.now ≤ 40 }
-    ensures told { Tells result (map (told.line_of n p) (console_told note (memory_of p sys.now.machine)) ++ lines.now) (O.got out.old) (O.got out.new) }
+    ensures printed { Prints result (map (emission.line_of n p) (console_emissions note (memory_of p sys.now.machine)) ++ lines.now) (O.got out.old) (O.got out.new) }
     ensures few { IfOk result (λ count. count ≤ 41) }
     ensures cause { HasWriteCause result (O.faults out.old) (O.faults out.new) }
-    ensures heard { IsHeard (lines_to sys.now.machine (map (told.line_of n p) (console_told note (memory_of p sys.now.machine)) ++ lines.now)) (⟦<Board as ViewBoard>⟧.board_view board.old) (⟦<Board as ViewBoard>⟧.board_view board.new) }
+    ensures heard { IsHeard (lines_to sys.now.machine (map (emission.line_of n p) (console_emissions note (memory_of p sys.now.machine)) ++ lines.now)) (⟦<Board as ViewBoard>⟧.board_view board.old) (⟦<Board as ViewBoard>⟧.board_view board.new) }
 {
     let rest = lines.as_slice();
-    let console = tell_console(sys, n, p, note, out, board)?;
+    let console = print_console(sys, n, p, note, out, board)?;
     let others = put_all(out, rest)?;
     Ok(console + others)
 }
 
-/// The same of tick n of partition `p` without the others, where it was done and its note is there; else nothing.
-pub(crate) fn tell_alone<O: Sink>(
+/// The same of tick n of partition `p` in isolation, where it was done and its note is there; else nothing.
+pub(crate) fn print_alone<O: Sink>(
     sys: &Sys,
     n: u64,
     p: PartId,
@@ -63,19 +63,19 @@ pub(crate) fn tell_alone<O: Sink>(
     board: &mut Board,
 ) -> Result<(), AloneFault>
     requires partition { p < length sys.now.machine.parts }
-    requires readable { IfSome done (λ note. CanBeTold note (areas_in p sys.now.machine)) }
+    requires readable { IfSome done (λ note. CanBeEmitted note (areas_in p sys.now.machine)) }
     requires few { IfSome done (λ note. length lines.now ≤ 40) }
-    ensures told { IsToldAlone done n p sys.now.machine lines.now result (O.got out.old) (O.got out.new) (O.faults out.old) (O.faults out.new) (⟦<Board as ViewBoard>⟧.board_view board.old) (⟦<Board as ViewBoard>⟧.board_view board.new) }
+    ensures printed { IsPrintedAlone done n p sys.now.machine lines.now result (O.got out.old) (O.got out.new) (O.faults out.old) (O.faults out.new) (⟦<Board as ViewBoard>⟧.board_view board.old) (⟦<Board as ViewBoard>⟧.board_view board.new) }
 {
     match done {
-        Some(note) => told_alone(tell(sys, n, p, note, lines, out, board)),
+        Some(note) => printed_alone(print_tick(sys, n, p, note, lines, out, board)),
         None => Err(AloneFault::Cue),
     }
 }
 
-// Says the bytes for the console to its UART and puts out their line, where the note tells any.
+// Writes the bytes for the console to its UART and puts out their line, where the note has any.
 #[inline(always)]
-fn tell_console<O: Sink>(
+fn print_console<O: Sink>(
     sys: &Sys,
     n: u64,
     p: PartId,
@@ -84,11 +84,11 @@ fn tell_console<O: Sink>(
     board: &mut Board,
 ) -> Result<u64, WriteFault>
     requires partition { p < length sys.now.machine.parts }
-    requires readable { CanBeTold note (areas_in p sys.now.machine) }
-    ensures told { Tells result (map (told.line_of n p) (console_told note (memory_of p sys.now.machine))) (O.got out.old) (O.got out.new) }
+    requires readable { CanBeEmitted note (areas_in p sys.now.machine) }
+    ensures printed { Prints result (map (emission.line_of n p) (console_emissions note (memory_of p sys.now.machine))) (O.got out.old) (O.got out.new) }
     ensures few { IfOk result (λ count. count ≤ 1) }
     ensures cause { HasWriteCause result (O.faults out.old) (O.faults out.new) }
-    ensures heard { IsHeard (lines_to sys.now.machine (map (told.line_of n p) (console_told note (memory_of p sys.now.machine)))) (⟦<Board as ViewBoard>⟧.board_view board.old) (⟦<Board as ViewBoard>⟧.board_view board.new) }
+    ensures heard { IsHeard (lines_to sys.now.machine (map (emission.line_of n p) (console_emissions note (memory_of p sys.now.machine)))) (⟦<Board as ViewBoard>⟧.board_view board.old) (⟦<Board as ViewBoard>⟧.board_view board.new) }
 {
     match note {
         Note::Console { at, size } => put_console(sys, n, p, at, size, out, board),
@@ -111,7 +111,7 @@ fn put_console<O: Sink>(
     requires some { 0 < size }
     requires few { size ≤ CONSOLE_BYTES }
     requires readable { all_from (is_readable (areas_in p sys.now.machine)) at size ≡ true }
-    ensures told { Tells result (told.line_of n p (told.Console (bytes_at (memory_of p sys.now.machine) at size)) ∷ []) (O.got out.old) (O.got out.new) }
+    ensures printed { Prints result (emission.line_of n p (emission.Console (bytes_at (memory_of p sys.now.machine) at size)) ∷ []) (O.got out.old) (O.got out.new) }
     ensures few { IfOk result (λ count. count ≤ 1) }
     ensures cause { HasWriteCause result (O.faults out.old) (O.faults out.new) }
     ensures heard { IsHeard (console_to sys.now.machine p (bytes_at (memory_of p sys.now.machine) at size)) (⟦<Board as ViewBoard>⟧.board_view board.old) (⟦<Board as ViewBoard>⟧.board_view board.new) }
@@ -151,7 +151,7 @@ fn console_of(sys: &Sys, p: PartId) -> Option<u8>
 // Puts out lines, and answers how many.
 fn put_all<O: Sink>(out: &mut O, lines: &[Line<'_>]) -> Result<u64, WriteFault>
     requires short { All IsShort (map line_value lines.now) }
-    ensures told { Tells result (map line_value lines.now) (O.got out.old) (O.got out.new) }
+    ensures printed { Prints result (map line_value lines.now) (O.got out.old) (O.got out.new) }
     ensures count { IfOk result (λ count. count ≡ length lines.now) }
     ensures cause { HasWriteCause result (O.faults out.old) (O.faults out.new) }
 {
@@ -165,8 +165,8 @@ fn put_all<O: Sink>(out: &mut O, lines: &[Line<'_>]) -> Result<u64, WriteFault>
 
 /// Puts out how each partition stands at the end, and answers how many lines that was.
 pub(crate) fn end_parts<O: Sink>(sys: &Sys, out: &mut O) -> Result<u64, WriteFault>
-    ensures told { Tells result (all_of (λ p ps. end_line p ps ∷ []) sys.now.machine.parts) (O.got out.old) (O.got out.new) }
-    ensures few { IfOk result (λ told. told ≤ 32) }
+    ensures printed { Prints result (all_of (λ p ps. end_line p ps ∷ []) sys.now.machine.parts) (O.got out.old) (O.got out.new) }
+    ensures few { IfOk result (λ printed. printed ≤ 32) }
     ensures cause { HasWriteCause result (O.faults out.old) (O.faults out.new) }
 {
     let mut p = 0;

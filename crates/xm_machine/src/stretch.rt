@@ -2,14 +2,14 @@
 
 ghost use Rattle.std.specs.Prelude.{◌≡◌};
 ghost use Rattle.machine_model.specs.Health.{done_to_all};
-ghost use Rattle.tick_pieces.specs.Quiet.{ends_stretch};
+ghost use Rattle.tick_steps.specs.Quiet.{ends_stretch};
 ghost use Rattle.xm_machine.specs.Stretch.{stepped_by};
-ghost use Rattle.tick_pieces.specs.Span.{ends_so, notes_signal};
-ghost use Rattle.tick_pieces.specs.Work.{act_beyond};
+ghost use Rattle.tick_steps.specs.Span.{ends_so, notes_signal};
+ghost use Rattle.tick_steps.specs.Work.{act_beyond};
 
 use health_monitor::Whole;
 use hypercalls::Note;
-use tick_pieces::Beyond;
+use tick_steps::Beyond;
 use xm_report::WriteFault;
 
 /// Ticks that were done, of which only the last may have an act that ends a stretch.
@@ -17,27 +17,27 @@ use xm_report::WriteFault;
 pub(crate) struct Stepped {
     /// How many there were.
     pub(crate) ticks: u64,
-    /// The lines that they told.
+    /// The lines that they printed.
     pub(crate) lines: u64,
     /// Whether the act of the last ends a stretch.
     pub(crate) ends: bool,
 }
 
-/// What such ticks come to: their lines went out, and so many they were, or they were cut off.
+/// The outcome of such ticks: their lines went out, and this is their number, or they were cut off.
 pub(crate) fn stepped_by(
-    told: Result<u64, WriteFault>,
+    printed: Result<u64, WriteFault>,
     ticks: u64,
     ends: bool,
 ) -> Result<Stepped, WriteFault>
-    ensures { result ≡ stepped_by told ticks ends }
+    ensures { result ≡ stepped_by printed ticks ends }
 {
-    match told {
+    match printed {
         Ok(lines) => Ok(Stepped { ticks, lines, ends }),
         Err(fault) => Err(fault),
     }
 }
 
-/// Whether an act that is told by this note and reaches so beyond its partition ends a stretch.
+/// Whether an act that this note reports and that reaches so beyond its partition ends a stretch.
 pub(crate) fn ends_stretch(note: Note, reach: Beyond) -> bool
     ensures { result ≡ ends_so note reach }
 {

@@ -4,7 +4,7 @@ use Rattle.std.proofs.Math.Seq.{take-add}
 use Rattle.std.proofs.lemmas.List.{take_rest}
 use Rattle.xm_outside.specs.Growth.{grown, grown_grown}
 
--- so many bytes were got, and then more of those that follow them
+-- this many bytes were got, and then more of those that follow them
 pub taken_more : (old mid new : Option (List ℕ)) (bytes : List ℕ) (done more : ℕ) → mid ≡ grown old (take done bytes) → new ≡ grown mid (take more (take (length bytes - done) (drop done bytes))) → new ≡ grown old (take (done + more) bytes)
 taken_more old mid new bytes done more first next =
     next ∙ ap (λ m. grown m (take more (take (length bytes - done) (drop done bytes)))) first

@@ -1,4 +1,4 @@
--- The files of a store, where it tells them, and what a read and a write do to them.
+-- The files of a store, where they are known, and what a read and a write do to them.
 use Rattle.std.specs.Prelude.{◌≡◌, ◌≢◌, ℕ, ◌+◌, List, take, Option, Some, None, Result, Ok, Err}
 use Rattle.std.specs.FinMap.{FinMap, get, insert}
 use Rattle.std.specs.Ordering.{nat_cmp}
@@ -10,7 +10,7 @@ abbrev pub Files : Type 0
 Files = FinMap (slice_cmp nat_cmp) (List ℕ)
 
 -- the bytes are those of the file with this name, or its first `most + 1` where it has more;
--- of a store that tells no files nothing is said
+-- of a store whose files are not known nothing is said
 abbrev pub ReadsFile : Option Files → List ℕ → ℕ → List ℕ → Type 0
 ReadsFile None name most bytes = Unit {0}
 ReadsFile (Some files) name most bytes = on (take (most + 1)) (get files name) ≡ Some bytes

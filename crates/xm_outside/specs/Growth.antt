@@ -4,12 +4,12 @@ use Rattle.std.proofs.Common.{sym, ◌∙◌, ap, arith, append_assoc, length-ap
 use Rattle.std.proofs.Math.Seq.{take-append-add}
 use Rattle.std.proofs.lemmas.List.{append-nil, take-append-le}
 
--- grown by bytes at its end; a device that reports nothing goes on telling nothing
+-- grown by bytes at its end; what is not known of a device stays unknown
 abbrev pub grown : Option (List ℕ) → List ℕ → Option (List ℕ)
 grown None bytes = None
 grown (Some got) bytes = Some (got ++ bytes)
 
--- one write: so many bytes of the piece are taken, and none after a fault
+-- one write: this many bytes of the piece are taken, and none after a fault
 abbrev pub TakesPiece : {E : Type 0} → Result ℕ E → Option (List ℕ) → List ℕ → Option (List ℕ) → Type 0
 TakesPiece (Ok count) old piece new = new ≡ grown old (take count piece)
 TakesPiece (Err _) old piece new = new ≡ old

@@ -11,7 +11,7 @@ pub record UartState : Type 0 where
   pub faults : ℕ
   pub starved : ℕ
 
--- a UART that got nothing, is to fail at these calls and keeps so many bytes of each
+-- a UART that got nothing, is to fail at these calls and keeps this many bytes of each
 abbrev pub unused : List ℕ → ℕ → UartState
 unused fails keep = record { got = []; fails = fails; keep = keep; calls = 0; faults = 0; starved = 0 }
 
@@ -20,6 +20,6 @@ abbrev pub IsListed : UartState → Type 0
 IsListed uart = Contains uart.fails uart.calls
 
 -- what it got after a call that failed: the first of the bytes where the call was to fail,
--- and nothing more where there was no memory for them
+-- and nothing more where memory runs out for them
 abbrev pub Keeps : UartState → List ℕ → List ℕ → Type 0
 Keeps uart bytes got = (IsListed uart × (got ≡ uart.got ++ take uart.keep bytes)) ⊎ (got ≡ uart.got)

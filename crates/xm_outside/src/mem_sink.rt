@@ -1,4 +1,4 @@
-//! A sink in memory that keeps what it gets, and fails where it is told to.
+//! A sink in memory that keeps what it gets, and fails where its test asks for it.
 
 ghost use Rattle.std.specs.Prelude.{◌≡◌, ◌<◌, ◌≤◌, ◌⊎◌, Some, IfOk, OnOk, OnErr, IsErr, length, min};
 ghost use Rattle.xm_outside.specs.Causes.{HasCause, Rose, counted};

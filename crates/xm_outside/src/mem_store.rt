@@ -1,4 +1,4 @@
-//! A store in memory that fails where it is told to.
+//! A store in memory that fails where its test asks for it.
 
 ghost use Rattle.std.specs.Prelude.{◌≡◌, ◌+◌, ◌^◌, ◌<◌, ◌≤◌, ◌⊎◌, ◌↔◌, Option, Some, None, IfOk, OnOk, OnErr, IsErr, IsErrOf, IsTrue, take, vec_len, option_copied};
 ghost use Rattle.std.specs.FinMap as map;

@@ -1,4 +1,4 @@
-//! A UART in memory that keeps what it gets, and fails where it is told to.
+//! A UART in memory that keeps what it gets, and fails where its test asks for it.
 
 ghost use Rattle.std.specs.Prelude.{◌≡◌, ◌⊎◌, ◌↔◌, Some, OnOk, OnErr, IsErr, IsTrue};
 ghost use Rattle.xm_outside.specs.Causes.{HasCause, Rose, counted};
@@ -10,7 +10,7 @@ use crate::uart::Uart;
 use std::alloc::Global;
 use std::marker::Model;
 
-/// A UART that keeps what it gets. It fails at the calls whose numbers it was given, and keeps at most so many
+/// A UART that keeps what it gets. It fails at the calls whose numbers it was given, and keeps at most this many
 /// bytes of such a call.
 #[derive(Debug, Drop)]
 pub struct MemUart {

@@ -17,7 +17,7 @@ pub enum StoreFault {
     Failed,
     /// No file has that name.
     Absent,
-    /// There was no memory for the bytes.
+    /// Memory ran out for the bytes.
     Memory,
 }
 

@@ -1,4 +1,4 @@
--- The channels as they are kept and the table that they come to.
+-- The channels as they are kept and the table that they make.
 use Rattle.std.proofs.Common.{◌≡◌, ℕ, zero, suc, ◌+◌, List, [], ◌∷◌, ◌++◌, length, map, take, drop, get_or, set, Option, None, Some, refl, sym, ap, ◌∙◌, add-one}
 use Rattle.std.specs.Prelude.{◌↔◌, slice_get, option_map, IsSomeAnd, IsNone, IfNone, OnSome, Result, Ok, Err, OnOk, OnErr, IsErr}
 use Rattle.xm_ports.specs.Channels.{Shape, Content, ChannelTable, Sampling, Queuing, changed, with_content, cleared, put, first_taken, messages_of, first_message, most_of, HasQueue, FitsChannel, IsFull, IsTable}

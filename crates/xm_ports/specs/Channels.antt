@@ -111,7 +111,7 @@ HasSampling c table = IsSomeAnd (slice_get table.shapes c) (λ shape. IsSampling
 abbrev pub HasQueue : ℕ → ChannelTable → Type 0
 HasQueue c table = IsSomeAnd (slice_get table.shapes c) (λ shape. IsQueuing shape.kind)
 
--- bytes are a message where one has so many bytes at most: 1 or more, and no more than that
+-- bytes are a message where one has this many bytes at most: 1 or more, and no more than that
 pub record IsMessage (most : ℕ) (bytes : List ℕ) : Type 0 where
   pub some : 1 ≤ length bytes
   pub fit : length bytes ≤ most
@@ -136,12 +136,12 @@ pub record IsShape (shape : Shape) : Type 0 where
   pub few : shape.length ≤ 4096
   pub most : HasMost shape.kind
 
--- messages wait in a queue of so many messages and of so many bytes each, at most
+-- messages wait in a queue of this many messages and of this many bytes each, at most
 pub record IsQueue (room most : ℕ) (messages : List (List ℕ)) : Type 0 where
   pub few : length messages ≤ most
   pub each : All (IsMessage room) messages
 
--- a content is one of a kind of channel, with messages of so many bytes at most
+-- a content is one of a kind of channel, with messages of this many bytes at most
 abbrev pub SuitsKind : ChanKind → ℕ → Content → Type 0
 SuitsKind (chan_kind.Sampling refresh) room (Sampling sample) = IfSome sample (λ held. IsMessage room held.bytes)
 SuitsKind (chan_kind.Sampling refresh) room (Queuing messages) = ⊥

@@ -1,4 +1,4 @@
--- How the channels are kept: rooms for messages, and the shape and the content that these come to.
+-- How the channels are kept: rooms for messages, and the shape and the content that these make.
 use Rattle.std.specs.Prelude.{◌≡◌, ℕ, ◌+◌, ◌≤◌, List, length, map, All, Option, Some, None}
 use Rattle.xm_ports.specs.Channels.{HeldSample}
 
@@ -28,11 +28,11 @@ sample_in (Some time) room = Some record { time = time; bytes = room.bytes }
 abbrev pub messages_in : List Room → List (List ℕ)
 messages_in rooms = map (λ room. room.bytes) rooms
 
--- rooms for so many bytes each
+-- rooms for this many bytes each
 abbrev pub AreRooms : ℕ → List Room → Type 0
 AreRooms most rooms = All (λ room. room.most ≡ most) rooms
 
--- rooms for so many bytes each, in a place for so many rooms
+-- rooms for this many bytes each, in a place for this many rooms
 pub record HaveRoom (most room capacity : ℕ) (rooms : List Room) : Type 0 where
   pub sized : AreRooms room rooms
   pub reserved : most ≤ capacity

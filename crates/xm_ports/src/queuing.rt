@@ -34,7 +34,7 @@ impl Model for QueuingChannel {
 }
 
 impl QueuingChannel {
-    /// An empty queue for so many messages of at most so many bytes.
+    /// An empty queue for this many messages of at most this many bytes.
     pub(crate) fn new(alloc: Global, most: u8, length: u16) -> Result<QueuingChannel, Memory>
         ensures value { IfOk result (λ state. state ≡ record { most = most; length = length; messages = [] }) }
     {
@@ -107,7 +107,7 @@ impl QueuingChannel {
     }
 }
 
-/// So many rooms for so many bytes each.
+/// This many rooms for this many bytes each.
 fn rooms(alloc: Global, most: u8, room: u16) -> Result<Vec<Room>, Memory>
     ensures rooms { IfOk result (λ rooms. HaveRoom most room (vec_capacity rooms) rooms.items) }
     ensures count { IfOk result (λ rooms. length rooms.items ≡ most) }

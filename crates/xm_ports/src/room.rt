@@ -26,7 +26,7 @@ impl Model for Room {
 }
 
 impl Room {
-    /// A place for so many bytes, without any.
+    /// A place for this many bytes, without any.
     pub(crate) fn new(alloc: Global, most: u16) -> Result<Room, Memory>
         ensures value { IfOk result (λ room. room ≡ record { bytes = []; most = most }) }
     {
@@ -41,7 +41,7 @@ impl Room {
         &self.bytes
     }
 
-    /// Has the bytes of a message in place of those before.
+    /// Has the bytes of a message instead of those before.
     pub(crate) fn put(&mut self, bytes: &[u8])
         requires { length bytes.now ≤ self.old.most }
         ensures value { self.new ≡ record { bytes = bytes.now; most = self.old.most } }

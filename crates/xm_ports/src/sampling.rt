@@ -45,7 +45,7 @@ impl Model for SamplingChannel {
 }
 
 impl SamplingChannel {
-    /// A channel for messages of at most so many bytes, before the first.
+    /// A channel for messages of at most this many bytes, before the first.
     pub(crate) fn new(alloc: Global, refresh: u32, length: u16) -> Result<SamplingChannel, Memory>
         ensures value { IfOk result (λ state. state ≡ record { refresh = refresh; length = length; sample = None }) }
     {
@@ -58,7 +58,7 @@ impl SamplingChannel {
         })
     }
 
-    /// Holds a message in place of the one before.
+    /// Holds a message instead of the one before.
     pub(crate) fn put(&mut self, bytes: &[u8], now: u64)
         requires { length bytes.now ≤ self.old.length }
         ensures value { self.new ≡ record { refresh = self.old.refresh; length = self.old.length; sample = Some record { time = now; bytes = bytes.now } } }

@@ -271,7 +271,7 @@ fn receive(channels: &mut Channels, into: &mut [u8]) -> Option<usize>
     }
 }
 
-/// Whether so many messages wait, of which this is the first.
+/// Whether this many messages wait, of which this is the first.
 fn wait(channels: &Channels, count: usize, bytes: Option<&[u8]>) -> bool
     requires tried { AreTried channels.now }
 {

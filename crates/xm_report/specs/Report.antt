@@ -63,7 +63,7 @@ escape byte =
 abbrev pub escaped : List ℕ → List ℕ
 escaped bytes = flat_map escape bytes
 
--- so many bytes more fit after those of a line; the longest line is a whole console call, escaped in all places
+-- this many bytes more fit after those of a line; the longest line is a whole console call, escaped in all places
 abbrev pub HasRoom : List ℕ → ℕ → Type 0
 HasRoom line more = length line + more ≤ LINE_BYTES
 

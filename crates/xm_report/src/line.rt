@@ -3,7 +3,7 @@
 use xm_base::{PartId, State};
 use xm_conf::{Action, Event};
 
-/// A change of a partition, or of the whole system, that the report tells.
+/// A change of a partition, or of the whole system, that the report prints.
 #[derive(Clone, Copy, Debug, PartialEq, Eq)]
 pub enum Move {
     /// It was halted.
@@ -42,7 +42,7 @@ pub enum Line<'a> {
         word: u32,
         action: Action,
     },
-    /// Partition `p` entered a trace in tick `n`: the bits that it is told by, and eight bytes of its own.
+    /// Partition `p` entered a trace in tick `n`: the bits that it is selected by, and eight bytes of its own.
     Trace {
         n: u64,
         p: PartId,

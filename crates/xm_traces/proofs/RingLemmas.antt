@@ -33,10 +33,10 @@ module _ {T : Type 0} where
       ∙ ap (λ all. kept_of (length all) (keep_last RING_ENTRIES all)) (append_assoc prior (entry ∷ []) rest)
 
   -- the entry at a place after those that are gone
-  got_behind : (gone n : ℕ) (xs : List T) → slice_get (drop gone xs) n ≡ slice_get xs (gone + n)
-  got_behind zero n xs = let e : 0 + n ≡ n = omega arith in rw e refl
-  got_behind (suc gone) n [] = refl
-  got_behind (suc gone) n (x ∷ xs) = let e : suc gone + n ≡ suc (gone + n) = omega arith in rw e (got_behind gone n xs)
+  got_after : (gone n : ℕ) (xs : List T) → slice_get (drop gone xs) n ≡ slice_get xs (gone + n)
+  got_after zero n xs = let e : 0 + n ≡ n = omega arith in rw e refl
+  got_after (suc gone) n [] = refl
+  got_after (suc gone) n (x ∷ xs) = let e : suc gone + n ≡ suc (gone + n) = omega arith in rw e (got_after gone n xs)
 
   -- of a ring that keeps the last of some entries
   found_of : (most n : ℕ) (entries : List T) → entry_at n (kept_of (length entries) (keep_last most entries)) ≡ (if nat_lt n (length entries - most) then None else slice_get entries n)
@@ -49,13 +49,13 @@ module _ {T : Type 0} where
       first : length entries - length (keep_last most entries) ≡ gone
       first = omega (arith, length-drop (length entries - most) entries)
 
-      behind : gone ≤ n → slice_get (drop gone entries) (n - gone) ≡ slice_get entries n
-      behind le = let e : gone + (n - gone) ≡ n = omega (arith, le) in got_behind gone (n - gone) entries ∙ ap (slice_get entries) e
+      following : gone ≤ n → slice_get (drop gone entries) (n - gone) ≡ slice_get entries n
+      following le = let e : gone + (n - gone) ≡ n = omega (arith, le) in got_after gone (n - gone) entries ∙ ap (slice_get entries) e
 
       at : (old : Bool) → nat_lt n gone ≡ old → (within : Bool) → nat_lt n (length entries) ≡ within
           → (if nat_lt n gone then None else if nat_lt n (length entries) then slice_get (keep_last most entries) (n - gone) else None) ≡ (if nat_lt n gone then None else slice_get entries n)
       at true is w iw = rw is refl
-      at false is true iw = rw (is, iw) (behind (grind (arith, nat_tests, is)))
+      at false is true iw = rw (is, iw) (following (grind (arith, nat_tests, is)))
       at false is false iw = rw (is, iw) (sym (slice_get_past entries n (grind (arith, nat_tests, iw))))
 
 -- a ring keeps the last of what was noted

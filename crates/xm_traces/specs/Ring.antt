@@ -13,7 +13,7 @@ abbrev pub RING_ENTRIES : ℕ
 RING_ENTRIES = 64
 
 module _ {T : Type 0} where
-  -- so many were noted, and these are kept
+  -- this many were noted, and these are kept
   abbrev pub kept_of : ℕ → List T → Kept T
   kept_of next entries = record { next = next; entries = entries }
 

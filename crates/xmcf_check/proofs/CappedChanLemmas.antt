@@ -136,7 +136,7 @@ rule_17-capped conf few =
     each-made (rules.wrong_ends (map capped_part conf.parts)) (rules.wrong_ends conf.parts) capped_chan
     (λ c chan. wrong_ends-capped conf.parts c chan few) conf.chans
 
--- a test that is not told of passes
+-- a test that is not reported passes
 pub unless_none : {Y : Type 0} (t : Bool) (y : Y) → unless t y ≡ [] → t ≡ true
 unless_none true y none = refl
 unless_none false y none = absurd (let no : ⊥ = cc in no)

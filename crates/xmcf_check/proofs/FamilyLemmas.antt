@@ -55,14 +55,14 @@ back_dropped {X} P Q (x ∷ xs) leads = at (Q x) refl (back_dropped P Q xs (λ k
     at false q more = rw q (sym (none_kept P (x ∷ xs) (λ k y is. fails (P y) (Q x) (λ passes. leads k 0 y x is passes refl (omega arith)) q)))
 
 -- an element after the first ones has its number among all
-got_behind : {X : Type 0} (n k : ℕ) (xs : List X) (x : X) → slice_get (drop n xs) k ≡ Some x → slice_get xs (n + k) ≡ Some x
-got_behind zero k xs x is = let e : 0 + k ≡ k = omega arith in rw e is
-got_behind (suc n) k [] x is = is
-got_behind (suc n) k (y ∷ xs) x is = let e : suc n + k ≡ suc (n + k) = omega arith in rw e (got_behind n k xs x is)
+got_after : {X : Type 0} (n k : ℕ) (xs : List X) (x : X) → slice_get (drop n xs) k ≡ Some x → slice_get xs (n + k) ≡ Some x
+got_after zero k xs x is = let e : 0 + k ≡ k = omega arith in rw e is
+got_after (suc n) k [] x is = is
+got_after (suc n) k (y ∷ xs) x is = let e : suc n + k ≡ suc (n + k) = omega arith in rw e (got_after n k xs x is)
 
 -- what is after the first ones, without the root
-behind : (n : ℕ) (root : Entry) (rest : List Entry) → drop (n + 1) (root ∷ rest) ≡ drop n rest
-behind n root rest = simp unary_clauses refl
+following : (n : ℕ) (root : Entry) (rest : List Entry) → drop (n + 1) (root ∷ rest) ≡ drop n rest
+following n root rest = simp unary_clauses refl
 
 -- one number has one entry
 one_entry : (entries : List Entry) (i j : ℕ) (x y : Entry) → StandsAt entries i x → StandsAt entries j y → i ≡ j → x.parent ≡ y.parent
@@ -78,14 +78,14 @@ pub children_within : (number : ℕ) (entries : List Entry) → IsDraft entries 
 unfolding within children
 children_within number [] draft = let stands : StandsAt [] 0 draft.root.0 = draft.root.1 in cc
 children_within number (root ∷ rest) draft =
-    ap (λ (inside : List Entry). with_parent number (take_while (λ e. nat_le number e.parent) inside)) (behind number root rest)
+    ap (λ (inside : List Entry). with_parent number (take_while (λ e. nat_le number e.parent) inside)) (following number root rest)
     ∙ back_dropped (λ e. e.parent == number) (λ e. nat_le number e.parent) (drop number rest) leads
     ∙ front_dropped (λ e. e.parent == number) number rest (λ k x is less. grind (arith, nat_tests, less, draft.before (suc k) x is (omega arith)))
   where
     leads : Leads (λ e. e.parent == number) (λ e. nat_le number e.parent) (drop number rest)
     leads k m x y at_k passes at_m le =
-        let one = got_behind number k rest x at_k in
-        let two = got_behind number m rest y at_m in
+        let one = got_after number k rest x at_k in
+        let two = got_after number m rest y at_m in
         let parent : x.parent ≡ number = grind (arith, nat_tests, passes) in
         compared m k (λ less. grind (arith, nat_tests, parent, draft.within (suc (number + k)) (suc (number + m)) x y one two (omega (arith, parent)) (omega (arith, less))))
         (λ same. grind (arith, nat_tests, parent, one_entry (root ∷ rest) (suc (number + k)) (suc (number + m)) x y one two (omega (arith, same))))
@@ -106,15 +106,15 @@ pub grandchildren_within : (number : ℕ) (entries : List Entry) → IsDraft ent
 unfolding within grandchildren
 grandchildren_within number [] draft = let stands : StandsAt [] 0 draft.root.0 = draft.root.1 in cc
 grandchildren_within number (root ∷ rest) draft =
-    ap (λ (inside : List Entry). with_grandparent (root ∷ rest) number (take_while (λ e. nat_le number e.parent) inside)) (behind number root rest)
+    ap (λ (inside : List Entry). with_grandparent (root ∷ rest) number (take_while (λ e. nat_le number e.parent) inside)) (following number root rest)
     ∙ back_dropped (λ e. is_child number (slice_get (root ∷ rest) e.parent)) (λ e. nat_le number e.parent) (drop number rest) leads
     ∙ front_dropped (λ e. is_child number (slice_get (root ∷ rest) e.parent)) number rest
     (λ k x is less. no_child number (slice_get (root ∷ rest) x.parent) (λ p at_p. omega (arith, less, draft.before (suc k) x is (omega arith), parent_before (root ∷ rest) x.parent p draft at_p)))
   where
     leads : Leads (λ e. is_child number (slice_get (root ∷ rest) e.parent)) (λ e. nat_le number e.parent) (drop number rest)
     leads k m x y at_k passes at_m le =
-        let one : StandsAt (root ∷ rest) (suc (number + k)) x = got_behind number k rest x at_k in
-        let two : StandsAt (root ∷ rest) (suc (number + m)) y = got_behind number m rest y at_m in
+        let one : StandsAt (root ∷ rest) (suc (number + k)) x = got_after number k rest x at_k in
+        let two : StandsAt (root ∷ rest) (suc (number + m)) y = got_after number m rest y at_m in
         let found = its_parent number (slice_get (root ∷ rest) x.parent) passes in
         let first : x.parent < suc (number + k) = draft.before (suc (number + k)) x one (omega arith) in
         let not_after : found.0.parent ≤ x.parent = parent_before (root ∷ rest) x.parent found.0 draft found.1 in

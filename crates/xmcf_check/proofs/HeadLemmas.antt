@@ -1,4 +1,4 @@
--- The numbers of the rules that are told first.
+-- The numbers of the rules that are reported first.
 use Rattle.std.proofs.Common.{ℕ, ◌+◌, ◌≤◌, Bool, true, false, List, [], ◌∷◌, ◌++◌, length, Option, Some, None, arith}
 use Rattle.std.specs.Prelude.{IfSome}
 use Rattle.std.specs.Str.{bytes_eq}
@@ -14,11 +14,11 @@ use Rattle.xm_conf.specs.declared.item.Item.{Item}
 use Rattle.xm_conf.specs.declared.item.Item.TheVariants as item
 use Rattle.xm_conf.specs.declared.item.Broken.{Broken}
 
--- the first rule that is told, where one is, is one of these
+-- the first rule that is reported, where one is, is one of these
 pub record Begins (low high : ℕ) (all : List Broken) : Type 0 where
   pub first : IfSome (head_of all) (λ b. (low ≤ b.rule) × (b.rule ≤ high))
 
--- nothing is told
+-- nothing is reported
 pub begins-nil : (low high : ℕ) → Begins low high []
 begins-nil low high = record { first = tt }
 
@@ -101,8 +101,8 @@ rule_1-begins conf =
     (begins-unless 1 1 _ (rules.alone 1 (item.Link most_links)) (omega arith) (omega arith))
 
 -- an item that breaks a rule from 3 to 18, where a test fails
-begins-told : (t : Bool) (rule : ℕ) (first second : Item) → 3 ≤ rule → rule ≤ 18 → Begins 3 18 (unless t (rules.broken rule first second))
-begins-told t rule first second from to = begins-unless 3 18 t (rules.broken rule first second) from to
+begins-reported : (t : Bool) (rule : ℕ) (first second : Item) → 3 ≤ rule → rule ≤ 18 → Begins 3 18 (unless t (rules.broken rule first second))
+begins-reported t rule first second from to = begins-unless 3 18 t (rules.broken rule first second) from to
 
 -- rule 3
 rule_3-begins : (conf : Conf) → Begins 3 18 (rules.rule_3 conf)
@@ -122,16 +122,16 @@ unfolding rules.rule_4 rules.unsized_region rules.rule_5 rules.rule_6
 regions-begins conf =
     begins-append _ (rules.rule_6 conf)
     (begins-append (rules.rule_4 conf) (rules.rule_5 conf)
-    (begins-each rules.unsized_region (λ n region. begins-told _ 4 (item.Region n) (item.Region n) (omega arith) (omega arith)) 0 conf.regions)
+    (begins-each rules.unsized_region (λ n region. begins-reported _ 4 (item.Region n) (item.Region n) (omega arith) (omega arith)) 0 conf.regions)
     (begins-along (rules.repeated 5 item.Region rules.overlaps) (λ before region. begins-beside 3 18 5 _ _ (omega arith) (omega arith)) [] conf.regions))
-    (begins-told _ 6 item.Whole item.Whole (omega arith) (omega arith))
+    (begins-reported _ 6 item.Whole item.Whole (omega arith) (omega arith))
 
 -- rule 7
 rule_7-begins : (conf : Conf) → Begins 3 18 (rules.rule_7 conf)
 unfolding rules.rule_7 rules.unsized_areas rules.unsized_area
 rule_7-begins conf =
     begins-each rules.unsized_areas
-    (λ p part. begins-each (rules.unsized_area p) (λ n area. begins-told _ 7 (item.Area p n) (item.Area p n) (omega arith) (omega arith)) 0 part.areas)
+    (λ p part. begins-each (rules.unsized_area p) (λ n area. begins-reported _ 7 (item.Area p n) (item.Area p n) (omega arith) (omega arith)) 0 part.areas)
     0 conf.parts
 
 -- rule 8
@@ -139,7 +139,7 @@ rule_8-begins : (conf : Conf) → Begins 3 18 (rules.rule_8 conf)
 unfolding rules.rule_8 rules.outside_areas rules.outside_area
 rule_8-begins conf =
     begins-each (rules.outside_areas conf.regions)
-    (λ p part. begins-each (rules.outside_area conf.regions p) (λ n area. begins-told _ 8 (item.Area p n) (item.Area p n) (omega arith) (omega arith)) 0 part.areas)
+    (λ p part. begins-each (rules.outside_area conf.regions p) (λ n area. begins-reported _ 8 (item.Area p n) (item.Area p n) (omega arith) (omega arith)) 0 part.areas)
     0 conf.parts
 
 -- rules 4 to 10
@@ -150,7 +150,7 @@ memory_rules-begins conf =
     (begins-append _ (rules.rule_9 conf)
     (begins-append _ (rules.rule_8 conf) (begins-append _ (rules.rule_7 conf) (regions-begins conf) (rule_7-begins conf)) (rule_8-begins conf))
     (begins-along (rules.meets 9 rules.overlaps) (λ before x. begins-beside 3 18 9 _ _ (omega arith) (omega arith)) [] (rules.stretches conf)))
-    (begins-told _ 10 item.Whole item.Whole (omega arith) (omega arith))
+    (begins-reported _ 10 item.Whole item.Whole (omega arith) (omega arith))
 
 -- rules 11 to 14
 plan_rules-begins : (conf : Conf) → Begins 3 18 (rules.plan_rules conf)
@@ -160,14 +160,14 @@ plan_rules-begins conf =
     (begins-append _ (rules.rule_13 conf)
     (begins-append (rules.rule_11 conf) (rules.rule_12 conf)
     (begins-each rules.frame_broken
-    (λ p plan. begins-append _ (added_by_each (rules.late_slot p plan.frame) plan.slots) (begins-told _ 11 (item.Plan p) (item.Plan p) (omega arith) (omega arith))
-    (begins-each (rules.late_slot p plan.frame) (λ n slot. begins-told _ 11 (item.Slot p n) (item.Plan p) (omega arith) (omega arith)) 0 plan.slots))
+    (λ p plan. begins-append _ (added_by_each (rules.late_slot p plan.frame) plan.slots) (begins-reported _ 11 (item.Plan p) (item.Plan p) (omega arith) (omega arith))
+    (begins-each (rules.late_slot p plan.frame) (λ n slot. begins-reported _ 11 (item.Slot p n) (item.Plan p) (omega arith) (omega arith)) 0 plan.slots))
     0 conf.plans)
     (begins-each rules.early_slots
-    (λ p plan. begins-along (rules.early_slot p) (λ before slot. begins-told _ 12 _ _ (omega arith) (omega arith)) [] plan.slots) 0 conf.plans))
+    (λ p plan. begins-along (rules.early_slot p) (λ before slot. begins-reported _ 12 _ _ (omega arith) (omega arith)) [] plan.slots) 0 conf.plans))
     (begins-each (rules.stray_slots (length conf.parts))
-    (λ p plan. begins-each (rules.stray_slot (length conf.parts) p) (λ n slot. begins-told _ 13 _ _ (omega arith) (omega arith)) 0 plan.slots) 0 conf.plans))
-    (begins-each (rules.no_console (length conf.uarts)) (λ n part. begins-told _ 14 _ _ (omega arith) (omega arith)) 0 conf.parts)
+    (λ p plan. begins-each (rules.stray_slot (length conf.parts) p) (λ n slot. begins-reported _ 13 _ _ (omega arith) (omega arith)) 0 plan.slots) 0 conf.plans))
+    (begins-each (rules.no_console (length conf.uarts)) (λ n part. begins-reported _ 14 _ _ (omega arith) (omega arith)) 0 conf.parts)
 
 -- rules 15 to 18
 chan_rules-begins : (conf : Conf) → Begins 3 18 (rules.chan_rules conf)
@@ -176,14 +176,14 @@ chan_rules-begins conf =
     begins-append _ (rules.rule_18 conf)
     (begins-append _ (rules.rule_17 conf)
     (begins-append (rules.rule_15 conf) (rules.rule_16 conf)
-    (begins-each rules.unfit_chan (λ n chan. begins-told _ 15 _ _ (omega arith) (omega arith)) 0 conf.chans)
+    (begins-each rules.unfit_chan (λ n chan. begins-reported _ 15 _ _ (omega arith) (omega arith)) 0 conf.chans)
     (begins-each (rules.stray_ends conf.parts)
-    (λ c chan. begins-append _ (added_by_each (rules.stray_dest conf.parts c) chan.dests) (begins-told _ 16 _ _ (omega arith) (omega arith))
-    (begins-each (rules.stray_dest conf.parts c) (λ n end. begins-told _ 16 _ _ (omega arith) (omega arith)) 0 chan.dests))
+    (λ c chan. begins-append _ (added_by_each (rules.stray_dest conf.parts c) chan.dests) (begins-reported _ 16 _ _ (omega arith) (omega arith))
+    (begins-each (rules.stray_dest conf.parts c) (λ n end. begins-reported _ 16 _ _ (omega arith) (omega arith)) 0 chan.dests))
     0 conf.chans))
     (begins-each (rules.wrong_ends conf.parts)
-    (λ c chan. begins-append _ (added_by_each (rules.wrong_dest conf.parts chan.kind c) chan.dests) (begins-told _ 17 _ _ (omega arith) (omega arith))
-    (begins-each (rules.wrong_dest conf.parts chan.kind c) (λ n end. begins-told _ 17 _ _ (omega arith) (omega arith)) 0 chan.dests))
+    (λ c chan. begins-append _ (added_by_each (rules.wrong_dest conf.parts chan.kind c) chan.dests) (begins-reported _ 17 _ _ (omega arith) (omega arith))
+    (begins-each (rules.wrong_dest conf.parts chan.kind c) (λ n end. begins-reported _ 17 _ _ (omega arith) (omega arith)) 0 chan.dests))
     0 conf.chans))
     (begins-along (rules.meets 18 rules.same_end) (λ before x. begins-beside 3 18 18 _ _ (omega arith) (omega arith)) [] (added_by_each rules.chan_ends conf.chans))
 

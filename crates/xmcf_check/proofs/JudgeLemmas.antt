@@ -15,7 +15,7 @@ use Rattle.xm_conf.specs.declared.item.Broken.{Broken}
 use Rattle.xmcf_check.specs.Answered.{answers_broken}
 use Rattle.xmcf_check.specs.Capped.{capped_plan, capped_part, capped_conf}
 use Rattle.xmcf_check.specs.Judged.{HasSizes, Gathers, gathered_of, health_table_of}
-use Rattle.xmcf_check.specs.Told.{first_there, is_within, told_among, first_told, HasFew}
+use Rattle.xmcf_check.specs.Reported.{first_there, is_within, reported_among, first_reported, HasFew}
 use Rattle.xmcf_check.proofs.ListLemmas.{both, front_none, back_none, back_first}
 use Rattle.xmcf_check.proofs.BoundLemmas.{IsBounded, bounded, few_of}
 use Rattle.xmcf_check.proofs.CappedLemmas.{rule_1-capped, rule_3-capped, memory_rules-capped, plan_rules-capped, rule_20-capped}
@@ -24,7 +24,7 @@ use Rattle.xmcf_check.proofs.HeadLemmas.{Begins, rule_1-begins, middle-begins, r
 use Rattle.xmcf_check.proofs.KeptLemmas.{conf_kept}
 use Rattle.xmcf_check.proofs.LinkLemmas.{link_rules-capped}
 use Rattle.xmcf_check.proofs.OrderLemmas.{middle, last, first_broken-parts, IsFrom, order}
-use Rattle.xmcf_check.proofs.TableLemmas.{tables_none, answers_told}
+use Rattle.xmcf_check.proofs.TableLemmas.{tables_none, answers_reported}
 
 -- the places themselves are in order
 misplaced-numbers : {X : Type 0} (numbered : ℕ → Item) (n : ℕ) (xs : List X) → each_from (rules.misplaced numbered) n (each_from (λ k x. k ∷ []) n xs) ≡ []
@@ -109,11 +109,11 @@ capped-parts conf =
     ∙ ap (λ more. first_there (head_of (middle conf)) (first_there (tables_broken conf) more)) (last-capped conf (bounded conf none)))
 
 -- what is reported of a description's parts
-told_parts : (d : Description) → All (λ monitor. monitor.logged < 4096) d.monitors → map (λ part. part.hm) d.conf.parts ≡ map health_table_of d.monitors
-    → first_told (length d.conf.plans) d.ids (map (λ monitor. monitor.answers) d.monitors) (rules.first_broken most_parts (described (capped_conf d.conf))) ≡ rules.first_broken most_parts d
-unfolding first_told
-told_parts d small tables =
-    ap (λ found. told_among (head_of (rules.rule_2 d.ids)) (head_of (added_by_each (answers_broken (length d.conf.plans)) (map (λ monitor. monitor.answers) d.monitors))) found)
+reported_parts : (d : Description) → All (λ monitor. monitor.logged < 4096) d.monitors → map (λ part. part.hm) d.conf.parts ≡ map health_table_of d.monitors
+    → first_reported (length d.conf.plans) d.ids (map (λ monitor. monitor.answers) d.monitors) (rules.first_broken most_parts (described (capped_conf d.conf))) ≡ rules.first_broken most_parts d
+unfolding first_reported
+reported_parts d small tables =
+    ap (λ found. reported_among (head_of (rules.rule_2 d.ids)) (head_of (added_by_each (answers_broken (length d.conf.plans)) (map (λ monitor. monitor.answers) d.monitors))) found)
     (capped-parts d.conf)
     ∙ order (head_of (rules.rule_1 most_parts d.conf)) (head_of (rules.rule_2 d.ids)) (head_of (middle d.conf))
     (head_of (added_by_each (answers_broken (length d.conf.plans)) (map (λ monitor. monitor.answers) d.monitors))) (tables_broken d.conf) (head_of (last d.conf))
@@ -123,7 +123,7 @@ told_parts d small tables =
     (λ none. ap head_of (tables_none (length d.conf.plans) d.monitors d.conf.parts small tables (no_head _ none)))
     ∙ ap (λ answers. first_there (head_of (rules.rule_1 most_parts d.conf)) (first_there (head_of (rules.rule_2 d.ids)) (first_there (head_of (middle d.conf))
     (first_there (head_of answers) (head_of (last d.conf))))))
-    (answers_told (length d.conf.plans) d.monitors small)
+    (answers_reported (length d.conf.plans) d.monitors small)
     ∙ sym (first_broken-parts d)
 
 -- how many plans there are
@@ -132,14 +132,14 @@ unfolding capped_conf
 plans-capped conf = length-map conf.plans capped_plan
 
 -- what is reported of what is gathered is the description's first broken rule
-pub told_first : (raw : Conf) (ids : Ids) (answers : List (List HealthAnswer)) (d : Description) → Gathers (gathered_of raw ids answers) d
-    → first_told (length raw.plans) ids answers (rules.first_broken most_parts (described raw)) ≡ rules.first_broken most_parts d
-told_first raw ids answers d gathers =
-    ap (λ r. first_told (length r.plans) ids answers (rules.first_broken most_parts (described r))) gathers.conf
-    ∙ ap (λ n. first_told n ids answers (rules.first_broken most_parts (described (capped_conf d.conf)))) (plans-capped d.conf)
-    ∙ ap (λ i. first_told (length d.conf.plans) i answers (rules.first_broken most_parts (described (capped_conf d.conf)))) gathers.ids
-    ∙ ap (λ a. first_told (length d.conf.plans) d.ids a (rules.first_broken most_parts (described (capped_conf d.conf)))) gathers.answers
-    ∙ told_parts d gathers.logged gathers.tables
+pub reported_first : (raw : Conf) (ids : Ids) (answers : List (List HealthAnswer)) (d : Description) → Gathers (gathered_of raw ids answers) d
+    → first_reported (length raw.plans) ids answers (rules.first_broken most_parts (described raw)) ≡ rules.first_broken most_parts d
+reported_first raw ids answers d gathers =
+    ap (λ r. first_reported (length r.plans) ids answers (rules.first_broken most_parts (described r))) gathers.conf
+    ∙ ap (λ n. first_reported n ids answers (rules.first_broken most_parts (described (capped_conf d.conf)))) (plans-capped d.conf)
+    ∙ ap (λ i. first_reported (length d.conf.plans) i answers (rules.first_broken most_parts (described (capped_conf d.conf)))) gathers.ids
+    ∙ ap (λ a. first_reported (length d.conf.plans) d.ids a (rules.first_broken most_parts (described (capped_conf d.conf)))) gathers.answers
+    ∙ reported_parts d gathers.logged gathers.tables
 
 -- a description that breaks no rule keeps its numbers
 pub none_kept : (d : Description) → rules.first_broken most_parts d ≡ None → capped_conf d.conf ≡ d.conf
@@ -153,7 +153,7 @@ none_kept d none =
     let uarts : length d.conf.uarts ≤ 255 = omega (arith, bound.uarts) in
     conf_kept d.conf uarts (few_of d.conf bound) (back_none _ (rules.plan_rules d.conf) plans) (back_none _ (rules.chan_rules d.conf) chans) (back_none _ (rules.link_rules d.conf) all)
 
--- where rule 1 is not what is told, it holds
+-- where rule 1 is not what is reported, it holds
 counts_hold : (counts : List Broken) (rest : Option Broken) → Begins 1 1 counts → is_within 1 (first_there (head_of counts) rest) ≡ false → counts ≡ []
 counts_hold [] rest begins past = refl
 counts_hold (b ∷ counts) rest begins past =
@@ -173,9 +173,9 @@ few_slots (i ∷ ids) (plan ∷ plans) same few =
     All-cons (λ plan. length plan.slots ≤ 64) i ids (omega arith) (few_slots ids plans rest (All-tail (λ plan. length plan.slots ≤ 64) plan plans few))
 
 -- where rule 1 is not what is found, there are few ids and answers
-pub few_told : (raw : Conf) (ids : Ids) (answers : List (List HealthAnswer)) (lists : ℕ) (found : Option Broken) → lists ≡ length answers
+pub few_reported : (raw : Conf) (ids : Ids) (answers : List (List HealthAnswer)) (lists : ℕ) (found : Option Broken) → lists ≡ length answers
     → HasSizes (gathered_of raw ids answers) → found ≡ rules.first_broken most_parts (described raw) → is_within 1 found ≡ false → HasFew ids lists
-few_told raw ids answers lists found all sizes is past =
+few_reported raw ids answers lists found all sizes is past =
     let parts : found ≡ first_there (head_of (rules.rule_1 most_parts raw)) (first_there (head_of (middle raw))
     (first_there (head_of (rules.rule_19 (length raw.plans) (map monitor_of raw.parts))) (head_of (last raw)))) = is ∙ front-parts raw in
     let counts : rules.rule_1 most_parts raw ≡ [] = counts_hold (rules.rule_1 most_parts raw) _ (rule_1-begins raw) (ap (is_within 1) (sym parts) ∙ past) in
@@ -190,10 +190,10 @@ few_told raw ids answers lists found all sizes is past =
       answers = omega (arith, all, sizes.answers, bound.parts);
     }
 
--- what is found is told, where nothing else is
-pub told_some : (plans : ℕ) (ids : Ids) (answers : List (List HealthAnswer)) (b : Broken) → first_told plans ids answers (Some b) ≡ None → ⊥
-unfolding first_told told_among
-told_some plans ids answers b none = at (nat_le b.rule 1) (head_of (rules.rule_2 ids)) (nat_le b.rule 18) (head_of (added_by_each (answers_broken plans) answers)) none
+-- what is found is reported, where nothing else is
+pub reported_some : (plans : ℕ) (ids : Ids) (answers : List (List HealthAnswer)) (b : Broken) → first_reported plans ids answers (Some b) ≡ None → ⊥
+unfolding first_reported reported_among
+reported_some plans ids answers b none = at (nat_le b.rule 1) (head_of (rules.rule_2 ids)) (nat_le b.rule 18) (head_of (added_by_each (answers_broken plans) answers)) none
   where
     at : (first : Bool) (id : Option Broken) (middle : Bool) (answer : Option Broken)
         → (if first then Some b else first_there id (if middle then Some b else first_there answer (Some b))) ≡ None → ⊥
@@ -204,11 +204,11 @@ told_some plans ids answers b none = at (nat_le b.rule 1) (head_of (rules.rule_2
     at false None false None none = cc
 
 -- what is reported of what is gathered is the description's first broken rule
-pub told_is : (raw : Conf) (ids : Ids) (answers : List (List HealthAnswer)) (plans : ℕ) (found told : Option Broken) → plans ≡ length raw.plans
-    → found ≡ rules.first_broken most_parts (described raw) → told ≡ first_told plans ids answers found
-    → (d : Description) → Gathers (gathered_of raw ids answers) d → told ≡ rules.first_broken most_parts d
-told_is raw ids answers plans found told count is value d gathers =
+pub reported_is : (raw : Conf) (ids : Ids) (answers : List (List HealthAnswer)) (plans : ℕ) (found reported : Option Broken) → plans ≡ length raw.plans
+    → found ≡ rules.first_broken most_parts (described raw) → reported ≡ first_reported plans ids answers found
+    → (d : Description) → Gathers (gathered_of raw ids answers) d → reported ≡ rules.first_broken most_parts d
+reported_is raw ids answers plans found reported count is value d gathers =
     value
-    ∙ ap (λ n. first_told n ids answers found) count
-    ∙ ap (λ f. first_told (length raw.plans) ids answers f) is
-    ∙ told_first raw ids answers d gathers
+    ∙ ap (λ n. first_reported n ids answers found) count
+    ∙ ap (λ f. first_reported (length raw.plans) ids answers f) is
+    ∙ reported_first raw ids answers d gathers

@@ -54,7 +54,7 @@ part_kept uarts n part few none =
     })
     (console_kept uarts part.console few (unless_none _ (rules.alone 14 (item.Part n)) none))
 
--- a channel that keeps so many messages
+-- a channel that keeps this many messages
 kind_kept : (kind : ChanKind) (dests : List End) → rules.is_kind kind dests ≡ true → capped_kind kind ≡ kind
 unfolding rules.is_kind capped_kind
 kind_kept (chan_kind.Sampling refresh) dests passes = refl

@@ -8,7 +8,7 @@ use Rattle.xm_conf.specs.Description.{Description}
 use Rattle.xm_conf.specs.Limits.{most_parts}
 use Rattle.xm_conf.specs.Rules as rules
 use Rattle.xm_conf.specs.declared.item.Broken.{Broken}
-use Rattle.xmcf_check.specs.Told.{first_there, told_among}
+use Rattle.xmcf_check.specs.Reported.{first_there, reported_among}
 
 -- what breaks the rules from 3 to 18
 abbrev pub middle : Conf → List Broken
@@ -46,8 +46,8 @@ IsFrom low high found = IfSome found (λ b. (low ≤ b.rule) × (b.rule ≤ high
 
 -- what is found after the answers, where a table's action breaks a rule only if an answer does
 order_last : (id answer table need : Option Broken) → IsFrom 19 22 (first_there table need) → (answer ≡ None → table ≡ None)
-    → told_among id answer (first_there table need) ≡ first_there id (first_there answer need)
-unfolding told_among
+    → reported_among id answer (first_there table need) ≡ first_there id (first_there answer need)
+unfolding reported_among
 order_last id answer None None from none = refl
 order_last id answer None (Some b) from none =
     let above : 19 ≤ b.rule = from.0 in
@@ -64,8 +64,8 @@ order_last id (Some a) (Some b) need from none =
 -- what is found in the order of the rules
 pub order : (count id other answer table need : Option Broken) → IsFrom 1 1 count → IsFrom 3 18 other → IsFrom 19 22 (first_there table need)
     → (answer ≡ None → table ≡ None)
-    → told_among id answer (first_there count (first_there other (first_there table need))) ≡ first_there count (first_there id (first_there other (first_there answer need)))
-unfolding told_among
+    → reported_among id answer (first_there count (first_there other (first_there table need))) ≡ first_there count (first_there id (first_there other (first_there answer need)))
+unfolding reported_among
 order (Some a) id other answer table need counted from last none =
     let is : a.rule ≤ 1 = counted.1 in
     let within : nat_le a.rule 1 ≡ true = grind (arith, nat_tests) in

@@ -24,9 +24,9 @@ unfolding place_nth
 nth_first n xs ys inside = ap place_or_none (got_first n xs ys inside)
 
 -- the place of one of the second list
-pub nth_behind : (n : ℕ) (xs ys : List Entry) → length xs ≤ n → place_nth n (xs ++ ys) ≡ place_nth (n - length xs) ys
+pub nth_after : (n : ℕ) (xs ys : List Entry) → length xs ≤ n → place_nth n (xs ++ ys) ≡ place_nth (n - length xs) ys
 unfolding place_nth
-nth_behind n xs ys past = ap place_or_none (got_second n xs ys past)
+nth_after n xs ys past = ap place_or_none (got_second n xs ys past)
 
 -- the place that is asked for, among what is left of the events
 abbrev pub IsLeft : (Event → List Entry) → List Event → ℕ → ℕ → ℕ → Type 0
@@ -42,7 +42,7 @@ found_here f events i left n d more inside is =
 pub found_later : (f : Event → List Entry) (events : List Event) (i left n : ℕ) (d : Event) → i < length events → length (f (get_or events i d)) ≤ left → IsLeft f events i left n
     → IsLeft f events (i + 1) (left - length (f (get_or events i d))) n
 found_later f events i left n d more past is =
-    sym (nth_behind left (f (get_or events i d)) (flat_map f (drop (i + 1) events)) past) ∙ ap (λ (es : List Event). place_nth left (flat_map f es)) (sym (drop_more events i d more)) ∙ is
+    sym (nth_after left (f (get_or events i d)) (flat_map f (drop (i + 1) events)) past) ∙ ap (λ (es : List Event). place_nth left (flat_map f es)) (sym (drop_more events i d more)) ∙ is
 
 -- there is none left
 pub found_nowhere : (f : Event → List Entry) (events : List Event) (i left n : ℕ) → length events ≤ i → IsLeft f events i left n → 0 ≡ place_nth n (flat_map f events)

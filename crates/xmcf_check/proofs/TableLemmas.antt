@@ -42,7 +42,7 @@ same_number a b same =
     let is : (event_row a).number ≡ (event_row b).number = grind (arith, nat_tests) in
     sym (event_numbered-number a) ∙ ap event_numbered is ∙ event_numbered-number b
 
--- an action may answer an event, where there are so many plans
+-- an action may answer an event, where there are this many plans
 pub record Stands (plans : ℕ) (e : Event) (action : Action) : Type 0 where
   pub allowed : is_allowed e action ≡ true
   pub planned : rules.has_plan plans action ≡ true
@@ -166,7 +166,7 @@ answers_from plans n (monitor ∷ monitors) small =
     (answers_from plans (n + 1) monitors (All-tail (λ monitor. monitor.logged < 4096) monitor monitors small))
 
 -- what partitions say of health events breaks a rule by their answers alone
-pub answers_told : (plans : ℕ) (monitors : List Monitor) → All (λ monitor. monitor.logged < 4096) monitors
+pub answers_reported : (plans : ℕ) (monitors : List Monitor) → All (λ monitor. monitor.logged < 4096) monitors
     → added_by_each (answers_broken plans) (map (λ monitor. monitor.answers) monitors) ≡ rules.rule_19 plans monitors
 unfolding rules.rule_19
-answers_told plans monitors small = answers_from plans 0 monitors small
+answers_reported plans monitors small = answers_from plans 0 monitors small

@@ -8,12 +8,12 @@ use Rattle.xmcf_reader.specs.declared.draft.Entry.{Entry}
 use Rattle.xmcf_check.specs.Described.{description_of}
 use Rattle.xmcf_check.specs.Verdict.{broken_with_places, verdict_of}
 
--- nothing is told where no rule is broken
+-- nothing is reported where no rule is broken
 pub verdict-none : (entries : List Entry) → first_broken most_parts (description_of entries) ≡ None → verdict_of entries ≡ None
 unfolding verdict_of
 verdict-none entries none = ap (on (broken_with_places entries)) none
 
--- the first broken rule is told with its places
+-- the first broken rule is reported with its places
 pub verdict-some : (entries : List Entry) (broken : Broken) → first_broken most_parts (description_of entries) ≡ Some broken → verdict_of entries ≡ Some (broken_with_places entries broken)
 unfolding verdict_of
 verdict-some entries broken some = ap (on (broken_with_places entries)) some

@@ -19,7 +19,7 @@ use Rattle.xm_conf.specs.declared.raw.Region.{Region}
 use Rattle.xmcf_reader.specs.declared.draft.Element.{Element}
 use Rattle.xmcf_reader.specs.declared.draft.Element.TheVariants as element
 use Rattle.xmcf_reader.specs.declared.draft.Entry.{Entry}
-use Rattle.xmcf_reader.specs.Drafts.{behind_root}
+use Rattle.xmcf_reader.specs.Drafts.{after_root}
 use Rattle.xmcf_check.specs.Elements.{element_area, carried_of, element_frame, element_answer, link_element, mask_of, element_need, element_own, part_id_of, plan_id_of, element_port, processor_of, region_of, element_size, slot_id_of, element_slot, uart_id_of, uart_of}
 use Rattle.xmcf_check.specs.declared.elements.Carried.{Carried}
 use Rattle.xmcf_check.specs.declared.elements.Given.{Given}
@@ -50,11 +50,11 @@ with_grandparent all number entries = filter (λ entry. is_child number (slice_g
 
 -- the children of the entry of a number; the first entry is nobody's child
 unfoldable pub children : ℕ → List Entry → List Entry
-children number entries = with_parent number (behind_root entries)
+children number entries = with_parent number (after_root entries)
 
 -- the children of the children of the entry of a number
 unfoldable pub grandchildren : ℕ → List Entry → List Entry
-grandchildren number entries = with_grandparent entries number (behind_root entries)
+grandchildren number entries = with_grandparent entries number (after_root entries)
 
 -- The parts of a configuration that stand alone.
 
@@ -212,7 +212,7 @@ abbrev pub names_or_none : Option (List (List ℕ)) → List (List ℕ)
 names_or_none None = []
 names_or_none (Some names) = names
 
--- the end that a partition's number and a port's name tell, by the names of all ports
+-- the end that a partition's number and a port's name denote, by the names of all ports
 unfoldable pub described_end : List (List (List ℕ)) → ℕ → List ℕ → End
 described_end ports part name = record { part = part; port = number_named (names_or_none (slice_get ports part)) name }
 
@@ -220,7 +220,7 @@ described_end ports part name = record { part = part; port = number_named (names
 unfoldable pub no_end : End
 no_end = record { part = 0; port = 0 }
 
--- the end of a channel that an element tells, where it tells one of this way: a source or a destination
+-- the end of a channel that an element names, where it names one of this way: a source or a destination
 abbrev pub end_of_way : Way → List (List (List ℕ)) → Element → Option End
 end_of_way way.Source ports (element.Source part name) = Some (described_end ports part name)
 end_of_way way.Destination ports (element.Destination part name) = Some (described_end ports part name)

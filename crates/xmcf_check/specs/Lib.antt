@@ -8,5 +8,5 @@ pub mod Judged
 pub mod Misplaced
 pub mod Numbers
 pub mod Places
-pub mod Told
+pub mod Reported
 pub mod Verdict

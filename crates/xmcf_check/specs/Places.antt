@@ -5,7 +5,7 @@ use Rattle.xm_conf.specs.Health.{event_row, events}
 use Rattle.xm_conf.specs.declared.health.Event.{Event}
 use Rattle.xm_conf.specs.declared.item.Item.{Item}
 use Rattle.xm_conf.specs.declared.item.Item.TheVariants as item
-use Rattle.xmcf_reader.specs.Drafts.{behind_root}
+use Rattle.xmcf_reader.specs.Drafts.{after_root}
 use Rattle.xmcf_reader.specs.declared.draft.Element.{Element}
 use Rattle.xmcf_reader.specs.declared.draft.Element.TheVariants as element
 use Rattle.xmcf_reader.specs.declared.draft.Entry.{Entry}
@@ -44,7 +44,7 @@ is_item entries which whose entry = is_of which entry.what && belongs entries wh
 
 -- the entries of a sort that belong to an owner, in the order of the text
 abbrev pub items : List Entry → Sort → Owner → List Entry
-items entries which whose = filter (is_item entries which whose) (behind_root entries)
+items entries which whose = filter (is_item entries which whose) (after_root entries)
 
 -- the place of an entry, or 0 where there is none
 abbrev pub place_or_none : Option Entry → ℕ

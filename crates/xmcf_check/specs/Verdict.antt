@@ -8,8 +8,8 @@ use Rattle.xm_conf.specs.declared.item.Broken.{Broken}
 use Rattle.xmcf_reader.specs.declared.draft.Entry.{Entry}
 use Rattle.xmcf_check.specs.Described.{description_of}
 use Rattle.xmcf_check.specs.Places.{place_of}
-use Rattle.file_texts.specs.declared.fault.CheckFault.{CheckFault}
-use Rattle.file_texts.specs.declared.fault.CheckFault.TheVariants as fault
+use Rattle.fault_messages.specs.declared.fault.CheckFault.{CheckFault}
+use Rattle.fault_messages.specs.declared.fault.CheckFault.TheVariants as fault
 
 -- a broken rule with the places of its two items
 abbrev pub broken_with_places : List Entry → Broken → CheckFault

@@ -8,7 +8,7 @@ ghost use Rattle.xmcf_check.specs.Verdict.{IsVerdict, broken_with_places};
 use crate::gathering::gather;
 use crate::judging::judge;
 use crate::places::place;
-use file_texts::CheckFault;
+use fault_messages::CheckFault;
 use std::alloc::Global;
 use xm_conf::{Broken, Conf, broken_unless_fits};
 use xmcf_reader::Draft;

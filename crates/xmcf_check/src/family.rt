@@ -33,8 +33,8 @@ pub(crate) fn within(entries: &[Entry], number: usize) -> &[Entry]
     requires { number < length entries.now }
     ensures { result.now ≡ within number entries.now }
 {
-    let (_, behind) = entries.split_at(number + 1);
-    let (inside, _) = behind.split_at(count_inside(behind, number));
+    let (_, following) = entries.split_at(number + 1);
+    let (inside, _) = following.split_at(count_inside(following, number));
     inside
 }
 

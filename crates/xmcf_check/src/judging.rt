@@ -5,7 +5,7 @@ ghost use Rattle.xm_conf.specs.Description.{Description, described};
 ghost use Rattle.xm_conf.specs.Limits.{most_parts};
 ghost use Rattle.xm_conf.specs.Rules.{first_broken};
 ghost use Rattle.xmcf_check.specs.Judged.{Gathers, HasSizes, Judges, gathered_of};
-ghost use Rattle.xmcf_check.specs.Told.{HasFew, first_told, is_within};
+ghost use Rattle.xmcf_check.specs.Reported.{HasFew, first_reported, is_within};
 
 use crate::answers::rule_19;
 use crate::gathered::{Answer, Gathered, Ids};
@@ -23,15 +23,15 @@ fn is_within(last: u8, found: Option<Broken>) -> bool
 }
 
 /// The first broken rule of the ids, the answers and what is found among the other rules.
-#[tactic(auto, unfolding(crate::specs::Told::first_told, crate::specs::Told::told_among))]
-fn first_told(
+#[tactic(auto, unfolding(crate::specs::Reported::first_reported, crate::specs::Reported::reported_among))]
+fn first_reported(
     found: Option<Broken>,
     plans: usize,
     ids: &Ids,
     answers: &[Vec<Answer>],
 ) -> Option<Broken>
     requires { is_within 1 found ≡ false → HasFew ids.now (length answers.now) }
-    ensures { result ≡ first_told plans ids.now (map (λ list. list.items) answers.now) found }
+    ensures { result ≡ first_reported plans ids.now (map (λ list. list.items) answers.now) found }
 {
     if is_within(1, found) {
         return found;
@@ -63,9 +63,9 @@ fn configured(raw: RawConf) -> Result<Conf, Broken>
 /// The first broken rule, where this one is broken.
 fn first_with(broken: Broken, plans: usize, ids: &Ids, answers: &[Vec<Answer>]) -> Broken
     requires { is_within 1 (Some broken) ≡ false → HasFew ids.now (length answers.now) }
-    ensures { Some result ≡ first_told plans ids.now (map (λ list. list.items) answers.now) (Some broken) }
+    ensures { Some result ≡ first_reported plans ids.now (map (λ list. list.items) answers.now) (Some broken) }
 {
-    match first_told(Some(broken), plans, ids, answers) {
+    match first_reported(Some(broken), plans, ids, answers) {
         Some(first) => first,
         None => broken,
     }
@@ -85,7 +85,7 @@ fn judged(raw: RawConf, ids: &Ids, answers: &[Vec<Answer>]) -> Result<Conf, Brok
 {
     let plans = plan_count(&raw);
     match configured(raw) {
-        Ok(conf) => match first_told(None, plans, ids, answers) {
+        Ok(conf) => match first_reported(None, plans, ids, answers) {
             Some(broken) => Err(broken),
             None => Ok(conf),
         },

@@ -15,4 +15,4 @@ mod places;
 mod sorts;
 
 pub use checking::check;
-pub use file_texts::CheckFault;
+pub use fault_messages::CheckFault;

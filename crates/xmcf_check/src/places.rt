@@ -2,7 +2,7 @@
 
 ghost use Rattle.std.specs.Prelude.{◌≡◌, filter, flat_map, length};
 ghost use Rattle.xm_conf.specs.Health.{events};
-ghost use Rattle.xmcf_reader.specs.Drafts.{behind_root};
+ghost use Rattle.xmcf_reader.specs.Drafts.{after_root};
 ghost use Rattle.xmcf_check.specs.Places.{child_items, end_place, event_items, grandchild_items, is_item, items, number_nth, place_nth, place_of};
 
 use crate::sorts::{Owner, Sort, is_item, is_of};
@@ -10,11 +10,11 @@ use xm_conf::{EVENTS, Event, Item};
 use xmcf_reader::{Draft, Entry};
 
 /// The entries after the first.
-fn behind_root(entries: &[Entry]) -> &[Entry]
-    ensures { result.now ≡ behind_root entries.now }
+fn after_root(entries: &[Entry]) -> &[Entry]
+    ensures { result.now ≡ after_root entries.now }
 {
     match entries.split_first() {
-        Some((_, behind)) => behind,
+        Some((_, following)) => following,
         None => entries,
     }
 }
@@ -40,7 +40,7 @@ fn nth_among(all: &[Entry], entries: &[Entry], sort: Sort, owner: Owner, n: usiz
 fn nth(entries: &[Entry], sort: Sort, owner: Owner, n: usize) -> usize
     ensures { result ≡ place_nth n (items entries.now sort owner) }
 {
-    nth_among(entries, behind_root(entries), sort, owner, n)
+    nth_among(entries, after_root(entries), sort, owner, n)
 }
 
 /// The number of the n-th entry of a sort.
@@ -111,7 +111,7 @@ fn count(entries: &[Entry], sort: Sort, parent: Option<usize>) -> usize
     match parent {
         Some(number) => count_among(
             entries,
-            behind_root(entries),
+            after_root(entries),
             sort,
             Owner::Grandparent(number),
         ),

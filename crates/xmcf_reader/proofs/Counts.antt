@@ -89,7 +89,7 @@ present word (name ∷ names) e = at (is_word name word) refl e (present word na
   where
     at : (here : Bool) → is_word name word ≡ here → (here || is_among word names) ≡ true → (is_among word names ≡ true → 1 ≤ count_by (is_word word) names) → 1 ≤ count_by (is_word word) (name ∷ names)
     at true is f more = let passes : is_word word name ≡ true = is_same word name (sym (same_number name word is)) in subst (λ (n : ℕ). 1 ≤ n) (sym (count_first word name names)) (rw passes (omega arith))
-    at false is f more = let behind : 1 ≤ count_by (is_word word) names = more f in omega (arith, count_first word name names)
+    at false is f more = let following : 1 ≤ count_by (is_word word) names = more f in omega (arith, count_first word name names)
 
 -- a child that has place is in the table
 found_among : (word : Word) (rows : List Child) (row : Child) → find (λ child. is_word child.word word) rows ≡ Some row → is_among word (map child_word rows) ≡ true

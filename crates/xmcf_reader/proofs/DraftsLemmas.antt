@@ -101,26 +101,26 @@ pub record IsUnder (entries : List Entry) (parent : ℕ) (word : Word) (place : 
   pub word_is : word_of entry.what ≡ word
 
 -- one place on, with one more in front
-under_behind : (first : Entry) (entries : List Entry) (parent : ℕ) (word : Word) (place : ℕ) → IsUnder entries parent word place → IsUnder (first ∷ entries) parent word (suc place)
-under_behind first entries parent word place under = record { entry = under.entry; stands = under.stands; parent_is = under.parent_is; word_is = under.word_is }
+under_after : (first : Entry) (entries : List Entry) (parent : ℕ) (word : Word) (place : ℕ) → IsUnder entries parent word place → IsUnder (first ∷ entries) parent word (suc place)
+under_after first entries parent word place under = record { entry = under.entry; stands = under.stands; parent_is = under.parent_is; word_is = under.word_is }
 
 -- where a name is counted, it stands
 counted_stands : (parent : ℕ) (word : Word) (entries : List Entry) → 1 ≤ count_by (is_word word) (names_under parent entries) → (place : ℕ) × IsUnder entries parent word place
 counted_stands parent word [] some = absurd (omega arith)
 counted_stands parent word (first ∷ entries) some = at (first.parent == parent) refl some (counted_stands parent word entries)
   where
-    behind : (place : ℕ) × IsUnder entries parent word place → (place : ℕ) × IsUnder (first ∷ entries) parent word place
-    behind found = (suc found.0, under_behind first entries parent word found.0 found.1)
+    following : (place : ℕ) × IsUnder entries parent word place → (place : ℕ) × IsUnder (first ∷ entries) parent word place
+    following found = (suc found.0, under_after first entries parent word found.0 found.1)
 
     by : (is : Bool) → is_word word (word_of first.what) ≡ is → first.parent ≡ parent → 1 ≤ cond is 1 0 + count_by (is_word word) (names_under parent entries)
         → (1 ≤ count_by (is_word word) (names_under parent entries) → (place : ℕ) × IsUnder entries parent word place) → (place : ℕ) × IsUnder (first ∷ entries) parent word place
     by true is here some more = (0, record { entry = first; stands = refl; parent_is = here; word_is = sym (same_word word (word_of first.what) is) })
-    by false is here some more = behind (more (omega (arith, some)))
+    by false is here some more = following (more (omega (arith, some)))
 
     at : (here : Bool) → (first.parent == parent) ≡ here
         → 1 ≤ count_by (is_word word) (map (λ entry. word_of entry.what) (cond here (first ∷ filter (λ entry. entry.parent == parent) entries) (filter (λ entry. entry.parent == parent) entries)))
         → (1 ≤ count_by (is_word word) (names_under parent entries) → (place : ℕ) × IsUnder entries parent word place) → (place : ℕ) × IsUnder (first ∷ entries) parent word place
-    at false e some more = behind (more some)
+    at false e some more = following (more some)
     at true e some more =
         let here : first.parent ≡ parent = grind (arith, nat_tests) in
         by (is_word word (word_of first.what)) refl here (subst (λ (n : ℕ). 1 ≤ n) (count_first word (word_of first.what) (names_under parent entries)) some) more
@@ -162,7 +162,7 @@ stands_counted parent word (first ∷ entries) zero under =
     some_same : Some first ≡ Some under.entry → first ≡ under.entry
     some_same f = cc
 stands_counted parent word (first ∷ entries) (suc place) under =
-    let behind : 1 ≤ count_by (is_word word) (names_under parent entries) = stands_counted parent word entries place (record { entry = under.entry; stands = under.stands; parent_is = under.parent_is; word_is = under.word_is }) in
+    let following : 1 ≤ count_by (is_word word) (names_under parent entries) = stands_counted parent word entries place (record { entry = under.entry; stands = under.stands; parent_is = under.parent_is; word_is = under.word_is }) in
     omega (arith, count_under parent word first entries)
 
 -- the first and a later one are counted twice
@@ -170,7 +170,7 @@ two_stand : (parent : ℕ) (word : Word) (first : Entry) (entries : List Entry) 
     → IsUnder (first ∷ entries) parent word 0 → IsUnder (first ∷ entries) parent word (suc place) → ⊥
 two_stand parent word first entries place most under also =
     let same : first ≡ under.entry = some_same under.stands in
-    let behind : 1 ≤ count_by (is_word word) (names_under parent entries) = stands_counted parent word entries place (record { entry = also.entry; stands = also.stands; parent_is = also.parent_is; word_is = also.word_is }) in
+    let following : 1 ≤ count_by (is_word word) (names_under parent entries) = stands_counted parent word entries place (record { entry = also.entry; stands = also.stands; parent_is = also.parent_is; word_is = also.word_is }) in
     omega (arith, first_counted parent word first entries (ap (λ (e : Entry). e.parent) same ∙ under.parent_is) (ap (λ (e : Entry). word_of e.what) same ∙ under.word_is))
   where
     some_same : Some first ≡ Some under.entry → first ≡ under.entry

@@ -79,10 +79,10 @@ comment_spelt bytes = by (position are_dashes (pairs bytes)) refl
     by None e = broken _ _
     by (Some at) e =
         let part : IsDashed bytes at = dashed bytes at (sym (position_first are_dashes (pairs bytes)) ∙ e) in
-        let behind : drop (suc (suc at)) bytes ≡ drop (at + 2) bytes = ap (λ n. drop n bytes) (sym (two_more at)) in
+        let following : drop (suc (suc at)) bytes ≡ drop (at + 2) bytes = ap (λ n. drop n bytes) (sym (two_more at)) in
         let front : List ℕ = codes "<!--" ++ (take at bytes ++ 45 ∷ 45 ∷ []) in
         let whole : codes "<!--" ++ bytes ≡ front ++ drop (at + 2) bytes =
-        ap (λ rest. 60 ∷ 33 ∷ 45 ∷ 45 ∷ rest) (part.is ∙ ap (λ rest. take at bytes ++ 45 ∷ 45 ∷ rest) behind ∙ sym (append_assoc (take at bytes) (45 ∷ 45 ∷ []) (drop (at + 2) bytes))) in
+        ap (λ rest. 60 ∷ 33 ∷ 45 ∷ 45 ∷ rest) (part.is ∙ ap (λ rest. take at bytes ++ 45 ∷ 45 ∷ rest) following ∙ sym (append_assoc (take at bytes) (45 ∷ 45 ∷ []) (drop (at + 2) bytes))) in
         let size : at ≡ length (take at bytes) = part.size in
         let long : at + 6 ≡ length front = omega (arith, size, length-append (take at bytes) (45 ∷ 45 ∷ [])) in
         subst (λ (all : List ℕ). Spelt all (byte_token 62 Comment (at + 6) (drop (at + 2) bytes))) (sym whole)
@@ -100,7 +100,7 @@ declaration_spelt blank bytes is_blank = by (position ends_declaration bytes) re
     by None e = broken _ _
     by (Some at) e =
         let part : IsParted ends_declaration bytes at = parted ends_declaration bytes at (sym (position_first ends_declaration bytes) ∙ e) in
-        let behind : drop (suc at) bytes ≡ drop (at + 1) bytes = ap (λ n. drop n bytes) (sym (one_more at)) in
+        let following : drop (suc at) bytes ≡ drop (at + 1) bytes = ap (λ n. drop n bytes) (sym (one_more at)) in
         let front : List ℕ = codes "<?xml" ++ (blank ∷ (take at bytes ++ 63 ∷ [])) in
         let size : at ≡ length (take at bytes) = part.size in
         let long : at + 7 ≡ length front = omega (arith, size, length-append (take at bytes) (63 ∷ [])) in
@@ -109,7 +109,7 @@ declaration_spelt blank bytes is_blank = by (position ends_declaration bytes) re
         let whole : codes "<?xml" ++ (blank ∷ bytes) ≡ front ++ drop (at + 1) bytes =
         ap (λ rest. 60 ∷ 63 ∷ 120 ∷ 109 ∷ 108 ∷ blank ∷ rest) (part.is
         ∙ ap (λ byte. take at bytes ++ byte ∷ drop (suc at) bytes) (same_byte (get_or bytes at 0) 63 t)
-        ∙ ap (λ rest. take at bytes ++ 63 ∷ rest) behind
+        ∙ ap (λ rest. take at bytes ++ 63 ∷ rest) following
         ∙ sym (append_assoc (take at bytes) (63 ∷ []) (drop (at + 1) bytes))) in
         subst (λ (all : List ℕ). Spelt all (byte_token 62 Declaration (at + 7) (drop (at + 1) bytes))) (sym whole)
         (closed_spelt 62 Declaration (at + 7) front (drop (at + 1) bytes) long
@@ -175,7 +175,7 @@ end_of_tag_spelt : (name : List ℕ) (size : ℕ) (bytes : List ℕ) → size �
 unfolding end_of_tag
 end_of_tag_spelt name size bytes long is_name =
     let blanks : List ℕ = take (prefix_len is_blank bytes) bytes in
-    let behind : List ℕ = drop (prefix_len is_blank bytes) bytes in
+    let following : List ℕ = drop (prefix_len is_blank bytes) bytes in
     let front : List ℕ = 60 ∷ 47 ∷ (name ++ take (prefix_len is_blank bytes) bytes) in
     let whole : 60 ∷ 47 ∷ (name ++ bytes) ≡ front ++ drop (prefix_len is_blank bytes) bytes =
     ap (λ rest. 60 ∷ 47 ∷ rest) (ap (λ rest. name ++ rest) (halves (prefix_len is_blank bytes) bytes)

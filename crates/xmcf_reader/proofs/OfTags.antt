@@ -21,7 +21,7 @@ use Rattle.xmcf_reader.specs.declared.stage.Stage.TheVariants.{Between, Bare, Sp
 use Rattle.xmcf_reader.specs.declared.table.Attribute.{Attribute}
 use Rattle.xmcf_reader.specs.declared.word.Word.{Word}
 use Rattle.xmcf_reader.proofs.Faultless.{Sound, Ended, no_first, no_second, not_when, is_so, is_not_so, both_left, both_right, stands_here, tag_ends, sound_after, sound_start, none_broken}
-use Rattle.xmcf_reader.proofs.Paths.{Told, InTag, Tells, told_of, in_tag_of, tells_plain, tells_inside, tells_opening, tells_open, tells_empty, tells_end, tells_start}
+use Rattle.xmcf_reader.proofs.Paths.{Accounted, InTag, Accounts, between_of, in_tag_of, accounts_plain, accounts_inside, accounts_opening, accounts_open, accounts_empty, accounts_end, accounts_start}
 use Rattle.xmcf_reader.proofs.Rows.{found_passes, unlike}
 use Rattle.xmcf_reader.proofs.Stands.{got_before, ArePath}
 
@@ -308,23 +308,23 @@ tag_gives context (End place) before name at names inside none =
     absurd (unlike _ (both_left (is_between context.stage) _ (is_so _ (not_when _ (fault.Unclosed place) none))) inside.inside)
 
 -- an element's start tag begins, and has its entry
-opening_gives : (context : Context) (word : Word) (name : List ℕ) (at : ℕ) (more : Cut) (past : List Placed) → Sound (tag_begun (Some word) at context) → name ≡ word_text word → Told past context.entries context.open_elements
+opening_gives : (context : Context) (word : Word) (name : List ℕ) (at : ℕ) (more : Cut) (past : List Placed) → Sound (tag_begun (Some word) at context) → name ≡ word_text word → Accounted past context.entries context.open_elements
     → is_done context.open_elements context.entries ≡ false → faults_from (tag_begun (Some word) at context) more ≡ [] → GivesEntry past name at (tokens_of more) (draft_from (tag_begun (Some word) at context) more)
-opening_gives context word name at more past sound named told undone none =
+opening_gives context word name at more past sound named accounted undone none =
     gives (tag_gives (tag_begun (Some word) at context) more past name at [] (record {
       sound = sound;
       inside = refl;
       pending = refl;
       place = refl;
       named = named;
-      count = told.count;
-      parent = parent_of context.open_elements context.entries told undone;
+      count = accounted.count;
+      parent = parent_of context.open_elements context.entries accounted undone;
     }) none)
   where
-    parent_of : (open_elements : List Open) (entries : List Entry) → Told past entries open_elements → is_done open_elements entries ≡ false → IsParent past (parent_number open_elements)
-    parent_of [] [] told undone = inl (sym told.count, refl)
-    parent_of [] (entry ∷ entries) told undone = cc
-    parent_of (inner ∷ outer) entries told undone = inr told.all.0
+    parent_of : (open_elements : List Open) (entries : List Entry) → Accounted past entries open_elements → is_done open_elements entries ≡ false → IsParent past (parent_number open_elements)
+    parent_of [] [] accounted undone = inl (sym accounted.count, refl)
+    parent_of [] (entry ∷ entries) accounted undone = cc
+    parent_of (inner ∷ outer) entries accounted undone = inr accounted.all.0
 
     gives : Tagged (draft_from (tag_begun (Some word) at context) more) past name at word (given_of word (names_in (in_tag (tokens_of more))) (values_in (in_tag (tokens_of more))))
         → GivesEntry past name at (tokens_of more) (draft_from (tag_begun (Some word) at context) more)
@@ -340,9 +340,9 @@ opening_gives context word name at more past sound named told undone none =
     }
 
 -- a start tag that breaks nothing gives its entry
-start_gives : (context : Context) (name : List ℕ) (at : ℕ) (more : Cut) (past : List Placed) → Sound context → Tells (is_between context.stage) past context.entries context.open_elements
+start_gives : (context : Context) (name : List ℕ) (at : ℕ) (more : Cut) (past : List Placed) → Sound context → Accounts (is_between context.stage) past context.entries context.open_elements
     → faults_from context (Item (Opening name) at more) ≡ [] → GivesEntry past name at (tokens_of more) (draft_from context (Item (Opening name) at more))
-start_gives context name at more past sound tells none =
+start_gives context name at more past sound accounts none =
     let here : faults_of context (Opening name) at ≡ [] = no_first (faults_of context (Opening name) at) _ none in
     let both : (is_between context.stage && not (is_done context.open_elements context.entries)) ≡ true = stands_here _ (fault.BadItem at) (element_faults (element_named name) context.open_elements at) here in
     let known = known_element (element_named name) context.open_elements at (no_second (when (not (is_between context.stage && not (is_done context.open_elements context.entries))) (fault.BadItem at)) _ here) in
@@ -350,38 +350,38 @@ start_gives context name at more past sound tells none =
     let rest : faults_from (tag_begun (element_named name) at context) more ≡ [] = no_second (faults_of context (Opening name) at) _ none in
     subst (λ (found : Option Word). GivesEntry past name at (tokens_of more) (draft_from (tag_begun found at context) more)) (sym known.1)
     (opening_gives context known.0 name at more past (subst (λ (found : Option Word). Sound (tag_begun found at context)) known.1 next) (known_name name known.0 known.1)
-    (told_of (is_between context.stage) past context.entries context.open_elements (both_left _ _ both) tells) (is_not_so _ (both_right (is_between context.stage) _ both))
+    (between_of (is_between context.stage) past context.entries context.open_elements (both_left _ _ both) accounts) (is_not_so _ (both_right (is_between context.stage) _ both))
     (subst (λ (found : Option Word). faults_from (tag_begun found at context) more ≡ []) known.1 rest))
 
 -- an end tag that breaks nothing ends its entry
-end_ends : (context : Context) (open_elements : List Open) (name : List ℕ) (past : List Placed) (entries : List Entry) → closes name open_elements ≡ true → Told past context.entries open_elements
+end_ends : (context : Context) (open_elements : List Open) (name : List ℕ) (past : List Placed) (entries : List Entry) → closes name open_elements ≡ true → Accounted past context.entries open_elements
     → ((inner : Open) (outer : List Open) → open_elements ≡ inner ∷ outer → (entry : Entry) × StandsAt entries inner.number entry × (word_of entry.what ≡ inner.word)) → EndsEntry past name entries
-end_ends context [] name past entries closed told stood = cc
-end_ends context (inner ∷ outer) name past entries closed told stood =
+end_ends context [] name past entries closed accounted stood = cc
+end_ends context (inner ∷ outer) name past entries closed accounted stood =
     let found = stood inner outer refl in
     record {
       number = inner.number;
       entry = found.0;
-      innermost = told.all.0;
+      innermost = accounted.all.0;
       stands = found.1;
       named = sym ((bytes_eq-Decides (word_text inner.word) name).0 closed) ∙ ap word_text (sym found.2);
     }
 
--- what the end of a start tag tells
-open_tells : (context : Context) (at : ℕ) (past : List Placed) → Ended context → InTag past context.entries context.open_elements
-    → Told (past ++ (record { token = TagEnd; at = at }) ∷ []) (opened (length context.entries) (tag_ended context)).entries (opened (length context.entries) (tag_ended context)).open_elements
+-- what the end of a start tag accounts for
+open_accounts : (context : Context) (at : ℕ) (past : List Placed) → Ended context → InTag past context.entries context.open_elements
+    → Accounted (past ++ (record { token = TagEnd; at = at }) ∷ []) (opened (length context.entries) (tag_ended context)).entries (opened (length context.entries) (tag_ended context)).open_elements
 unfolding tag_ended
-open_tells context at past ended tells =
-    subst (λ (entries : List Entry). Told (past ++ (record { token = TagEnd; at = at }) ∷ []) entries (opened (length context.entries) (tag_ended context)).open_elements) (sym ended.more)
-    (tells_open past (record { token = TagEnd; at = at }) context.entries ended.entry context.tag.word context.open_elements tells refl refl)
+open_accounts context at past ended accounts =
+    subst (λ (entries : List Entry). Accounted (past ++ (record { token = TagEnd; at = at }) ∷ []) entries (opened (length context.entries) (tag_ended context)).open_elements) (sym ended.more)
+    (accounts_open past (record { token = TagEnd; at = at }) context.entries ended.entry context.tag.word context.open_elements accounts refl refl)
 
--- what the end of an empty tag tells
-empty_tells : (context : Context) (at : ℕ) (past : List Placed) → Ended context → InTag past context.entries context.open_elements
-    → Told (past ++ (record { token = EmptyEnd; at = at }) ∷ []) (tag_ended context).entries (tag_ended context).open_elements
+-- what the end of an empty tag accounts for
+empty_accounts : (context : Context) (at : ℕ) (past : List Placed) → Ended context → InTag past context.entries context.open_elements
+    → Accounted (past ++ (record { token = EmptyEnd; at = at }) ∷ []) (tag_ended context).entries (tag_ended context).open_elements
 unfolding tag_ended
-empty_tells context at past ended tells =
-    subst (λ (entries : List Entry). Told (past ++ (record { token = EmptyEnd; at = at }) ∷ []) entries (tag_ended context).open_elements) (sym ended.more)
-    (tells_empty past (record { token = EmptyEnd; at = at }) context.entries ended.entry context.tag.word context.open_elements tells refl refl)
+empty_accounts context at past ended accounts =
+    subst (λ (entries : List Entry). Accounted (past ++ (record { token = EmptyEnd; at = at }) ∷ []) entries (tag_ended context).open_elements) (sym ended.more)
+    (accounts_empty past (record { token = EmptyEnd; at = at }) context.entries ended.entry context.tag.word context.open_elements accounts refl refl)
 
 -- after the end of a start tag the text is between tags
 ended_between : (context : Context) → is_between (tag_ended context).stage ≡ true
@@ -404,52 +404,52 @@ spaced_inside (Named attribute) e = cc
 spaced_inside (Equaled attribute) e = cc
 
 -- what the end of an element leaves open
-outer_tells : (context : Context) (open_elements : List Open) (name : List ℕ) (at : ℕ) (past : List Placed) → closes name open_elements ≡ true → Told past context.entries open_elements
-    → Told (past ++ (record { token = EndTag name; at = at }) ∷ []) context.entries (outer_of open_elements)
-outer_tells context [] name at past closed told = cc
-outer_tells context (inner ∷ outer) name at past closed told = tells_end past (record { token = EndTag name; at = at }) context.entries inner outer told refl refl
+outer_accounts : (context : Context) (open_elements : List Open) (name : List ℕ) (at : ℕ) (past : List Placed) → closes name open_elements ≡ true → Accounted past context.entries open_elements
+    → Accounted (past ++ (record { token = EndTag name; at = at }) ∷ []) context.entries (outer_of open_elements)
+outer_accounts context [] name at past closed accounted = cc
+outer_accounts context (inner ∷ outer) name at past closed accounted = accounts_end past (record { token = EndTag name; at = at }) context.entries inner outer accounted refl refl
 
--- what one more token tells
-tells_after : (context : Context) (token : Token) (at : ℕ) (past : List Placed) → Sound context → Tells (is_between context.stage) past context.entries context.open_elements → faults_of context token at ≡ []
-    → Tells (is_between (after_token context token at).stage) (past ++ (record { token = token; at = at }) ∷ []) (after_token context token at).entries (after_token context token at).open_elements
-tells_after context Blanks at past sound tells none =
-    subst (λ (between : Bool). Tells between (past ++ (record { token = Blanks; at = at }) ∷ []) context.entries context.open_elements) (sym (spaced_between context.stage))
-    (tells_plain (is_between context.stage) past (record { token = Blanks; at = at }) context.entries context.open_elements tells refl refl)
-tells_after context Comment at past sound tells none = tells_plain (is_between context.stage) past (record { token = Comment; at = at }) context.entries context.open_elements tells refl refl
-tells_after context Declaration at past sound tells none = tells_plain (is_between context.stage) past (record { token = Declaration; at = at }) context.entries context.open_elements tells refl refl
-tells_after context (Opening name) at past sound tells none =
+-- what one more token accounts for
+accounts_after : (context : Context) (token : Token) (at : ℕ) (past : List Placed) → Sound context → Accounts (is_between context.stage) past context.entries context.open_elements → faults_of context token at ≡ []
+    → Accounts (is_between (after_token context token at).stage) (past ++ (record { token = token; at = at }) ∷ []) (after_token context token at).entries (after_token context token at).open_elements
+accounts_after context Blanks at past sound accounts none =
+    subst (λ (between : Bool). Accounts between (past ++ (record { token = Blanks; at = at }) ∷ []) context.entries context.open_elements) (sym (spaced_between context.stage))
+    (accounts_plain (is_between context.stage) past (record { token = Blanks; at = at }) context.entries context.open_elements accounts refl refl)
+accounts_after context Comment at past sound accounts none = accounts_plain (is_between context.stage) past (record { token = Comment; at = at }) context.entries context.open_elements accounts refl refl
+accounts_after context Declaration at past sound accounts none = accounts_plain (is_between context.stage) past (record { token = Declaration; at = at }) context.entries context.open_elements accounts refl refl
+accounts_after context (Opening name) at past sound accounts none =
     let both : (is_between context.stage && not (is_done context.open_elements context.entries)) ≡ true = stands_here _ (fault.BadItem at) (element_faults (element_named name) context.open_elements at) none in
     let known = known_element (element_named name) context.open_elements at (no_second (when (not (is_between context.stage && not (is_done context.open_elements context.entries))) (fault.BadItem at)) _ none) in
-    subst (λ (found : Option Word). Tells (is_between (tag_begun found at context).stage) (past ++ (record { token = Opening name; at = at }) ∷ []) (tag_begun found at context).entries (tag_begun found at context).open_elements) (sym known.1)
-    (tells_opening past (record { token = Opening name; at = at }) context.entries context.open_elements (told_of (is_between context.stage) past context.entries context.open_elements (both_left _ _ both) tells) refl refl)
-tells_after context (Name name) at past sound tells none =
+    subst (λ (found : Option Word). Accounts (is_between (tag_begun found at context).stage) (past ++ (record { token = Opening name; at = at }) ∷ []) (tag_begun found at context).entries (tag_begun found at context).open_elements) (sym known.1)
+    (accounts_opening past (record { token = Opening name; at = at }) context.entries context.open_elements (between_of (is_between context.stage) past context.entries context.open_elements (both_left _ _ both) accounts) refl refl)
+accounts_after context (Name name) at past sound accounts none =
     let may : is_spaced context.stage ≡ true = stands_here (is_spaced context.stage) (fault.BadItem at) (attribute_faults (attribute_named name context.tag.word) context.tag at) none in
     let known = known_attribute (attribute_named name context.tag.word) context.tag at (no_second (when (not (is_spaced context.stage)) (fault.BadItem at)) _ none) in
-    subst (λ (found : Option Attribute). Tells (is_between (named_as found context).stage) (past ++ (record { token = Name name; at = at }) ∷ []) (named_as found context).entries (named_as found context).open_elements) (sym known.1)
-    (tells_inside past (record { token = Name name; at = at }) context.entries context.open_elements (in_tag_of (is_between context.stage) past context.entries context.open_elements (spaced_inside context.stage may) tells) refl refl)
-tells_after context Equals at past sound tells none =
-    subst (λ (between : Bool). Tells between (past ++ (record { token = Equals; at = at }) ∷ []) context.entries context.open_elements) (sym (equaled_between context.stage))
-    (tells_plain (is_between context.stage) past (record { token = Equals; at = at }) context.entries context.open_elements tells refl refl)
-tells_after context (Value text) at past sound tells none =
+    subst (λ (found : Option Attribute). Accounts (is_between (named_as found context).stage) (past ++ (record { token = Name name; at = at }) ∷ []) (named_as found context).entries (named_as found context).open_elements) (sym known.1)
+    (accounts_inside past (record { token = Name name; at = at }) context.entries context.open_elements (in_tag_of (is_between context.stage) past context.entries context.open_elements (spaced_inside context.stage may) accounts) refl refl)
+accounts_after context Equals at past sound accounts none =
+    subst (λ (between : Bool). Accounts between (past ++ (record { token = Equals; at = at }) ∷ []) context.entries context.open_elements) (sym (equaled_between context.stage))
+    (accounts_plain (is_between context.stage) past (record { token = Equals; at = at }) context.entries context.open_elements accounts refl refl)
+accounts_after context (Value text) at past sound accounts none =
     let known = known_value context.stage text at none in
-    subst (λ (stage : Stage). Tells (is_between (valued stage text context).stage) (past ++ (record { token = Value text; at = at }) ∷ []) (valued stage text context).entries (valued stage text context).open_elements) (sym known.1)
-    (tells_inside past (record { token = Value text; at = at }) context.entries context.open_elements
-    (in_tag_of (is_between context.stage) past context.entries context.open_elements (ap is_between known.1) tells) refl refl)
-tells_after context TagEnd at past sound tells none =
+    subst (λ (stage : Stage). Accounts (is_between (valued stage text context).stage) (past ++ (record { token = Value text; at = at }) ∷ []) (valued stage text context).entries (valued stage text context).open_elements) (sym known.1)
+    (accounts_inside past (record { token = Value text; at = at }) context.entries context.open_elements
+    (in_tag_of (is_between context.stage) past context.entries context.open_elements (ap is_between known.1) accounts) refl refl)
+accounts_after context TagEnd at past sound accounts none =
     let may : may_end context.stage ≡ true = stands_here (may_end context.stage) (fault.BadItem at) (missing_attributes context.tag.word context.tag.given at) none in
-    subst (λ (between : Bool). Tells between (past ++ (record { token = TagEnd; at = at }) ∷ []) (opened (length context.entries) (tag_ended context)).entries (opened (length context.entries) (tag_ended context)).open_elements) (sym (ended_between context))
-    (open_tells context at past (tag_ends context at sound may (no_second (when (not (may_end context.stage)) (fault.BadItem at)) _ none))
-    (in_tag_of (is_between context.stage) past context.entries context.open_elements (end_inside context.stage may) tells))
-tells_after context EmptyEnd at past sound tells none =
+    subst (λ (between : Bool). Accounts between (past ++ (record { token = TagEnd; at = at }) ∷ []) (opened (length context.entries) (tag_ended context)).entries (opened (length context.entries) (tag_ended context)).open_elements) (sym (ended_between context))
+    (open_accounts context at past (tag_ends context at sound may (no_second (when (not (may_end context.stage)) (fault.BadItem at)) _ none))
+    (in_tag_of (is_between context.stage) past context.entries context.open_elements (end_inside context.stage may) accounts))
+accounts_after context EmptyEnd at past sound accounts none =
     let may : may_end context.stage ≡ true = stands_here (may_end context.stage) (fault.BadItem at) (missing_attributes context.tag.word context.tag.given at ++ missing_children context.tag.word [] at) none in
     let rest : missing_attributes context.tag.word context.tag.given at ++ missing_children context.tag.word [] at ≡ [] = no_second (when (not (may_end context.stage)) (fault.BadItem at)) _ none in
-    subst (λ (between : Bool). Tells between (past ++ (record { token = EmptyEnd; at = at }) ∷ []) (tag_ended context).entries (tag_ended context).open_elements) (sym (ended_between context))
-    (empty_tells context at past (tag_ends context at sound may (no_first (missing_attributes context.tag.word context.tag.given at) _ rest))
-    (in_tag_of (is_between context.stage) past context.entries context.open_elements (end_inside context.stage may) tells))
-tells_after context (EndTag name) at past sound tells none =
+    subst (λ (between : Bool). Accounts between (past ++ (record { token = EmptyEnd; at = at }) ∷ []) (tag_ended context).entries (tag_ended context).open_elements) (sym (ended_between context))
+    (empty_accounts context at past (tag_ends context at sound may (no_first (missing_attributes context.tag.word context.tag.given at) _ rest))
+    (in_tag_of (is_between context.stage) past context.entries context.open_elements (end_inside context.stage may) accounts))
+accounts_after context (EndTag name) at past sound accounts none =
     let both : (is_between context.stage && closes name context.open_elements) ≡ true = stands_here _ (fault.BadItem at) (missing_of context.open_elements at) none in
-    subst (λ (between : Bool). Tells between (past ++ (record { token = EndTag name; at = at }) ∷ []) context.entries (outer_of context.open_elements)) (sym (both_left _ _ both))
-    (outer_tells context context.open_elements name at past (both_right (is_between context.stage) _ both) (told_of (is_between context.stage) past context.entries context.open_elements (both_left _ _ both) tells))
+    subst (λ (between : Bool). Accounts between (past ++ (record { token = EndTag name; at = at }) ∷ []) context.entries (outer_of context.open_elements)) (sym (both_left _ _ both))
+    (outer_accounts context context.open_elements name at past (both_right (is_between context.stage) _ both) (between_of (is_between context.stage) past context.entries context.open_elements (both_left _ _ both) accounts))
 
 -- lists that begin with the same
 same_first : {X : Type 0} (x y : X) (xs ys : List X) → x ∷ xs ≡ y ∷ ys → x ≡ y
@@ -459,93 +459,93 @@ same_rest : {X : Type 0} (x y : X) (xs ys : List X) → x ∷ xs ≡ y ∷ ys �
 same_rest x y xs ys e = cc
 
 -- each start tag gives its entry
-each_start : (context : Context) (all : Cut) (past : List Placed) → Sound context → Tells (is_between context.stage) past context.entries context.open_elements → faults_from context all ≡ []
-    → (before behind : List Placed) (name : List ℕ) (at : ℕ) → tokens_of all ≡ before ++ (record { token = Opening name; at = at }) ∷ behind → GivesEntry (past ++ before) name at behind (draft_from context all)
-each_start context (Item token place more) past sound tells none [] behind name at e =
-    let head : record { token = token; at = place } ≡ record { token = Opening name; at = at } = same_first (record { token = token; at = place }) (record { token = Opening name; at = at }) (tokens_of more) behind e in
-    subst (λ (some : List Placed). GivesEntry some name at behind (draft_from context (Item token place more))) (sym (append-nil past))
-    (subst (λ (rest : List Placed). GivesEntry past name at rest (draft_from context (Item token place more))) (same_rest (record { token = token; at = place }) (record { token = Opening name; at = at }) (tokens_of more) behind e)
+each_start : (context : Context) (all : Cut) (past : List Placed) → Sound context → Accounts (is_between context.stage) past context.entries context.open_elements → faults_from context all ≡ []
+    → (before following : List Placed) (name : List ℕ) (at : ℕ) → tokens_of all ≡ before ++ (record { token = Opening name; at = at }) ∷ following → GivesEntry (past ++ before) name at following (draft_from context all)
+each_start context (Item token place more) past sound accounts none [] following name at e =
+    let head : record { token = token; at = place } ≡ record { token = Opening name; at = at } = same_first (record { token = token; at = place }) (record { token = Opening name; at = at }) (tokens_of more) following e in
+    subst (λ (some : List Placed). GivesEntry some name at following (draft_from context (Item token place more))) (sym (append-nil past))
+    (subst (λ (rest : List Placed). GivesEntry past name at rest (draft_from context (Item token place more))) (same_rest (record { token = token; at = place }) (record { token = Opening name; at = at }) (tokens_of more) following e)
     (subst (λ (one : Placed). faults_from context (Item one.token one.at more) ≡ [] → GivesEntry past name at (tokens_of more) (draft_from context (Item one.token one.at more))) (sym head)
-    (start_gives context name at more past sound tells) none))
-each_start context (Item token place more) past sound tells none (one ∷ before) behind name at e =
-    let head : record { token = token; at = place } ≡ one = same_first (record { token = token; at = place }) one (tokens_of more) (before ++ (record { token = Opening name; at = at }) ∷ behind) e in
+    (start_gives context name at more past sound accounts) none))
+each_start context (Item token place more) past sound accounts none (one ∷ before) following name at e =
+    let head : record { token = token; at = place } ≡ one = same_first (record { token = token; at = place }) one (tokens_of more) (before ++ (record { token = Opening name; at = at }) ∷ following) e in
     let here : faults_of context token place ≡ [] = no_first (faults_of context token place) _ none in
-    subst (λ (some : List Placed). GivesEntry some name at behind (draft_from context (Item token place more)))
+    subst (λ (some : List Placed). GivesEntry some name at following (draft_from context (Item token place more)))
     (append_assoc past ((record { token = token; at = place }) ∷ []) before ∙ ap (λ (first : Placed). past ++ first ∷ before) head)
-    (each_start (after_token context token place) more (past ++ (record { token = token; at = place }) ∷ []) (sound_after context token place sound here) (tells_after context token place past sound tells here) (no_second (faults_of context token place) _ none)
-    before behind name at (same_rest (record { token = token; at = place }) one (tokens_of more) (before ++ (record { token = Opening name; at = at }) ∷ behind) e))
-each_start context (Rest place byte broken) past sound tells none [] behind name at e = cc
-each_start context (Rest place byte broken) past sound tells none (one ∷ before) behind name at e = cc
-each_start context (End place) past sound tells none [] behind name at e = cc
-each_start context (End place) past sound tells none (one ∷ before) behind name at e = cc
+    (each_start (after_token context token place) more (past ++ (record { token = token; at = place }) ∷ []) (sound_after context token place sound here) (accounts_after context token place past sound accounts here) (no_second (faults_of context token place) _ none)
+    before following name at (same_rest (record { token = token; at = place }) one (tokens_of more) (before ++ (record { token = Opening name; at = at }) ∷ following) e))
+each_start context (Rest place byte broken) past sound accounts none [] following name at e = cc
+each_start context (Rest place byte broken) past sound accounts none (one ∷ before) following name at e = cc
+each_start context (End place) past sound accounts none [] following name at e = cc
+each_start context (End place) past sound accounts none (one ∷ before) following name at e = cc
 
 -- an end tag ends its entry
-end_tag_ends : (context : Context) (name : List ℕ) (at : ℕ) (more : Cut) (past : List Placed) → Sound context → Tells (is_between context.stage) past context.entries context.open_elements
+end_tag_ends : (context : Context) (name : List ℕ) (at : ℕ) (more : Cut) (past : List Placed) → Sound context → Accounts (is_between context.stage) past context.entries context.open_elements
     → faults_from context (Item (EndTag name) at more) ≡ [] → EndsEntry past name (draft_from context (Item (EndTag name) at more))
-end_tag_ends context name at more past sound tells none =
+end_tag_ends context name at more past sound accounts none =
     let here : faults_of context (EndTag name) at ≡ [] = no_first (faults_of context (EndTag name) at) _ none in
     let both : (is_between context.stage && closes name context.open_elements) ≡ true = stands_here _ (fault.BadItem at) (missing_of context.open_elements at) here in
     end_ends context context.open_elements name past (draft_from context (Item (EndTag name) at more)) (both_right (is_between context.stage) _ both)
-    (told_of (is_between context.stage) past context.entries context.open_elements (both_left _ _ both) tells)
+    (between_of (is_between context.stage) past context.entries context.open_elements (both_left _ _ both) accounts)
     (λ inner outer e. stood inner outer (subst (ArePath context.entries) e sound.stands.path))
   where
     stood : (inner : Open) (outer : List Open) → ArePath context.entries (inner ∷ outer) → (entry : Entry) × StandsAt (draft_from context (Item (EndTag name) at more)) inner.number entry × (word_of entry.what ≡ inner.word)
     stood inner outer path = (path.0.entry, draft_keeps context (Item (EndTag name) at more) inner.number path.0.entry path.0.stands, path.0.word)
 
 -- each end tag ends its entry
-each_end : (context : Context) (all : Cut) (past : List Placed) → Sound context → Tells (is_between context.stage) past context.entries context.open_elements → faults_from context all ≡ []
-    → (before behind : List Placed) (name : List ℕ) (at : ℕ) → tokens_of all ≡ before ++ (record { token = EndTag name; at = at }) ∷ behind → EndsEntry (past ++ before) name (draft_from context all)
-each_end context (Item token place more) past sound tells none [] behind name at e =
-    let head : record { token = token; at = place } ≡ record { token = EndTag name; at = at } = same_first (record { token = token; at = place }) (record { token = EndTag name; at = at }) (tokens_of more) behind e in
+each_end : (context : Context) (all : Cut) (past : List Placed) → Sound context → Accounts (is_between context.stage) past context.entries context.open_elements → faults_from context all ≡ []
+    → (before following : List Placed) (name : List ℕ) (at : ℕ) → tokens_of all ≡ before ++ (record { token = EndTag name; at = at }) ∷ following → EndsEntry (past ++ before) name (draft_from context all)
+each_end context (Item token place more) past sound accounts none [] following name at e =
+    let head : record { token = token; at = place } ≡ record { token = EndTag name; at = at } = same_first (record { token = token; at = place }) (record { token = EndTag name; at = at }) (tokens_of more) following e in
     subst (λ (some : List Placed). EndsEntry some name (draft_from context (Item token place more))) (sym (append-nil past))
     (subst (λ (one : Placed). faults_from context (Item one.token one.at more) ≡ [] → EndsEntry past name (draft_from context (Item one.token one.at more))) (sym head)
-    (end_tag_ends context name at more past sound tells) none)
-each_end context (Item token place more) past sound tells none (one ∷ before) behind name at e =
-    let head : record { token = token; at = place } ≡ one = same_first (record { token = token; at = place }) one (tokens_of more) (before ++ (record { token = EndTag name; at = at }) ∷ behind) e in
+    (end_tag_ends context name at more past sound accounts) none)
+each_end context (Item token place more) past sound accounts none (one ∷ before) following name at e =
+    let head : record { token = token; at = place } ≡ one = same_first (record { token = token; at = place }) one (tokens_of more) (before ++ (record { token = EndTag name; at = at }) ∷ following) e in
     let here : faults_of context token place ≡ [] = no_first (faults_of context token place) _ none in
     subst (λ (some : List Placed). EndsEntry some name (draft_from context (Item token place more)))
     (append_assoc past ((record { token = token; at = place }) ∷ []) before ∙ ap (λ (first : Placed). past ++ first ∷ before) head)
-    (each_end (after_token context token place) more (past ++ (record { token = token; at = place }) ∷ []) (sound_after context token place sound here) (tells_after context token place past sound tells here) (no_second (faults_of context token place) _ none)
-    before behind name at (same_rest (record { token = token; at = place }) one (tokens_of more) (before ++ (record { token = EndTag name; at = at }) ∷ behind) e))
-each_end context (Rest place byte broken) past sound tells none [] behind name at e = cc
-each_end context (Rest place byte broken) past sound tells none (one ∷ before) behind name at e = cc
-each_end context (End place) past sound tells none [] behind name at e = cc
-each_end context (End place) past sound tells none (one ∷ before) behind name at e = cc
+    (each_end (after_token context token place) more (past ++ (record { token = token; at = place }) ∷ []) (sound_after context token place sound here) (accounts_after context token place past sound accounts here) (no_second (faults_of context token place) _ none)
+    before following name at (same_rest (record { token = token; at = place }) one (tokens_of more) (before ++ (record { token = EndTag name; at = at }) ∷ following) e))
+each_end context (Rest place byte broken) past sound accounts none [] following name at e = cc
+each_end context (Rest place byte broken) past sound accounts none (one ∷ before) following name at e = cc
+each_end context (End place) past sound accounts none [] following name at e = cc
+each_end context (End place) past sound accounts none (one ∷ before) following name at e = cc
 
 -- at the end of a text, as many entries as begin, and each ends
 abbrev pub Counted : List Placed → List Entry → Type 0
 Counted tokens entries = (length entries ≡ tags.count_begun tokens) × (tags.count_ended tokens ≡ tags.count_begun tokens)
 
 -- where no element is open all is counted
-done_counted : (tokens : List Placed) (entries : List Entry) (open_elements : List Open) → is_done open_elements entries ≡ true → Told tokens entries open_elements → Counted tokens entries
-done_counted tokens entries [] done told = (told.count, (let balance : tags.count_begun tokens ≡ tags.count_ended tokens + 0 = told.balance in omega arith))
-done_counted tokens entries (inner ∷ outer) done told = cc
+done_counted : (tokens : List Placed) (entries : List Entry) (open_elements : List Open) → is_done open_elements entries ≡ true → Accounted tokens entries open_elements → Counted tokens entries
+done_counted tokens entries [] done accounted = (accounted.count, (let balance : tags.count_begun tokens ≡ tags.count_ended tokens + 0 = accounted.balance in omega arith))
+done_counted tokens entries (inner ∷ outer) done accounted = cc
 
 -- a text without a fault has as many entries as start tags, and each ends
-all_counted : (context : Context) (all : Cut) (past : List Placed) → Sound context → Tells (is_between context.stage) past context.entries context.open_elements → faults_from context all ≡ []
+all_counted : (context : Context) (all : Cut) (past : List Placed) → Sound context → Accounts (is_between context.stage) past context.entries context.open_elements → faults_from context all ≡ []
     → Counted (past ++ tokens_of all) (draft_from context all)
-all_counted context (Item token place more) past sound tells none =
+all_counted context (Item token place more) past sound accounts none =
     let here : faults_of context token place ≡ [] = no_first (faults_of context token place) _ none in
     subst (λ (tokens : List Placed). Counted tokens (draft_from context (Item token place more))) (append_assoc past ((record { token = token; at = place }) ∷ []) (tokens_of more))
-    (all_counted (after_token context token place) more (past ++ (record { token = token; at = place }) ∷ []) (sound_after context token place sound here) (tells_after context token place past sound tells here) (no_second (faults_of context token place) _ none))
-all_counted context (Rest place byte broken) past sound tells none = absurd (never (no_second (when (not (may_begin context.stage byte)) (fault.BadItem place)) (broken ∷ []) none))
+    (all_counted (after_token context token place) more (past ++ (record { token = token; at = place }) ∷ []) (sound_after context token place sound here) (accounts_after context token place past sound accounts here) (no_second (faults_of context token place) _ none))
+all_counted context (Rest place byte broken) past sound accounts none = absurd (never (no_second (when (not (may_begin context.stage byte)) (fault.BadItem place)) (broken ∷ []) none))
   where
     never : broken ∷ [] ≡ [] → ⊥
     never e = cc
-all_counted context (End place) past sound tells none =
+all_counted context (End place) past sound accounts none =
     let both : (is_between context.stage && is_done context.open_elements context.entries) ≡ true = is_so _ (not_when _ (fault.Unclosed place) none) in
     subst (λ (tokens : List Placed). Counted tokens context.entries) (sym (append-nil past))
-    (done_counted past context.entries context.open_elements (both_right (is_between context.stage) _ both) (told_of (is_between context.stage) past context.entries context.open_elements (both_left _ _ both) tells))
+    (done_counted past context.entries context.open_elements (both_right (is_between context.stage) _ both) (between_of (is_between context.stage) past context.entries context.open_elements (both_left _ _ both) accounts))
 
 -- the entries of a text whose tokens break nothing are those of its start tags
 of_tags : (all : Cut) → faults_from empty_draft all ≡ [] → AreOfTags (tokens_of all) (draft_from empty_draft all)
 of_tags all none =
-    let counted = all_counted empty_draft all [] sound_start tells_start none in
+    let counted = all_counted empty_draft all [] sound_start accounts_start none in
     record {
       count = counted.0;
       closed = counted.1;
-      starts = each_start empty_draft all [] sound_start tells_start none;
-      end_tags = each_end empty_draft all [] sound_start tells_start none;
+      starts = each_start empty_draft all [] sound_start accounts_start none;
+      end_tags = each_end empty_draft all [] sound_start accounts_start none;
     }
 
 -- the entries of a text without a fault are those of its start tags

@@ -34,7 +34,7 @@ SomeAtLeast at kind (Some one) = AtLeast at kind one
 -- faults from a place and a kind on, of which the first is the least
 pub record InOrder (at kind : ℕ) (faults : List ReadFault) : Type 0 where
   pub good : least faults ≡ first_of faults
-  pub behind : AllAtLeast at kind faults
+  pub following : AllAtLeast at kind faults
 
 -- what is no lesser does not come before
 not_before : (one other : ReadFault) → AtLeast (place one) (rank one) other → comes_before other one ≡ false
@@ -72,7 +72,7 @@ sooner_all at kind early low [] h k = tt
 sooner_all at kind early low (one ∷ others) h k = (sooner_one at kind early low one h k.0, sooner_all at kind early low others h k.1)
 
 sooner : (at kind early low : ℕ) (faults : List ReadFault) → (early < at) ⊎ ((early ≡ at) × (low ≤ kind)) → InOrder at kind faults → InOrder early low faults
-sooner at kind early low faults h order = record { good = order.good; behind = sooner_all at kind early low faults h order.behind }
+sooner at kind early low faults h order = record { good = order.good; following = sooner_all at kind early low faults h order.following }
 
 -- all faults stand at one place, with one kind
 abbrev pub Level : ℕ → ℕ → List ReadFault → Type 0
@@ -87,8 +87,8 @@ level_then at kind (one ∷ others) more level order = put (level_then at kind o
     put : InOrder at kind (others ++ more) → place one ≡ at → rank one ≡ kind → InOrder at kind (one ∷ (others ++ more))
     put rest here same = record {
       good = lesser_head one (least (others ++ more)) (least_at_least (place one) (rank one) (others ++ more)
-          (sooner_all at kind (place one) (rank one) (others ++ more) (inr (here, omega (arith, same))) rest.behind));
-      behind = (inr (here, omega (arith, same)), rest.behind);
+          (sooner_all at kind (place one) (rank one) (others ++ more) (inr (here, omega (arith, same))) rest.following));
+      following = (inr (here, omega (arith, same)), rest.following);
     }
 
 -- a fault that comes or not is a level
@@ -182,26 +182,26 @@ token_order context EmptyEnd at more order first =
 token_order context (EndTag name) at more order first =
     two_parts _ at _ more (lower at 10 1 _ (omega arith) (one_level at 10 _ more (missing_level context.open_elements at) order))
 
--- the kind from which faults stand after a token's first byte, of which so many bytes are left
+-- the kind from which faults stand after a token's first byte, of which this many bytes are left
 abbrev pub low_of_left : ℕ → ℕ
 low_of_left zero = 0
 low_of_left (suc left) = 7
 
 -- a fault some bytes after a place
-from_place : (at behind kind : ℕ) (one : ReadFault) → place one ≡ at + behind → kind ≤ rank one → AtLeast at kind one
+from_place : (at following kind : ℕ) (one : ReadFault) → place one ≡ at + following → kind ≤ rank one → AtLeast at kind one
 from_place at zero kind one here kinds = inr (omega (arith, here), kinds)
-from_place at (suc behind) kind one here kinds = inl (omega (arith, here))
+from_place at (suc following) kind one here kinds = inl (omega (arith, here))
 
 -- the fault of a spelling that stops
 stop_order : (at size : ℕ) (stop : Stop) → InOrder at 1 (stopped at size stop ∷ [])
-stop_order at size (Break behind) = record { good = refl; behind = (from_place at behind 1 (fault.BadItem (at + behind)) refl (omega arith), tt) }
-stop_order at size (Reference behind) = record { good = refl; behind = (from_place at behind 1 (fault.Reference (at + behind)) refl (omega arith), tt) }
-stop_order at size Ended = record { good = refl; behind = (from_place at size 1 (fault.Unclosed (at + size)) refl (omega arith), tt) }
+stop_order at size (Break following) = record { good = refl; following = (from_place at following 1 (fault.BadItem (at + following)) refl (omega arith), tt) }
+stop_order at size (Reference following) = record { good = refl; following = (from_place at following 1 (fault.Reference (at + following)) refl (omega arith), tt) }
+stop_order at size Ended = record { good = refl; following = (from_place at size 1 (fault.Unclosed (at + size)) refl (omega arith), tt) }
 
 -- the fault at the end
 end_order : (comes : Bool) (at : ℕ) → InOrder at 8 (when comes (fault.Unclosed at))
-end_order true at = record { good = refl; behind = (inr (refl, omega arith), tt) }
-end_order false at = record { good = refl; behind = tt }
+end_order true at = record { good = refl; following = (inr (refl, omega arith), tt) }
+end_order false at = record { good = refl; following = tt }
 
 -- where two bytes belong to a value, faults after its first byte are of a value's kind or greater
 value_first : (token : Token) (size at : ℕ) (more : List ReadFault) → HasQuotes (Found token size) → InOrder (at + 1) (low_of_left (size - 1)) more → ValueFirst token at more

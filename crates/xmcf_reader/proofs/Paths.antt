@@ -1,4 +1,4 @@
--- The open elements, told by counting where elements begin and end.
+-- The open elements, found by counting where elements begin and end.
 use Rattle.std.proofs.Common.{◌≡◌, ℕ, ◌+◌, ◌<◌, ◌≤◌, Bool, true, false, List, [], ◌∷◌, ◌++◌, length, refl, sym, ap, ◌∙◌, arith, subst, append_assoc, length-append}
 use Rattle.std.specs.List.{AllByRecursion}
 use Rattle.xmcf_reader.specs.Draft.{Open, child_noted}
@@ -81,11 +81,11 @@ open_more tokens more (inner ∷ outer) all closed same = (
   record {
     before = all.0.before;
     start = all.0.start;
-    behind = all.0.behind ++ more;
-    is = ap (λ some. some ++ more) all.0.is ∙ append_assoc all.0.before (all.0.start ∷ all.0.behind) more;
-    open_here = (let here : ends all.0.start.token + count_ended all.0.behind < begins all.0.start.token + count_begun all.0.behind = all.0.open_here in
-        omega (arith, begun_more all.0.behind more, ended_more all.0.behind more));
-    closed = closed_more all.0.behind more all.0.closed closed;
+    following = all.0.following ++ more;
+    is = ap (λ some. some ++ more) all.0.is ∙ append_assoc all.0.before (all.0.start ∷ all.0.following) more;
+    open_here = (let here : ends all.0.start.token + count_ended all.0.following < begins all.0.start.token + count_begun all.0.following = all.0.open_here in
+        omega (arith, begun_more all.0.following more, ended_more all.0.following more));
+    closed = closed_more all.0.following more all.0.closed closed;
     number_is = all.0.number_is;
   },
   all.1,
@@ -99,17 +99,17 @@ noted_open tokens word (inner ∷ outer) all = all
 -- after an end tag the outer ones are open
 open_end : (tokens : List Placed) (one : Placed) (inner : Open) (outer : List Open) → AreOpen tokens (inner ∷ outer) → begins one.token ≡ 0 → ends one.token ≡ 1 → AreOpen (tokens ++ one ∷ []) outer
 open_end tokens one inner outer all begin end =
-    subst (λ (some : List Placed). AreOpen some outer) (sym (ap (λ some. some ++ one ∷ []) all.0.is ∙ append_assoc all.0.before (all.0.start ∷ all.0.behind) (one ∷ [])))
-    (open_more all.0.before (all.0.start ∷ (all.0.behind ++ one ∷ [])) outer all.1 whole_closed balanced)
+    subst (λ (some : List Placed). AreOpen some outer) (sym (ap (λ some. some ++ one ∷ []) all.0.is ∙ append_assoc all.0.before (all.0.start ∷ all.0.following) (one ∷ [])))
+    (open_more all.0.before (all.0.start ∷ (all.0.following ++ one ∷ [])) outer all.1 whole_closed balanced)
   where
-    balanced : begins all.0.start.token + count_begun (all.0.behind ++ one ∷ []) ≡ ends all.0.start.token + count_ended (all.0.behind ++ one ∷ [])
+    balanced : begins all.0.start.token + count_begun (all.0.following ++ one ∷ []) ≡ ends all.0.start.token + count_ended (all.0.following ++ one ∷ [])
     balanced =
-        let here : ends all.0.start.token + count_ended all.0.behind < begins all.0.start.token + count_begun all.0.behind = all.0.open_here in
-        let behind : count_begun all.0.behind ≤ count_ended all.0.behind = closed_count all.0.behind all.0.closed in
-        omega (arith, begun_more all.0.behind (one ∷ []), ended_more all.0.behind (one ∷ []), one_at_most all.0.start.token)
+        let here : ends all.0.start.token + count_ended all.0.following < begins all.0.start.token + count_begun all.0.following = all.0.open_here in
+        let following : count_begun all.0.following ≤ count_ended all.0.following = closed_count all.0.following all.0.closed in
+        omega (arith, begun_more all.0.following (one ∷ []), ended_more all.0.following (one ∷ []), one_at_most all.0.start.token)
 
-    whole_closed : AllClosed (all.0.start ∷ (all.0.behind ++ one ∷ []))
-    whole_closed = (omega (arith, balanced), closed_more all.0.behind (one ∷ []) all.0.closed ((omega arith, tt)))
+    whole_closed : AllClosed (all.0.start ∷ (all.0.following ++ one ∷ []))
+    whole_closed = (omega (arith, balanced), closed_more all.0.following (one ∷ []) all.0.closed ((omega arith, tt)))
 
 -- after a start tag its element is open, too
 open_start : (before : List Placed) (start : Placed) (inside : List Placed) (word : Word) (number : ℕ) (open_elements : List Open) → AreOpen before open_elements → begins start.token ≡ 1 → ends start.token ≡ 0 → ArePlain inside → number ≡ count_begun before
@@ -118,7 +118,7 @@ open_start before start inside word number open_elements all begin end plain cou
   record {
     before = before;
     start = start;
-    behind = inside;
+    following = inside;
     is = refl;
     open_here = omega (arith, plain_begun inside plain, plain_ended inside plain);
     closed = plain_closed inside plain;
@@ -139,13 +139,13 @@ open_empty before start inside one word open_elements all begin end plain begin_
     whole_closed : AllClosed (start ∷ (inside ++ one ∷ []))
     whole_closed = (omega (arith, balanced), closed_more inside (one ∷ []) (plain_closed inside plain) ((omega arith, tt)))
 
--- what tokens between tags tell: as many entries as begin, and what is open
-pub record Told (tokens : List Placed) (entries : List Entry) (open_elements : List Open) : Type 0 where
+-- what tokens between tags account for: as many entries as begin, and what is open
+pub record Accounted (tokens : List Placed) (entries : List Entry) (open_elements : List Open) : Type 0 where
   pub count : length entries ≡ count_begun tokens
   pub balance : count_begun tokens ≡ count_ended tokens + length open_elements
   pub all : AreOpen tokens open_elements
 
--- what tokens in a start tag tell
+-- what tokens in a start tag account for
 pub record InTag (tokens : List Placed) (entries : List Entry) (open_elements : List Open) : Type 0 where
   pub before : List Placed
   pub start : Placed
@@ -154,12 +154,12 @@ pub record InTag (tokens : List Placed) (entries : List Entry) (open_elements : 
   pub begin : begins start.token ≡ 1
   pub end : ends start.token ≡ 0
   pub plain : ArePlain inside
-  pub told : Told before entries open_elements
+  pub accounted : Accounted before entries open_elements
 
--- what tokens tell, between tags or not
-abbrev pub Tells : Bool → List Placed → List Entry → List Open → Type 0
-Tells true tokens entries open_elements = Told tokens entries open_elements
-Tells false tokens entries open_elements = InTag tokens entries open_elements
+-- what tokens account for, between tags or not
+abbrev pub Accounts : Bool → List Placed → List Entry → List Open → Type 0
+Accounts true tokens entries open_elements = Accounted tokens entries open_elements
+Accounts false tokens entries open_elements = InTag tokens entries open_elements
 
 -- as many are open with a child more
 noted_length : (word : Word) (open_elements : List Open) → length (child_noted word open_elements) ≡ length open_elements
@@ -167,78 +167,78 @@ noted_length word [] = refl
 noted_length word (inner ∷ outer) = refl
 
 -- between tags
-pub told_of : (between : Bool) (tokens : List Placed) (entries : List Entry) (open_elements : List Open) → between ≡ true → Tells between tokens entries open_elements → Told tokens entries open_elements
-told_of true tokens entries open_elements e tells = tells
-told_of false tokens entries open_elements e tells = cc
+pub between_of : (between : Bool) (tokens : List Placed) (entries : List Entry) (open_elements : List Open) → between ≡ true → Accounts between tokens entries open_elements → Accounted tokens entries open_elements
+between_of true tokens entries open_elements e accounts = accounts
+between_of false tokens entries open_elements e accounts = cc
 
 -- in a start tag
-pub in_tag_of : (between : Bool) (tokens : List Placed) (entries : List Entry) (open_elements : List Open) → between ≡ false → Tells between tokens entries open_elements → InTag tokens entries open_elements
-in_tag_of true tokens entries open_elements e tells = cc
-in_tag_of false tokens entries open_elements e tells = tells
+pub in_tag_of : (between : Bool) (tokens : List Placed) (entries : List Entry) (open_elements : List Open) → between ≡ false → Accounts between tokens entries open_elements → InTag tokens entries open_elements
+in_tag_of true tokens entries open_elements e accounts = cc
+in_tag_of false tokens entries open_elements e accounts = accounts
 
 -- a plain token in a start tag
-pub tells_inside : (tokens : List Placed) (one : Placed) (entries : List Entry) (open_elements : List Open) → InTag tokens entries open_elements → begins one.token ≡ 0 → ends one.token ≡ 0 → InTag (tokens ++ one ∷ []) entries open_elements
-tells_inside tokens one entries open_elements tells begin end = record {
-  before = tells.before;
-  start = tells.start;
-  inside = tells.inside ++ one ∷ [];
-  is = ap (λ some. some ++ one ∷ []) tells.is ∙ append_assoc tells.before (tells.start ∷ tells.inside) (one ∷ []);
-  begin = tells.begin;
-  end = tells.end;
-  plain = plain_more tells.inside one tells.plain begin end;
-  told = tells.told;
+pub accounts_inside : (tokens : List Placed) (one : Placed) (entries : List Entry) (open_elements : List Open) → InTag tokens entries open_elements → begins one.token ≡ 0 → ends one.token ≡ 0 → InTag (tokens ++ one ∷ []) entries open_elements
+accounts_inside tokens one entries open_elements accounts begin end = record {
+  before = accounts.before;
+  start = accounts.start;
+  inside = accounts.inside ++ one ∷ [];
+  is = ap (λ some. some ++ one ∷ []) accounts.is ∙ append_assoc accounts.before (accounts.start ∷ accounts.inside) (one ∷ []);
+  begin = accounts.begin;
+  end = accounts.end;
+  plain = plain_more accounts.inside one accounts.plain begin end;
+  accounted = accounts.accounted;
 }
 
 -- a plain token
-pub tells_plain : (between : Bool) (tokens : List Placed) (one : Placed) (entries : List Entry) (open_elements : List Open) → Tells between tokens entries open_elements → begins one.token ≡ 0 → ends one.token ≡ 0
-    → Tells between (tokens ++ one ∷ []) entries open_elements
-tells_plain true tokens one entries open_elements tells begin end = record {
-  count = (let here : length entries ≡ count_begun tokens = tells.count in omega (arith, begun_more tokens (one ∷ [])));
-  balance = (let here : count_begun tokens ≡ count_ended tokens + length open_elements = tells.balance in omega (arith, begun_more tokens (one ∷ []), ended_more tokens (one ∷ [])));
-  all = open_more tokens (one ∷ []) open_elements tells.all ((omega arith, tt)) (omega arith);
+pub accounts_plain : (between : Bool) (tokens : List Placed) (one : Placed) (entries : List Entry) (open_elements : List Open) → Accounts between tokens entries open_elements → begins one.token ≡ 0 → ends one.token ≡ 0
+    → Accounts between (tokens ++ one ∷ []) entries open_elements
+accounts_plain true tokens one entries open_elements accounts begin end = record {
+  count = (let here : length entries ≡ count_begun tokens = accounts.count in omega (arith, begun_more tokens (one ∷ [])));
+  balance = (let here : count_begun tokens ≡ count_ended tokens + length open_elements = accounts.balance in omega (arith, begun_more tokens (one ∷ []), ended_more tokens (one ∷ [])));
+  all = open_more tokens (one ∷ []) open_elements accounts.all ((omega arith, tt)) (omega arith);
 }
-tells_plain false tokens one entries open_elements tells begin end = tells_inside tokens one entries open_elements tells begin end
+accounts_plain false tokens one entries open_elements accounts begin end = accounts_inside tokens one entries open_elements accounts begin end
 
 -- a start tag begins
-pub tells_opening : (tokens : List Placed) (one : Placed) (entries : List Entry) (open_elements : List Open) → Told tokens entries open_elements → begins one.token ≡ 1 → ends one.token ≡ 0 → InTag (tokens ++ one ∷ []) entries open_elements
-tells_opening tokens one entries open_elements told begin end = record { before = tokens; start = one; inside = []; is = refl; begin = begin; end = end; plain = tt; told = told }
+pub accounts_opening : (tokens : List Placed) (one : Placed) (entries : List Entry) (open_elements : List Open) → Accounted tokens entries open_elements → begins one.token ≡ 1 → ends one.token ≡ 0 → InTag (tokens ++ one ∷ []) entries open_elements
+accounts_opening tokens one entries open_elements accounted begin end = record { before = tokens; start = one; inside = []; is = refl; begin = begin; end = end; plain = tt; accounted = accounted }
 
 -- a start tag ends, and its element is open
-pub tells_open : (tokens : List Placed) (one : Placed) (entries : List Entry) (entry : Entry) (word : Word) (open_elements : List Open) → InTag tokens entries open_elements → begins one.token ≡ 0 → ends one.token ≡ 0
-    → Told (tokens ++ one ∷ []) (entries ++ entry ∷ []) ((record { word = word; number = length entries; children = [] }) ∷ child_noted word open_elements)
-tells_open tokens one entries entry word open_elements tells begin end =
-    let now = tells_inside tokens one entries open_elements tells begin end in
-    subst (λ (some : List Placed). Told some (entries ++ entry ∷ []) ((record { word = word; number = length entries; children = [] }) ∷ child_noted word open_elements)) (sym now.is)
+pub accounts_open : (tokens : List Placed) (one : Placed) (entries : List Entry) (entry : Entry) (word : Word) (open_elements : List Open) → InTag tokens entries open_elements → begins one.token ≡ 0 → ends one.token ≡ 0
+    → Accounted (tokens ++ one ∷ []) (entries ++ entry ∷ []) ((record { word = word; number = length entries; children = [] }) ∷ child_noted word open_elements)
+accounts_open tokens one entries entry word open_elements accounts begin end =
+    let now = accounts_inside tokens one entries open_elements accounts begin end in
+    subst (λ (some : List Placed). Accounted some (entries ++ entry ∷ []) ((record { word = word; number = length entries; children = [] }) ∷ child_noted word open_elements)) (sym now.is)
     (record {
-      count = (let here : length entries ≡ count_begun now.before = now.told.count in
+      count = (let here : length entries ≡ count_begun now.before = now.accounted.count in
           omega (arith, begun_more now.before (now.start ∷ now.inside), plain_begun now.inside now.plain, now.begin, length-append entries (entry ∷ [])));
-      balance = (let here : count_begun now.before ≡ count_ended now.before + length open_elements = now.told.balance in
+      balance = (let here : count_begun now.before ≡ count_ended now.before + length open_elements = now.accounted.balance in
           omega (arith, begun_more now.before (now.start ∷ now.inside), ended_more now.before (now.start ∷ now.inside), plain_begun now.inside now.plain, plain_ended now.inside now.plain, now.begin, now.end, noted_length word open_elements));
-      all = open_start now.before now.start now.inside word (length entries) open_elements now.told.all now.begin now.end now.plain now.told.count;
+      all = open_start now.before now.start now.inside word (length entries) open_elements now.accounted.all now.begin now.end now.plain now.accounted.count;
     })
 
 -- an empty tag ends
-pub tells_empty : (tokens : List Placed) (one : Placed) (entries : List Entry) (entry : Entry) (word : Word) (open_elements : List Open) → InTag tokens entries open_elements → begins one.token ≡ 0 → ends one.token ≡ 1
-    → Told (tokens ++ one ∷ []) (entries ++ entry ∷ []) (child_noted word open_elements)
-tells_empty tokens one entries entry word open_elements tells begin end =
-    subst (λ (some : List Placed). Told some (entries ++ entry ∷ []) (child_noted word open_elements))
-    (sym (ap (λ some. some ++ one ∷ []) tells.is ∙ append_assoc tells.before (tells.start ∷ tells.inside) (one ∷ [])))
+pub accounts_empty : (tokens : List Placed) (one : Placed) (entries : List Entry) (entry : Entry) (word : Word) (open_elements : List Open) → InTag tokens entries open_elements → begins one.token ≡ 0 → ends one.token ≡ 1
+    → Accounted (tokens ++ one ∷ []) (entries ++ entry ∷ []) (child_noted word open_elements)
+accounts_empty tokens one entries entry word open_elements accounts begin end =
+    subst (λ (some : List Placed). Accounted some (entries ++ entry ∷ []) (child_noted word open_elements))
+    (sym (ap (λ some. some ++ one ∷ []) accounts.is ∙ append_assoc accounts.before (accounts.start ∷ accounts.inside) (one ∷ [])))
     (record {
-      count = (let here : length entries ≡ count_begun tells.before = tells.told.count in
-          omega (arith, begun_more tells.before (tells.start ∷ (tells.inside ++ one ∷ [])), begun_more tells.inside (one ∷ []), plain_begun tells.inside tells.plain, tells.begin, length-append entries (entry ∷ [])));
-      balance = (let here : count_begun tells.before ≡ count_ended tells.before + length open_elements = tells.told.balance in
-          omega (arith, begun_more tells.before (tells.start ∷ (tells.inside ++ one ∷ [])), ended_more tells.before (tells.start ∷ (tells.inside ++ one ∷ [])), begun_more tells.inside (one ∷ []), ended_more tells.inside (one ∷ []), plain_begun tells.inside tells.plain, plain_ended tells.inside tells.plain, tells.begin, tells.end, noted_length word open_elements));
-      all = open_empty tells.before tells.start tells.inside one word open_elements tells.told.all tells.begin tells.end tells.plain begin end;
+      count = (let here : length entries ≡ count_begun accounts.before = accounts.accounted.count in
+          omega (arith, begun_more accounts.before (accounts.start ∷ (accounts.inside ++ one ∷ [])), begun_more accounts.inside (one ∷ []), plain_begun accounts.inside accounts.plain, accounts.begin, length-append entries (entry ∷ [])));
+      balance = (let here : count_begun accounts.before ≡ count_ended accounts.before + length open_elements = accounts.accounted.balance in
+          omega (arith, begun_more accounts.before (accounts.start ∷ (accounts.inside ++ one ∷ [])), ended_more accounts.before (accounts.start ∷ (accounts.inside ++ one ∷ [])), begun_more accounts.inside (one ∷ []), ended_more accounts.inside (one ∷ []), plain_begun accounts.inside accounts.plain, plain_ended accounts.inside accounts.plain, accounts.begin, accounts.end, noted_length word open_elements));
+      all = open_empty accounts.before accounts.start accounts.inside one word open_elements accounts.accounted.all accounts.begin accounts.end accounts.plain begin end;
     })
 
 -- an end tag
-pub tells_end : (tokens : List Placed) (one : Placed) (entries : List Entry) (inner : Open) (outer : List Open) → Told tokens entries (inner ∷ outer) → begins one.token ≡ 0 → ends one.token ≡ 1 → Told (tokens ++ one ∷ []) entries outer
-tells_end tokens one entries inner outer told begin end = record {
-  count = (let here : length entries ≡ count_begun tokens = told.count in omega (arith, begun_more tokens (one ∷ [])));
-  balance = (let here : count_begun tokens ≡ count_ended tokens + length (inner ∷ outer) = told.balance in omega (arith, begun_more tokens (one ∷ []), ended_more tokens (one ∷ [])));
-  all = open_end tokens one inner outer told.all begin end;
+pub accounts_end : (tokens : List Placed) (one : Placed) (entries : List Entry) (inner : Open) (outer : List Open) → Accounted tokens entries (inner ∷ outer) → begins one.token ≡ 0 → ends one.token ≡ 1 → Accounted (tokens ++ one ∷ []) entries outer
+accounts_end tokens one entries inner outer accounted begin end = record {
+  count = (let here : length entries ≡ count_begun tokens = accounted.count in omega (arith, begun_more tokens (one ∷ [])));
+  balance = (let here : count_begun tokens ≡ count_ended tokens + length (inner ∷ outer) = accounted.balance in omega (arith, begun_more tokens (one ∷ []), ended_more tokens (one ∷ [])));
+  all = open_end tokens one inner outer accounted.all begin end;
 }
 
 -- before the first token
-pub tells_start : Told [] [] []
-tells_start = record { count = refl; balance = omega arith; all = tt }
+pub accounts_start : Accounted [] [] []
+accounts_start = record { count = refl; balance = omega arith; all = tt }

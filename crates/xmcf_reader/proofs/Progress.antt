@@ -64,24 +64,24 @@ entries_after context EmptyEnd at = one_ended context
 entries_after context (EndTag name) at = omega arith
 
 -- one more token is read
-pub progress : (text : List ℕ) (context next : Context) (token : Token) (at place : ℕ) (rest : List ℕ) (later : ℕ) (behind : List ℕ)
-    → Progress text context place rest → cut place 0 rest ≡ faults.Item token at (cut later 0 behind) → place < later → later + length behind ≡ place + length rest
-    → faults_of context token at ≡ [] → next ≡ after_token context token at → Progress text next later behind
-progress text context next token at place rest later behind so_far item moves room none is =
-    subst (λ (now : Context). Progress text now later behind) (sym is) (record {
-      broken = so_far.broken ∙ ap (faults_from context) item ∙ ap (λ faults. faults ++ faults_from (after_token context token at) (cut later 0 behind)) none;
+pub progress : (text : List ℕ) (context next : Context) (token : Token) (at place : ℕ) (rest : List ℕ) (later : ℕ) (following : List ℕ)
+    → Progress text context place rest → cut place 0 rest ≡ faults.Item token at (cut later 0 following) → place < later → later + length following ≡ place + length rest
+    → faults_of context token at ≡ [] → next ≡ after_token context token at → Progress text next later following
+progress text context next token at place rest later following so_far item moves room none is =
+    subst (λ (now : Context). Progress text now later following) (sym is) (record {
+      broken = so_far.broken ∙ ap (faults_from context) item ∙ ap (λ faults. faults ++ faults_from (after_token context token at) (cut later 0 following)) none;
       draft = so_far.draft ∙ ap (draft_from context) item;
       few = (let grown : length (after_token context token at).entries ≤ length context.entries + 1 = entries_after context token at in let few : length context.entries ≤ place = so_far.few in omega arith);
       all = room ∙ so_far.all;
     })
 
--- a token that breaks something tells the first fault
+-- a token that breaks something gives the first fault
 pub first_broken : (text : List ℕ) (context : Context) (token : Token) (at place : ℕ) (rest : List ℕ) (more : Cut) (one : ReadFault)
     → Progress text context place rest → cut place 0 rest ≡ faults.Item token at more → IsFirst one (faults_of context token at) → IsFirst one (faults_from empty_draft (cut 0 0 text))
 first_broken text context token at place rest more one so_far item first =
     subst (λ (all : List ReadFault). IsFirst one all) (sym (so_far.broken ∙ ap (faults_from context) item)) (first_more one (faults_of context token at) (faults_from (after_token context token at) more) first)
 
--- a rest that begins no token tells the first fault
+-- a rest that begins no token gives the first fault
 pub rest_broken : (text : List ℕ) (context : Context) (at byte place : ℕ) (rest : List ℕ) (broken one : ReadFault)
     → Progress text context place rest → cut place 0 rest ≡ faults.Rest at byte broken → Some one ≡ faults.first_of (faults_from context (faults.Rest at byte broken)) → IsFirst one (faults_from empty_draft (cut 0 0 text))
 rest_broken text context at byte place rest broken one so_far item first =
@@ -91,7 +91,7 @@ rest_broken text context at byte place rest broken one so_far item first =
     head_first [] e = cc
     head_first (other ∷ others) e = let same : one ≡ other = cc in inr same
 
--- the end of the text tells the first fault
+-- the end of the text gives the first fault
 pub end_broken : (text : List ℕ) (context : Context) (at place : ℕ) (rest : List ℕ) (one : ReadFault)
     → Progress text context place rest → cut place 0 rest ≡ faults.End at → IsFirst one (faults_from context (faults.End at)) → IsFirst one (faults_from empty_draft (cut 0 0 text))
 end_broken text context at place rest one so_far item first =

@@ -113,7 +113,7 @@ pub record IsOpenEntry (entries : List Entry) (inner : Open) (outer : List Open)
   pub children : children_of inner.number entries ≡ inner.children
   pub partly : Partly inner.word inner.children
   pub inside : AllByRecursion (λ other. other.number < inner.number) outer
-  pub behind : (number : ℕ) (other : Entry) → StandsAt entries number other → inner.number < number → inner.number ≤ other.parent
+  pub following : (number : ℕ) (other : Entry) → StandsAt entries number other → inner.number < number → inner.number ≤ other.parent
 
 -- each open element is
 abbrev pub ArePath : List Entry → List Open → Type 0
@@ -168,13 +168,13 @@ path_kept entries entry (inner ∷ outer) some above path = (
     children = child_elsewhere inner.number entries entry some (λ e. (let apart : inner.number < entry.parent = above.0 in omega arith)) ∙ path.0.children;
     partly = path.0.partly;
     inside = path.0.inside;
-    behind = λ number other got past. by number other (got_of entries entry other number got) past;
+    following = λ number other got past. by number other (got_of entries entry other number got) past;
   },
   path_kept entries entry outer some above.1 path.1,
 )
   where
     by : (number : ℕ) (other : Entry) → (slice_get entries number ≡ Some other) ⊎ ((number ≡ length entries) × (entry ≡ other)) → inner.number < number → inner.number ≤ other.parent
-    by number other (inl got) past = path.0.behind number other got past
+    by number other (inl got) past = path.0.following number other got past
     by number other (inr last) past = let apart : inner.number < entry.parent = above.0 in let same : entry.parent ≡ other.parent = ap (λ (e : Entry). e.parent) last.1 in omega arith
 
 -- the innermost open element gets a child
@@ -190,13 +190,13 @@ path_more entries entry inner outer parent may path =
         children = child_here inner.number entries entry some parent ∙ ap (λ names. names ++ word_at entry ∷ []) path.0.children;
         partly = partly_more inner.word inner.children (word_at entry) path.0.partly may;
         inside = path.0.inside;
-        behind = λ number other got past. by number other (got_of entries entry other number got) past;
+        following = λ number other got past. by number other (got_of entries entry other number got) past;
       },
       path_kept entries entry outer some (subst (λ (number : ℕ). AllByRecursion (λ other. other.number < number) outer) (sym parent) path.0.inside) path.1,
     )
   where
     by : (number : ℕ) (other : Entry) → (slice_get entries number ≡ Some other) ⊎ ((number ≡ length entries) × (entry ≡ other)) → inner.number < number → inner.number ≤ other.parent
-    by number other (inl got) past = path.0.behind number other got past
+    by number other (inl got) past = path.0.following number other got past
     by number other (inr last) past = let same : entry.parent ≡ other.parent = ap (λ (e : Entry). e.parent) last.1 in omega arith
 
 -- a later start tag
@@ -230,7 +230,7 @@ later_entered entries entry inner outer parent opened base =
         let short : number < length entries = slice_get_within entries number one got in let here : between ≡ length entries = last.0 in absurd (omega arith)
     nested number between one other (inr last) (inl at) past until =
         let same : entry.parent ≡ one.parent = ap (λ (e : Entry). e.parent) last.1 in
-        let low : inner.number ≤ other.parent = opened.behind between other at (omega arith) in omega arith
+        let low : inner.number ≤ other.parent = opened.following between other at (omega arith) in omega arith
     nested number between one other (inr last) (inr also) past until = let here : number ≡ length entries = last.0 in let there : between ≡ length entries = also.0 in absurd (omega arith)
 
     settle_at : (number : ℕ) (other : Entry) → (test : Bool) → (number == inner.number) ≡ test → IsOneOf number (numbers (inner ∷ outer)) ⊎ HasChildren (word_at other) (children_of number entries)
@@ -259,7 +259,7 @@ pub record Enters (entries : List Entry) (open_elements : List Open) (number : �
   pub base : Base entries (number ∷ numbers open_elements)
   pub path : ArePath entries open_elements
   pub stands : StandsAt entries number entry
-  pub last : (other : ℕ) (behind : Entry) → StandsAt entries other behind → other ≤ number
+  pub last : (other : ℕ) (following : Entry) → StandsAt entries other following → other ≤ number
   pub childless : children_of number entries ≡ []
   pub inside : AllByRecursion (λ outer. outer.number < number) open_elements
 
@@ -275,14 +275,14 @@ entered [] [] entry stands may undone parent = record {
   base = first_entered entry may parent;
   path = tt;
   stands = refl;
-  last = λ other behind got. at other behind got;
+  last = λ other following got. at other following got;
   childless = alone entry;
   inside = tt;
 }
   where
-    at : (other : ℕ) (behind : Entry) → slice_get (entry ∷ []) other ≡ Some behind → other ≤ 0
-    at zero behind got = omega arith
-    at (suc k) behind got = cc
+    at : (other : ℕ) (following : Entry) → slice_get (entry ∷ []) other ≡ Some following → other ≤ 0
+    at zero following got = omega arith
+    at (suc k) following got = cc
 entered (first ∷ entries) [] entry stands may undone parent = cc
 entered entries (inner ∷ outer) entry stands may undone parent =
     let base = later_entered entries entry inner outer parent stands.path.0 stands.base in
@@ -290,14 +290,14 @@ entered entries (inner ∷ outer) entry stands may undone parent =
       base = base;
       path = path_more entries entry inner outer parent may stands.path;
       stands = got_last entries entry;
-      last = λ other behind got. at other behind (got_of entries entry behind other got);
+      last = λ other following got. at other following (got_of entries entry following other got);
       childless = bare;
       inside = path_inside entries (inner ∷ outer) stands.path;
     }
   where
-    at : (other : ℕ) (behind : Entry) → (slice_get entries other ≡ Some behind) ⊎ ((other ≡ length entries) × (entry ≡ behind)) → other ≤ length entries
-    at other behind (inl got) = let inside : other < length entries = slice_get_within entries other behind got in omega arith
-    at other behind (inr last) = omega (arith, last.0)
+    at : (other : ℕ) (following : Entry) → (slice_get entries other ≡ Some following) ⊎ ((other ≡ length entries) × (entry ≡ following)) → other ≤ length entries
+    at other following (inl got) = let inside : other < length entries = slice_get_within entries other following got in omega arith
+    at other following (inr last) = omega (arith, last.0)
 
     bare : children_of (length entries) (entries ++ entry ∷ []) ≡ []
     bare =
@@ -333,7 +333,7 @@ opens entries open_elements number entry enters = record {
       children = enters.childless;
       partly = partly_none (word_at entry);
       inside = enters.inside;
-      behind = λ other behind got past. (let last : other ≤ number = enters.last other behind got in absurd (omega arith));
+      following = λ other following got past. (let last : other ≤ number = enters.last other following got in absurd (omega arith));
     },
     enters.path,
   );

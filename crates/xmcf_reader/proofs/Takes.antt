@@ -58,33 +58,33 @@ blanks_taken first [] rest blanks stops = let some : 0 < 0 = blanks.some in absu
 blanks_taken first (byte ∷ word) rest blanks stops =
     rw (blank_apart byte blanks.each.0) (rw blanks.each.0 (let counts : prefix_len is_blank (word ++ rest) ≡ length word = each_counts is_blank word rest blanks.each.1 stops in ap (Found Blanks) (omega (arith, counts))))
 
-attribute_taken : (first : Bool) (name rest : List ℕ) (behind : ℕ) → IsTagName name → is_of_name behind ≡ false → front first (name ++ behind ∷ rest) ≡ Found (Name name) (length name)
+attribute_taken : (first : Bool) (name rest : List ℕ) (following : ℕ) → IsTagName name → is_of_name following ≡ false → front first (name ++ following ∷ rest) ≡ Found (Name name) (length name)
 unfolding front named_token
-attribute_taken first [] rest behind is_name stops = cc_name is_name.is
+attribute_taken first [] rest following is_name stops = cc_name is_name.is
   where
-    cc_name : [] ≡ is_name.first ∷ is_name.rest → front first (behind ∷ rest) ≡ Found (Name []) 0
+    cc_name : [] ≡ is_name.first ∷ is_name.rest → front first (following ∷ rest) ≡ Found (Name []) 0
     cc_name e = cc
-attribute_taken first (byte ∷ name) rest behind is_name stops =
+attribute_taken first (byte ∷ name) rest following is_name stops =
     let letter : is_letter byte ≡ true = ap is_letter (head_is byte is_name.first name is_name.rest is_name.is) ∙ is_name.letter in
     let apart = letter_apart byte letter in
-    let counts : prefix_len is_of_name (byte ∷ name ++ behind ∷ rest) ≡ length (byte ∷ name) = each_counts is_of_name (byte ∷ name) (behind ∷ rest) is_name.each stops in
-    let longer : nat_lt (length (byte ∷ name)) (length (byte ∷ name ++ behind ∷ rest)) ≡ true = grind (arith, nat_tests, length-append name (behind ∷ rest)) in
+    let counts : prefix_len is_of_name (byte ∷ name ++ following ∷ rest) ≡ length (byte ∷ name) = each_counts is_of_name (byte ∷ name) (following ∷ rest) is_name.each stops in
+    let longer : nat_lt (length (byte ∷ name)) (length (byte ∷ name ++ following ∷ rest)) ≡ true = grind (arith, nat_tests, length-append name (following ∷ rest)) in
     rw apart.0 (rw apart.1 (rw apart.2 (rw apart.3 (rw apart.4 (rw apart.5 (rw letter (rw counts (rw longer
-    (ap (λ word. Found (Name word) (0 + length (byte ∷ name))) (front_of (byte ∷ name) (behind ∷ rest)) ∙ ap (Found (Name (byte ∷ name))) (omega arith))))))))))
+    (ap (λ word. Found (Name word) (0 + length (byte ∷ name))) (front_of (byte ∷ name) (following ∷ rest)) ∙ ap (Found (Name (byte ∷ name))) (omega arith))))))))))
 
-opening_taken : (first : Bool) (name rest : List ℕ) (behind : ℕ) → IsTagName name → is_of_name behind ≡ false → front first (60 ∷ (name ++ behind ∷ rest)) ≡ Found (Opening name) (suc (length name))
+opening_taken : (first : Bool) (name rest : List ℕ) (following : ℕ) → IsTagName name → is_of_name following ≡ false → front first (60 ∷ (name ++ following ∷ rest)) ≡ Found (Opening name) (suc (length name))
 unfolding front markup named_token
-opening_taken first [] rest behind is_name stops = cc_name is_name.is
+opening_taken first [] rest following is_name stops = cc_name is_name.is
   where
-    cc_name : [] ≡ is_name.first ∷ is_name.rest → front first (60 ∷ behind ∷ rest) ≡ Found (Opening []) 1
+    cc_name : [] ≡ is_name.first ∷ is_name.rest → front first (60 ∷ following ∷ rest) ≡ Found (Opening []) 1
     cc_name e = cc
-opening_taken first (byte ∷ name) rest behind is_name stops =
+opening_taken first (byte ∷ name) rest following is_name stops =
     let letter : is_letter byte ≡ true = ap is_letter (head_is byte is_name.first name is_name.rest is_name.is) ∙ is_name.letter in
     let apart = letter_apart byte letter in
-    let counts : prefix_len is_of_name (byte ∷ name ++ behind ∷ rest) ≡ length (byte ∷ name) = each_counts is_of_name (byte ∷ name) (behind ∷ rest) is_name.each stops in
-    let longer : nat_lt (length (byte ∷ name)) (length (byte ∷ name ++ behind ∷ rest)) ≡ true = grind (arith, nat_tests, length-append name (behind ∷ rest)) in
+    let counts : prefix_len is_of_name (byte ∷ name ++ following ∷ rest) ≡ length (byte ∷ name) = each_counts is_of_name (byte ∷ name) (following ∷ rest) is_name.each stops in
+    let longer : nat_lt (length (byte ∷ name)) (length (byte ∷ name ++ following ∷ rest)) ≡ true = grind (arith, nat_tests, length-append name (following ∷ rest)) in
     rw apart.6 (rw apart.7 (rw apart.3 (rw letter (rw counts (rw longer
-    (ap (λ word. Found (Opening word) (1 + length (byte ∷ name))) (front_of (byte ∷ name) (behind ∷ rest)) ∙ ap (Found (Opening (byte ∷ name))) (omega arith)))))))
+    (ap (λ word. Found (Opening word) (1 + length (byte ∷ name))) (front_of (byte ∷ name) (following ∷ rest)) ∙ ap (Found (Opening (byte ∷ name))) (omega arith)))))))
 
 -- a number is itself
 same : (n : ℕ) → (n == n) ≡ true
@@ -119,8 +119,8 @@ dashes_found (one ∷ two ∷ body) more plain = by (are_dashes (one, two)) (fir
     by false (Some k) long e more = cc
 
 -- two after the prefix
-two_behind : (body : List ℕ) (more : List ℕ) (n : ℕ) → n ≡ length body → drop (n + 2) (body ++ 45 ∷ 45 ∷ more) ≡ more
-two_behind body more n e =
+two_after : (body : List ℕ) (more : List ℕ) (n : ℕ) → n ≡ length body → drop (n + 2) (body ++ 45 ∷ 45 ∷ more) ≡ more
+two_after body more n e =
     let long : n + 2 ≡ length (body ++ 45 ∷ 45 ∷ []) = omega (arith, e, length-append body (45 ∷ 45 ∷ [])) in
     ap (λ k. drop k (body ++ 45 ∷ 45 ∷ more)) long ∙ ap (drop (length (body ++ 45 ∷ 45 ∷ []))) (sym (append_assoc body (45 ∷ 45 ∷ []) more)) ∙ rest_of (body ++ 45 ∷ 45 ∷ []) more
 
@@ -128,11 +128,11 @@ comment_taken : (first : Bool) (body rest : List ℕ) → NoDashes (body ++ 45 �
 unfolding front markup remark comment byte_token
 comment_taken first body rest plain =
     let found : position are_dashes (pairs (body ++ 45 ∷ 45 ∷ 62 ∷ rest)) ≡ Some (length body) = position_first are_dashes (pairs (body ++ 45 ∷ 45 ∷ 62 ∷ rest)) ∙ dashes_found body (62 ∷ rest) plain in
-    rw found (rw (two_behind body (62 ∷ rest) (length body) refl) (ap (Found Comment) (omega arith)))
+    rw found (rw (two_after body (62 ∷ rest) (length body) refl) (ap (Found Comment) (omega arith)))
 
 -- one after the prefix
-one_behind : (body : List ℕ) (byte : ℕ) (more : List ℕ) → drop (length body + 1) (body ++ byte ∷ more) ≡ more
-one_behind body byte more =
+one_after : (body : List ℕ) (byte : ℕ) (more : List ℕ) → drop (length body + 1) (body ++ byte ∷ more) ≡ more
+one_after body byte more =
     let long : length body + 1 ≡ length (body ++ byte ∷ []) = omega (arith, length-append body (byte ∷ [])) in
     ap (λ k. drop k (body ++ byte ∷ more)) long ∙ ap (drop (length (body ++ byte ∷ []))) (sym (append_assoc body (byte ∷ []) more)) ∙ rest_of (body ++ byte ∷ []) more
 
@@ -145,7 +145,7 @@ declaration_taken : (blank : ℕ) (body rest : List ℕ) → is_blank blank ≡ 
 unfolding front markup declared declaration declaration_byte byte_token
 declaration_taken blank body rest is_blank plain =
     let found : position ends_declaration (body ++ 63 ∷ 62 ∷ rest) ≡ Some (length body) = position_first ends_declaration (body ++ 63 ∷ 62 ∷ rest) ∙ none_before ends_declaration body 63 (62 ∷ rest) plain mark_ends in
-    rw is_blank (rw found (rw (byte_of body 63 (62 ∷ rest)) (rw (one_behind body 63 (62 ∷ rest)) (ap (Found Declaration) (omega arith)))))
+    rw is_blank (rw found (rw (byte_of body 63 (62 ∷ rest)) (rw (one_after body 63 (62 ∷ rest)) (ap (Found Declaration) (omega arith)))))
 
 -- a blank is of no name
 blank_of_no_name : (byte : ℕ) → is_blank byte ≡ true → is_of_name byte ≡ false
@@ -207,11 +207,11 @@ token_taken first Declaration word rest spells ends =
     (ap (λ at_first. front at_first (60 ∷ 63 ∷ 120 ∷ 109 ∷ 108 ∷ spells.blank ∷ (spells.body ++ 63 ∷ 62 ∷ rest))) ends ∙ declaration_taken spells.blank spells.body rest spells.is_blank spells.plain)
     (omega (arith, length-append spells.body (63 ∷ 62 ∷ [])))
 token_taken first (Opening name) word rest spells ends =
-    taken_as first (Opening name) word (60 ∷ name) (60 ∷ (name ++ ends.behind ∷ ends.more)) rest (suc (length name)) spells.is (ap (λ more. 60 ∷ (name ++ more)) ends.is)
-    (opening_taken first name ends.more ends.behind spells.named ends.apart) refl
+    taken_as first (Opening name) word (60 ∷ name) (60 ∷ (name ++ ends.following ∷ ends.more)) rest (suc (length name)) spells.is (ap (λ more. 60 ∷ (name ++ more)) ends.is)
+    (opening_taken first name ends.more ends.following spells.named ends.apart) refl
 token_taken first (Name name) word rest spells ends =
-    taken_as first (Name name) word name (name ++ ends.behind ∷ ends.more) rest (length name) spells.is (ap (λ more. name ++ more) ends.is)
-    (attribute_taken first name ends.more ends.behind spells.named ends.apart) refl
+    taken_as first (Name name) word name (name ++ ends.following ∷ ends.more) rest (length name) spells.is (ap (λ more. name ++ more) ends.is)
+    (attribute_taken first name ends.more ends.following spells.named ends.apart) refl
 token_taken first Equals word rest spells ends = taken_as first Equals word (61 ∷ []) (61 ∷ rest) rest 1 spells refl (equals_taken first rest) refl
 token_taken first (Value text) word rest spells ends =
     taken_as first (Value text) word (spells.quote ∷ (text ++ spells.quote ∷ [])) (spells.quote ∷ (text ++ spells.quote ∷ rest)) rest (length text + 2)

@@ -1,4 +1,4 @@
--- What a reading tells is the text's fault, or its draft.
+-- What a reading answers is the text's fault, or its draft.
 use Rattle.std.proofs.Common.{◌≡◌, ℕ, ◌<◌, true, false, List, [], ◌∷◌, length, Some, None, Result, Ok, Err, ◌⊎◌, inl, inr, sym, ap, ◌∙◌, arith, IfOk, IfErr}
 use Rattle.std.specs.Prelude.{nat_lt}
 use Rattle.std.proofs.lemmas.Bool.Decides.{nat_tests}
@@ -18,18 +18,18 @@ text_first text whole =
     let test : nat_lt (utf8_valid_len text) (length text) ≡ false = grind (arith, nat_tests, whole) in
     rw test (first_least text)
 
--- a draft that is told is the text's
-pub told_draft : (text : List ℕ) (answer : Result (List Entry) ReadFault) → utf8_valid_len text ≡ length text
+-- a draft that is answered is the text's
+pub reported_draft : (text : List ℕ) (answer : Result (List Entry) ReadFault) → utf8_valid_len text ≡ length text
     → IsReadingOf answer (faults_from empty_draft (cut 0 0 text)) (draft_from empty_draft (cut 0 0 text)) → IfOk answer (λ draft. (xmcf_fault text ≡ None) × (draft ≡ draft_of text))
 unfolding draft_of
-told_draft text (Ok draft) whole told = (text_first text whole ∙ ap first_of told.0, told.1)
-told_draft text (Err one) whole told = tt
+reported_draft text (Ok draft) whole accounted = (text_first text whole ∙ ap first_of accounted.0, accounted.1)
+reported_draft text (Err one) whole accounted = tt
 
--- a fault that is told is the text's
-pub told_fault : (text : List ℕ) (answer : Result (List Entry) ReadFault) → utf8_valid_len text ≡ length text
+-- a fault that is answered is the text's
+pub reported_fault : (text : List ℕ) (answer : Result (List Entry) ReadFault) → utf8_valid_len text ≡ length text
     → IsReadingOf answer (faults_from empty_draft (cut 0 0 text)) (draft_from empty_draft (cut 0 0 text)) → IfErr answer (λ found. (found ≡ fault.Memory) ⊎ (xmcf_fault text ≡ Some found))
-told_fault text (Ok draft) whole told = tt
-told_fault text (Err one) whole told = at (faults_from empty_draft (cut 0 0 text)) (text_first text whole) told
+reported_fault text (Ok draft) whole accounted = tt
+reported_fault text (Err one) whole accounted = at (faults_from empty_draft (cut 0 0 text)) (text_first text whole) accounted
   where
     at : (all : List ReadFault) → xmcf_fault text ≡ first_of all → IsFirst one all → (one ≡ fault.Memory) ⊎ (xmcf_fault text ≡ Some one)
     at [] e first = inl first
@@ -37,8 +37,8 @@ told_fault text (Err one) whole told = at (faults_from empty_draft (cut 0 0 text
     at (other ∷ others) e (inr same) = inr (e ∙ ap Some (sym same))
 
 -- bytes that are no text are the fault
-pub told_bytes : (text : List ℕ) (at : ℕ) → at ≡ utf8_valid_len text → at < length text → xmcf_fault text ≡ Some (fault.NotText at)
+pub reported_bytes : (text : List ℕ) (at : ℕ) → at ≡ utf8_valid_len text → at < length text → xmcf_fault text ≡ Some (fault.NotText at)
 unfolding xmcf_fault
-told_bytes text at e short =
+reported_bytes text at e short =
     let test : nat_lt (utf8_valid_len text) (length text) ≡ true = grind (arith, nat_tests, e) in
     rw test (ap (λ n. Some (fault.NotText n)) (sym e))

@@ -49,19 +49,19 @@ abbrev pub StandsAt : List Entry → ℕ → Entry → Type 0
 StandsAt entries number entry = slice_get entries number ≡ Some entry
 
 -- the entries after the first
-abbrev pub behind_root : List Entry → List Entry
-behind_root [] = []
-behind_root (root ∷ entries) = entries
+abbrev pub after_root : List Entry → List Entry
+after_root [] = []
+after_root (root ∷ entries) = entries
 
 -- the names of the children of the entry with this number, in the order of the text; the first entry is nobody's child
 unfoldable pub children_of : ℕ → List Entry → List Word
-children_of number entries = map (λ entry. word_of entry.what) (filter (λ entry. entry.parent == number) (behind_root entries))
+children_of number entries = map (λ entry. word_of entry.what) (filter (λ entry. entry.parent == number) (after_root entries))
 
 -- the names of the children that the table has for an element
 abbrev pub child_words : Word → List Word
 child_words element = map (λ child. child.word) (allowed_children element)
 
--- a child that stands so many times stands as often as it may and has to
+-- a child that stands this many times stands as often as it may and has to
 abbrev pub StandsOften : Often → ℕ → Type 0
 StandsOften often.One count = count ≡ 1
 StandsOften often.Maybe count = count ≤ 1

@@ -25,18 +25,18 @@ pub data Cut : Type 0 where
   Rest : (at byte : ℕ) (broken : ReadFault) → Cut
   End : (at : ℕ) → Cut
 
--- the fault of a spelling that stops, in a rest of so many bytes from a place on
+-- the fault of a spelling that stops, in a rest of this many bytes from a place on
 abbrev pub stopped : ℕ → ℕ → Stop → ReadFault
 stopped at size (Break offset) = fault.BadItem (at + offset)
 stopped at size (Reference offset) = fault.Reference (at + offset)
 stopped at size Ended = fault.Unclosed (at + size)
 
--- a cut by what stands at the beginning of a byte and those after it, with the cut of these after so many bytes more
+-- a cut by what stands at the beginning of a byte and those after it, with the cut of these after this many bytes more
 abbrev pub cut_at : Front → ℕ → ℕ → ℕ → (ℕ → Cut) → Cut
-cut_at (Found token size) at byte behind next = Item token at (next (size - 1))
-cut_at (Broken stop) at byte behind next = Rest at byte (stopped at (behind + 1) stop)
+cut_at (Found token size) at byte following next = Item token at (next (size - 1))
+cut_at (Broken stop) at byte following next = Rest at byte (stopped at (following + 1) stop)
 
--- the cut of what stands from a place on; so many of the bytes belong to the token before
+-- the cut of what stands from a place on; this many of the bytes belong to the token before
 unfoldable pub cut : ℕ → ℕ → List ℕ → Cut
 cut at more [] = End at
 cut at (suc more) (byte ∷ bytes) = cut (at + 1) more bytes

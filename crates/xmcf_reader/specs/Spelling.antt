@@ -105,10 +105,10 @@ TestStopsAt test (byte ∷ bytes) = test byte ≡ false
 
 -- a byte stands after that is of no name
 pub record EndsName (rest : List ℕ) : Type 0 where
-  pub behind : ℕ
+  pub following : ℕ
   pub more : List ℕ
-  pub is : rest ≡ behind ∷ more
-  pub apart : is_of_name behind ≡ false
+  pub is : rest ≡ following ∷ more
+  pub apart : is_of_name following ≡ false
 
 -- what stands after a token ends it; a declaration stands at the text's first place
 abbrev pub Ends : Token → Bool → List ℕ → Type 0

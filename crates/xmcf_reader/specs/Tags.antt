@@ -53,10 +53,10 @@ AllClosed (one ∷ more) = (count_begun (one ∷ more) ≤ count_ended (one ∷ 
 pub record IsInnermost (tokens : List Placed) (number : ℕ) : Type 0 where
   pub before : List Placed
   pub start : Placed
-  pub behind : List Placed
-  pub is : tokens ≡ before ++ start ∷ behind
-  pub open_here : count_ended (start ∷ behind) < count_begun (start ∷ behind)
-  pub closed : AllClosed behind
+  pub following : List Placed
+  pub is : tokens ≡ before ++ start ∷ following
+  pub open_here : count_ended (start ∷ following) < count_begun (start ∷ following)
+  pub closed : AllClosed following
   pub number_is : number ≡ count_begun before
 
 -- an element that begins after tokens has the innermost open element as its parent; the parent of the first is 0
@@ -102,17 +102,17 @@ given_in element tokens = filter_map (pair_named element) (zip (names_in tokens)
 
 -- the entry of the start tag with this name and place, after and before these tokens: its element, with the values of
 -- the tag, and its parent
-pub record IsEntryOf (before : List Placed) (name : List ℕ) (at : ℕ) (behind : List Placed) (entry : Entry) : Type 0 where
+pub record IsEntryOf (before : List Placed) (name : List ℕ) (at : ℕ) (following : List Placed) (entry : Entry) : Type 0 where
   pub place : entry.at ≡ at
   pub named : name ≡ word_text (word_of entry.what)
-  pub values : Some entry.what ≡ built (word_of entry.what) (given_in (word_of entry.what) (in_tag behind))
+  pub values : Some entry.what ≡ built (word_of entry.what) (given_in (word_of entry.what) (in_tag following))
   pub parent : IsParent before entry.parent
 
 -- the start tag with this name and place gives its entry, whose number is that of the start tags before it
-pub record GivesEntry (before : List Placed) (name : List ℕ) (at : ℕ) (behind : List Placed) (entries : List Entry) : Type 0 where
+pub record GivesEntry (before : List Placed) (name : List ℕ) (at : ℕ) (following : List Placed) (entries : List Entry) : Type 0 where
   pub entry : Entry
   pub stands : StandsAt entries (count_begun before) entry
-  pub is : IsEntryOf before name at behind entry
+  pub is : IsEntryOf before name at following entry
 
 -- the end tag with this name ends the innermost element that is open before it
 pub record EndsEntry (before : List Placed) (name : List ℕ) (entries : List Entry) : Type 0 where
@@ -126,5 +126,5 @@ pub record EndsEntry (before : List Placed) (name : List ℕ) (entries : List En
 pub record AreOfTags (tokens : List Placed) (entries : List Entry) : Type 0 where
   pub count : length entries ≡ count_begun tokens
   pub closed : count_ended tokens ≡ count_begun tokens
-  pub starts : (before behind : List Placed) (name : List ℕ) (at : ℕ) → tokens ≡ before ++ (record { token = Opening name; at = at }) ∷ behind → GivesEntry before name at behind entries
-  pub end_tags : (before behind : List Placed) (name : List ℕ) (at : ℕ) → tokens ≡ before ++ (record { token = EndTag name; at = at }) ∷ behind → EndsEntry before name entries
+  pub starts : (before following : List Placed) (name : List ℕ) (at : ℕ) → tokens ≡ before ++ (record { token = Opening name; at = at }) ∷ following → GivesEntry before name at following entries
+  pub end_tags : (before following : List Placed) (name : List ℕ) (at : ℕ) → tokens ≡ before ++ (record { token = EndTag name; at = at }) ∷ following → EndsEntry before name entries

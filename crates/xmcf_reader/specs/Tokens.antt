@@ -23,7 +23,7 @@ pub data Front : Type 0 where
   Found : (token : Token) (size : ℕ) → Front
   Broken : (stop : Stop) → Front
 
--- the byte has to stand next: it ends the token, of which so many bytes stand before it
+-- the byte has to stand next: it ends the token, of which this many bytes stand before it
 unfoldable pub byte_token : ℕ → Token → ℕ → List ℕ → Front
 byte_token last token before [] = Broken Ended
 byte_token last token before (byte ∷ bytes) = if byte == last then Found token (before + 1) else Broken (Break before)
@@ -65,7 +65,7 @@ declared bytes =
     else (if starts_with nat_eq bytes (codes "xml") && is_blank (slice_index bytes 3) then declaration (drop 4 bytes)
     else Broken (Break 0))
 
--- a name that stands after so many bytes of its token; a byte has to follow it
+-- a name that stands after this many bytes of its token; a byte has to follow it
 unfoldable pub named_token : (List ℕ → Token) → ℕ → ℕ → List ℕ → Front
 named_token token before size bytes = if nat_lt size (length bytes) then Found (token (take size bytes)) (before + size) else Broken Ended
 
@@ -73,7 +73,7 @@ named_token token before size bytes = if nat_lt size (length bytes) then Found (
 unfoldable pub end_of_tag : List ℕ → ℕ → List ℕ → Front
 end_of_tag name size bytes = byte_token 62 (EndTag name) (2 + size + prefix_len is_blank bytes) (drop (prefix_len is_blank bytes) bytes)
 
--- an end tag whose name has so many bytes, of which `</` stands before these bytes
+-- an end tag whose name has this many bytes, of which `</` stands before these bytes
 unfoldable pub end_named : ℕ → List ℕ → Front
 end_named size bytes = end_of_tag (take size bytes) size (drop size bytes)
 

@@ -38,7 +38,7 @@ abbrev pub spelled : ℕ → ℕ → List ℕ → Option ℕ
 spelled base n [] = Some n
 spelled base n (byte ∷ bytes) = on_value (digit base byte) (λ d. spelled base (n * base + d) bytes)
 
--- the number that 1 to so many digits spell
+-- the number that 1 to this many digits spell
 unfoldable pub digits : ℕ → ℕ → List ℕ → Option ℕ
 digits base most bytes = if nat_le 1 (length bytes) && nat_le (length bytes) most then spelled base 0 bytes else None
 
@@ -50,7 +50,7 @@ number text = on_value (digits 10 10 text) word32
 unfoldable pub address : List ℕ → Option ℕ
 address text = if starts_with nat_eq text (codes "0x") then on_value (digits 16 8 (drop 2 text)) word32 else None
 
--- whole and part of a decimal number, in millionths; the part has so many digits
+-- whole and part of a decimal number, in millionths; the part has this many digits
 unfoldable pub millionths : ℕ → ℕ → ℕ → ℕ
 millionths whole part size = whole * 1000000 + part * 10 ^ (6 - size)
 
@@ -71,7 +71,7 @@ decimal_at (Some at) text = parted (take at text) (drop (at + 1) text)
 unfoldable pub decimal_number : List ℕ → Option ℕ
 decimal_number text = decimal_at (position is_point text) text
 
--- so many millionths of a unit, where they come out whole and below 2^32
+-- this many millionths of a unit, where they come out whole and below 2^32
 unfoldable pub whole : ℕ → ℕ → Option ℕ
 whole unit n = if n * unit % 1000000 == 0 then word32 (n * unit / 1000000) else None
 
@@ -140,7 +140,7 @@ with_flag word flags =
     else (if bytes_eq word (codes "fp") then new_flag flags.fp (record flags { fp = true })
     else None)))
 
--- so many more flags
+-- this many more flags
 abbrev pub with_flags : List (List ℕ) → FlagSet → Option FlagSet
 with_flags [] flags = Some flags
 with_flags (word ∷ words) flags = on_value (with_flag word flags) (λ more. with_flags words more)

@@ -33,7 +33,7 @@ pub enum ReadFault {
     WrongChild { at: usize },
     /// The element ends here without a child that it needs.
     MissingChild { at: usize, which: Word },
-    /// There is no memory.
+    /// Memory ran out.
     Memory,
 }
 

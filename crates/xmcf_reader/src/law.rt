@@ -20,7 +20,7 @@ pub fn drafted()
 {}
 
 /// The entries of a text without a fault are those of its start tags, one each and in their order: the place, the element and
-/// the values of the tag, below the innermost element that is open there, which is told by counting where elements begin and
+/// the values of the tag, below the innermost element that is open there, which is found by counting where elements begin and
 /// end.
 pub fn nested()
     ensures { FaultlessIsOfTags }

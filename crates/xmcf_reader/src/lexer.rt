@@ -116,7 +116,7 @@ fn dashes(bytes: &[u8]) -> Option<usize>
         .position(|(one, two)| *one == b'-' && *two == b'-')
 }
 
-/// The byte has to stand next: it ends the token, of which so many bytes stand before it.
+/// The byte has to stand next: it ends the token, of which this many bytes stand before it.
 #[tactic(auto, unfolding(crate::specs::Tokens::byte_token))]
 fn closed<'a>(last: u8, token: Token<'a>, before: usize, bytes: &[u8]) -> Front<'a>
     requires { before < 2 ^ 34 }
@@ -200,7 +200,7 @@ fn declared(bytes: &[u8]) -> Front<'_>
     Front::Broken(Stop::Break { at: 0 })
 }
 
-/// A tag's opening or the name of an attribute, whose name has so many bytes.
+/// A tag's opening or the name of an attribute, whose name has this many bytes.
 #[tactic(auto, unfolding(crate::specs::Tokens::named_token))]
 fn opening(size: usize, bytes: &[u8]) -> Front<'_>
     requires short { length bytes.now < 2 ^ 32 }
@@ -215,7 +215,7 @@ fn opening(size: usize, bytes: &[u8]) -> Front<'_>
     }
 }
 
-/// The name of an attribute, which has so many bytes.
+/// The name of an attribute, which has this many bytes.
 #[tactic(auto, unfolding(crate::specs::Tokens::named_token))]
 fn attribute_name(size: usize, bytes: &[u8]) -> Front<'_>
     requires short { length bytes.now < 2 ^ 32 }
@@ -248,7 +248,7 @@ fn end_of_tag<'a>(name: &'a [u8], size: usize, bytes: &[u8]) -> Front<'a>
     )
 }
 
-/// An end tag whose name has so many bytes, of which `</` stands before these bytes.
+/// An end tag whose name has this many bytes, of which `</` stands before these bytes.
 #[tactic(auto, unfolding(crate::specs::Tokens::end_named))]
 fn end_named(size: usize, bytes: &[u8]) -> Front<'_>
     requires short { length bytes.now < 2 ^ 32 }

@@ -26,7 +26,7 @@ pub(crate) enum Next<'a> {
     End(usize),
 }
 
-/// The fault of a spelling that stops, in a rest of so many bytes from a place on.
+/// The fault of a spelling that stops, in a rest of this many bytes from a place on.
 fn stopped(at: usize, size: usize, stop: Stop) -> ReadFault
     requires small { at + size < 2 ^ 32 }
     requires within { Rattle.xmcf_reader.specs.Cuts.StopsWithin stop size }

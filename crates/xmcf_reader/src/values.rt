@@ -53,7 +53,7 @@ fn spelled(base: u64, bytes: &[u8]) -> Option<u64>
     Some(n)
 }
 
-/// The number that 1 to so many digits spell.
+/// The number that 1 to this many digits spell.
 #[tactic(auto, unfolding(crate::specs::Values::digits))]
 fn digits(base: u64, most: usize, bytes: &[u8]) -> Option<u64>
     requires base { base ≤ 16 }
@@ -92,7 +92,7 @@ pub(crate) fn address(text: &[u8]) -> Option<u32>
     }
 }
 
-/// Whole and part of a decimal number in millionths; the part has so many digits.
+/// Whole and part of a decimal number in millionths; the part has this many digits.
 #[tactic(auto, unfolding(crate::specs::Values::millionths))]
 fn millionths(whole: u64, part: u64, size: usize) -> u64
     requires whole { whole < 2 ^ 40 }
@@ -146,7 +146,7 @@ fn decimal_number(text: &[u8]) -> Option<u64>
     }
 }
 
-/// So many millionths of a unit, where they come out whole and below 2^32.
+/// This many millionths of a unit, where they come out whole and below 2^32.
 #[tactic(auto, unfolding(crate::specs::Values::whole))]
 fn whole(unit: u64, n: u64) -> Option<u32>
     ensures { result ≡ values.whole unit n }

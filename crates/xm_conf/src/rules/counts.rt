@@ -70,7 +70,7 @@ fn plans_counts(plans: &[Plan]) -> Option<Broken>
     first_of_each(plans, plan_counts)
 }
 
-/// A partition past so many, and too few or too many areas and ports.
+/// A partition past this many, and too few or too many areas and ports.
 #[tactic(auto, unfolding(crate::specs::Rules::part_counts))]
 fn part_counts(most: u8, n: u8, part: &Part) -> Option<Broken>
     ensures first { result ≡ head_of (rules.part_counts most n part.now) }
@@ -85,7 +85,7 @@ fn part_counts(most: u8, n: u8, part: &Part) -> Option<Broken>
     unless(part.ports.len() <= PORTS, 1, Item::Port(n, 32))
 }
 
-/// The first partition past so many, or with too few or too many areas and ports.
+/// The first partition past this many, or with too few or too many areas and ports.
 fn parts_counts(most: u8, parts: &[Part]) -> Option<Broken>
     ensures { result ≡ head_of (added_by_each (rules.part_counts most) parts.now) }
 {
@@ -114,7 +114,7 @@ fn chans_counts(chans: &[Chan]) -> Option<Broken>
     first_of_each(chans, chan_counts)
 }
 
-/// The first item that is missing, or past its limit, where so many partitions are the most.
+/// The first item that is missing, or past its limit, where this many partitions are the most.
 #[tactic(auto, using(crate::specs::AlongLemmas::in_turn), unfolding(crate::specs::Rules::rule_1))]
 fn first_count(most: u8, raw: &RawConf) -> Option<Broken>
     ensures { result ≡ head_of (rules.rule_1 most raw.now) }
@@ -138,7 +138,7 @@ fn first_count(most: u8, raw: &RawConf) -> Option<Broken>
     unless(raw.links.len() <= LINKS, 1, Item::Link(64))
 }
 
-/// The first item that is missing, or past its limit, where so many partitions are the most.
+/// The first item that is missing, or past its limit, where this many partitions are the most.
 #[tactic(auto, using(crate::proofs::CountLemmas::counted))]
 pub(super) fn rule_1(most: u8, raw: &RawConf) -> Option<Broken>
     requires { most ≤ most_parts }

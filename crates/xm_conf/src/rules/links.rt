@@ -14,7 +14,7 @@ use crate::limits::LINK_NUMBERS;
 use crate::link::Link;
 use crate::raw::RawConf;
 
-/// Whether a partition exists, where there are so many.
+/// Whether a partition exists, where there are this many.
 fn exists(parts: usize, part: u8) -> bool
     ensures { result ≡ rules.exists parts part }
 {

@@ -19,7 +19,7 @@ const LONGEST: u32 = 1_000_000_000;
 
 const FLAGS: u16 = 1 << 12;
 
-/// Whether a console is one of so many UARTs, where there is one.
+/// Whether a console is one of this many UARTs, where there is one.
 fn is_console(uarts: usize, console: Option<u8>) -> bool
     ensures { result ≡ rules.is_console uarts console }
 {

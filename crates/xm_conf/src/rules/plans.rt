@@ -59,7 +59,7 @@ fn frame_broken(p: u8, plan: &Plan) -> Option<Broken>
 }
 
 /// Whether a slot starts at or after the end of an earlier one.
-fn is_behind(earlier: &Slot, slot: &Slot) -> bool
+fn is_after(earlier: &Slot, slot: &Slot) -> bool
     ensures { result ≡ rules.follows (Some earlier.now) slot.now }
 {
     let end = u64::from(earlier.start) + u64::from(earlier.duration);
@@ -71,7 +71,7 @@ fn follows(before: &[Slot], slot: &Slot) -> bool
     ensures { result ≡ rules.follows (slice_get before.now (length before.now - 1)) slot.now }
 {
     match before.last() {
-        Some(earlier) => is_behind(earlier, slot),
+        Some(earlier) => is_after(earlier, slot),
         None => true,
     }
 }

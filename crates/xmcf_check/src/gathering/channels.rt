@@ -19,7 +19,7 @@ use xm_base::Memory;
 use xm_conf::{Chan, End, Name, Part, Way};
 use xmcf_reader::{Element, Entry};
 
-/// The end that a partition's number and a port's name tell, with both numbers capped.
+/// The end that a partition's number and a port's name denote, with both numbers capped.
 #[tactic(auto, unfolding(crate::specs::Described::described_end, crate::specs::Capped::capped_end))]
 fn end_named(
     parts: &[Part],
@@ -36,7 +36,7 @@ fn end_named(
     }
 }
 
-/// The end that an element tells, where it tells one of this way.
+/// The end that an element names, where it names one of this way.
 fn end_of_way(
     parts: &[Part],
     numbers: &IndexMap<(usize, &[u8]), usize>,

@@ -1,6 +1,6 @@
 use Rattle.std.proofs.Common.{◌≡◌, ◌-◌}
 use Rattle.xm_base.specs.Cursor.{Place}
-use Rattle.sealed_files.specs.Gives.{GivesAt}
+use Rattle.file_headers.specs.Gives.{GivesAt}
 use Rattle.bin_config.specs.Reading.{Read, elements_at}
 use Rattle.bin_config.specs.Gives.{Fails, with_front}
 use Rattle.bin_config.proofs.reading.each.Given as goal

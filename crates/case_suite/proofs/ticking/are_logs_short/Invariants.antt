@@ -1,5 +1,5 @@
 use Rattle.std.proofs.Common.{ℕ, ◌<◌, ◌≤◌}
-use Rattle.slot_runs.specs.Passes.{part_at}
+use Rattle.span_model.specs.Passes.{part_at}
 use Rattle.case_suite.proofs.ticking.are_logs_short.Given as goal
 
 abbrev pub invariant-loop-part : goal.invariant-loop-part

@@ -1,5 +1,5 @@
 use Rattle.std.proofs.Common.{◌≡◌, length}
-use Rattle.xm_words.specs.Seen.{seen_files}
+use Rattle.command_line.specs.Seen.{seen_files}
 use Rattle.case_suite.proofs.ticking.inputs_in.Given as goal
 
 abbrev pub invariant-loop-first : goal.invariant-loop-first

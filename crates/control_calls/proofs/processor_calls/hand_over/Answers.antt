@@ -1,7 +1,7 @@
 use Rattle.std.proofs.Common.{drop}
 use Rattle.control_calls.proofs.ProcessorLemmas.{has_room, input_allowed, input_refused}
-use Rattle.whole_system.specs.Serving.{caller_of}
-use Rattle.whole_system.specs.State.{input_words_of}
+use Rattle.system_state.specs.Serving.{caller_of}
+use Rattle.system_state.specs.State.{input_words_of}
 use Rattle.control_calls.proofs.processor_calls.hand_over.Goals as goal
 
 pub put_input-requires : goal.put_input-requires

@@ -1,11 +1,11 @@
 use Rattle.std.proofs.Common.{Ok, Err, subst}
 use Rattle.machine_model.specs.Caller.{answering, invalid_parameter}
 use Rattle.machine_model.specs.ProcessorCalls.{undone}
-use Rattle.machine_model.specs.Told.{Unseen}
+use Rattle.machine_model.specs.Emission.{Unseen}
 use Rattle.virt_traps.specs.declared.delivery.IretFault.TheVariants.{Stack, Unaligned}
 use Rattle.control_calls.proofs.ProcessorLemmas.{return_answered, return_made}
-use Rattle.whole_system.specs.Serving.{IsServed, caller_of}
-use Rattle.whole_system.specs.State.{SysState}
+use Rattle.system_state.specs.Serving.{IsServed, caller_of}
+use Rattle.system_state.specs.State.{SysState}
 use Rattle.control_calls.proofs.processor_calls.iret.Goals as goal
 
 pub returns-in-Ok : goal.returns-in-Ok

@@ -2,11 +2,11 @@ use Rattle.std.proofs.Common.{drop, List, ℕ, refl, subst}
 use Rattle.std.specs.Int.{to_be_bytes, w32}
 use Rattle.machine_model.specs.Caller.{answering, with_written}
 use Rattle.machine_model.specs.Partition.{PartitionState}
-use Rattle.machine_model.specs.Told.{Unseen}
+use Rattle.machine_model.specs.Emission.{Unseen}
 use Rattle.control_calls.proofs.ProcessorLemmas.{words_stay}
-use Rattle.whole_system.specs.ServedLemmas.{served_changed}
-use Rattle.whole_system.specs.Serving.{IsServed, caller_of}
-use Rattle.whole_system.specs.State.{input_words_of}
+use Rattle.system_state.specs.ServedLemmas.{served_changed}
+use Rattle.system_state.specs.Serving.{IsServed, caller_of}
+use Rattle.system_state.specs.State.{input_words_of}
 use Rattle.control_calls.proofs.processor_calls.put_input.Goals as goal
 
 pub returns : goal.returns

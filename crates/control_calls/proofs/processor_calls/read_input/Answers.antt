@@ -1,7 +1,7 @@
 use Rattle.std.proofs.Common.{◌≡◌, [], ◌∷◌, ◌+◌, ◌∙◌, sym, subst, drop}
 use Rattle.control_calls.proofs.ProcessorLemmas.{input_asked, inputs_left, inputs_next, inputs_none}
-use Rattle.whole_system.specs.Serving.{caller_of}
-use Rattle.whole_system.specs.State.{OwnState, input_words_of}
+use Rattle.system_state.specs.Serving.{caller_of}
+use Rattle.system_state.specs.State.{OwnState, input_words_of}
 use Rattle.control_calls.proofs.processor_calls.read_input.Goals as goal
 
 pub returns-in-None : goal.returns-in-None

@@ -1,5 +1,5 @@
 use Rattle.std.proofs.Common.{◌<◌, ◌∙◌, false, arith, length}
-use Rattle.whole_system.specs.State.{memory_of}
+use Rattle.system_state.specs.State.{memory_of}
 use Rattle.xm_conf.specs.declared.part.Area.{Area}
 use Rattle.core_files.proofs.AreaLemmas.{area_fits, area_more, area_readable, area_written}
 use Rattle.core_files.proofs.areas.put_each.Goals as goal

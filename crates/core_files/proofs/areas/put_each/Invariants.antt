@@ -2,7 +2,7 @@ use Rattle.std.proofs.Common.{◌≡◌, ◌+◌, ◌++◌, length, map, take}
 use Rattle.std.specs.List.{flat_map, sum_by}
 use Rattle.guest_memory.specs.Loading.{area_of}
 use Rattle.machine_model.specs.CoreFile.{area_bytes}
-use Rattle.whole_system.specs.State.{memory_of}
+use Rattle.system_state.specs.State.{memory_of}
 use Rattle.core_files.specs.Length.{area_length}
 use Rattle.core_files.proofs.areas.put_each.Given as goal
 

@@ -12,8 +12,8 @@ pub loop-place-preserved : goal.loop-place-preserved
 loop-place-preserved g c =
     let below : c.loop-place.place < length c.args.log.now.entries = omega (arith, c.loop-place-test.true, c.kept-place-end.ensures.value) in
     record {
-      text = λ text told. found_written text _ _ _ c.args.log.now.entries c.loop-place.place c.entry_at-entry.result below c.entry_at-entry.ensures.value (c.loop-place.invariant.text text told)
-          (rw (told _ _ c.bytes_of.ensures) at c.put_structure-after.ensures.text);
+      text = λ text spelled. found_written text _ _ _ c.args.log.now.entries c.loop-place.place c.entry_at-entry.result below c.entry_at-entry.ensures.value (c.loop-place.invariant.text text spelled)
+          (rw (spelled _ _ c.bytes_of.ensures) at c.put_structure-after.ensures.text);
       ends = omega (arith, c.put_structure-after.ensures.place, c.loop-place.invariant.ends, c.requires.sized _ _ c.bytes_of.ensures, entry_more c.loop-place.place c.args.size);
       room = c.put_structure-after.ensures.room ∙ c.loop-place.invariant.room;
     }

@@ -4,9 +4,9 @@ use Rattle.core_files.proofs.WritingLemmas.{then_written}
 use Rattle.core_files.proofs.logs.put_log.Goals as goal
 
 pub returns-clause-text : goal.returns-clause-text
-returns-clause-text g c = λ text told.
+returns-clause-text g c = λ text spelled.
     let counts = rw c.counts_bytes.ensures.value at c.put_structure-at.ensures.text in
-    let entries = then_written _ _ _ _ _ counts (c.put_entries-at.ensures.text text told) in
+    let entries = then_written _ _ _ _ _ counts (c.put_entries-at.ensures.text text spelled) in
     then_written _ _ _ _ _ entries (rw c.kept-missing.ensures.value at c.put_zeros.ensures.text)
 
 pub returns-clause-place : goal.returns-clause-place

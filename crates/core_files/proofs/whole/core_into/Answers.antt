@@ -6,7 +6,7 @@ use Rattle.guest_memory.specs.Loading.{area_of}
 use Rattle.machine_model.specs.CoreFile.{area_bytes}
 use Rattle.machine_model.specs.Partition.{areas_of}
 use Rattle.machine_model.specs.View.{part_of, view_of}
-use Rattle.whole_system.specs.State.{memory_of}
+use Rattle.system_state.specs.State.{memory_of}
 use Rattle.xm_conf.specs.Configuration.{Conf}
 use Rattle.core_files.specs.Length.{area_length, core_length_of}
 use Rattle.core_files.proofs.AreaLemmas.{areas_are, areas_in_are}

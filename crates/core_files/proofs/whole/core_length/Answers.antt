@@ -1,7 +1,7 @@
 use Rattle.std.proofs.Common.{◌≡◌, ap, sym, ◌+◌, ◌∙◌}
 use Rattle.std.specs.List.{sum_by}
 use Rattle.machine_model.specs.View.{part_of, view_of}
-use Rattle.whole_system.specs.State.{part_at}
+use Rattle.system_state.specs.State.{part_at}
 use Rattle.xm_conf.specs.Configuration.{Conf}
 use Rattle.core_files.specs.Length.{area_length, core_length_of, head_length}
 use Rattle.core_files.proofs.AreaLemmas.{areas_are}

@@ -3,7 +3,7 @@ use Rattle.std.specs.List.{flat_map}
 use Rattle.machine_model.specs.CoreFile.{area_bytes, core_file}
 use Rattle.machine_model.specs.Partition.{areas_of}
 use Rattle.machine_model.specs.View.{view_of}
-use Rattle.whole_system.specs.State.{memory_of}
+use Rattle.system_state.specs.State.{memory_of}
 use Rattle.core_files.proofs.WritingLemmas.{and_both, and_written}
 use Rattle.core_files.proofs.whole.put_head.Goals as goal
 

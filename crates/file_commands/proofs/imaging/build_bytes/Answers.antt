@@ -1,6 +1,6 @@
 use Rattle.std.proofs.Common.{refl}
-use Rattle.xm_words.specs.Words.{BuildImage}
-use Rattle.file_maker.specs.Imaging.{xef_of}
+use Rattle.command_line.specs.Words.{BuildImage}
+use Rattle.builders.specs.Imaging.{xef_of}
 use Rattle.file_commands.specs.CommandLemmas.{one-long, one-short, refused_comes}
 use Rattle.file_commands.proofs.imaging.build_bytes.Goals as goal
 

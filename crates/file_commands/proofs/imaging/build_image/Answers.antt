@@ -1,7 +1,7 @@
 use Rattle.std.proofs.Common.{[], ◌∷◌, refl}
-use Rattle.xm_words.specs.Words.{BuildImage}
+use Rattle.command_line.specs.Words.{BuildImage}
 use Rattle.file_commands.specs.Outcome.{outcome_of}
-use Rattle.file_commands.specs.Told.{ending_of}
+use Rattle.file_commands.specs.EndingValues.{ending_of}
 use Rattle.file_commands.specs.CommandLemmas.{comes_from, done_by_one, not_read_done}
 use Rattle.file_commands.proofs.imaging.build_image.Goals as goal
 

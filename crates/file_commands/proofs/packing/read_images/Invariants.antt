@@ -1,7 +1,7 @@
 use Rattle.std.proofs.Common.{◌≡◌, map, drop}
-use Rattle.xm_words.specs.Seen.{seen_files}
+use Rattle.command_line.specs.Seen.{seen_files}
 use Rattle.file_commands.specs.Packing.{images_of}
-use Rattle.file_commands.specs.Told.{vector_bytes}
+use Rattle.file_commands.specs.EndingValues.{vector_bytes}
 use Rattle.file_commands.proofs.PackingLemmas.{after_images}
 use Rattle.file_commands.proofs.packing.read_images.Given as goal
 

@@ -1,6 +1,6 @@
 use Rattle.std.proofs.Common.{refl}
-use Rattle.xm_words.specs.Words.{Parse}
-use Rattle.file_maker.specs.Parsing.{xmc_of}
+use Rattle.command_line.specs.Words.{Parse}
+use Rattle.builders.specs.Parsing.{xmc_of}
 use Rattle.file_commands.specs.CommandLemmas.{one-long, one-short, refused_comes}
 use Rattle.file_commands.proofs.parsing.parse_text.Goals as goal
 

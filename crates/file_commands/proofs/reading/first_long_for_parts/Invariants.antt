@@ -1,8 +1,8 @@
 use Rattle.std.proofs.Common.{◌≡◌, map, drop}
-use Rattle.xm_words.specs.Seen.{seen_files}
+use Rattle.command_line.specs.Seen.{seen_files}
 use Rattle.file_commands.specs.Outcome.{first_long}
 use Rattle.file_commands.specs.Packing.{file_names}
-use Rattle.file_commands.specs.Told.{vector_bytes}
+use Rattle.file_commands.specs.EndingValues.{vector_bytes}
 use Rattle.file_commands.proofs.reading.first_long_for_parts.Given as goal
 
 abbrev pub invariant-loop-bytes : goal.invariant-loop-bytes

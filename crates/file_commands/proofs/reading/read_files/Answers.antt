@@ -1,7 +1,7 @@
 use Rattle.std.proofs.Common.{rules, sym, ap, ◌∙◌}
 use Rattle.file_commands.specs.Packing.{file_names}
-use Rattle.file_commands.specs.Told.{vector_bytes, ending_of}
-use Rattle.file_commands.proofs.PackingLemmas.{chose_ok, has_all, has_more, has_next, map_push, not_more, starved_there}
+use Rattle.file_commands.specs.EndingValues.{vector_bytes, ending_of}
+use Rattle.file_commands.proofs.PackingLemmas.{chose_ok, has_all, has_more, has_next, map_push, not_more, memory_there}
 use Rattle.file_commands.proofs.reading.read_files.Goals as goal
 
 pub returns-in-Err : goal.returns-in-Err
@@ -9,7 +9,7 @@ returns-in-Err g c = λ got faults. not_more (ending_of c.in-Err.ending) _ _ _ _
 
 pub returns-then-is_err : goal.returns-then-is_err
 returns-then-is_err g c = λ got faults.
-    starved_there _ _ _ _ _ (has_more _ _ _ _ _ _ _ _ (c.loop-bytes.invariant.1 got faults) (c.in-Ok.ensures got faults).0 (c.in-Ok.ensures got faults).1)
+    memory_there _ _ _ _ _ (has_more _ _ _ _ _ _ _ _ (c.loop-bytes.invariant.1 got faults) (c.in-Ok.ensures got faults).0 (c.in-Ok.ensures got faults).1)
 
 pub loop-bytes-preserved : goal.loop-bytes-preserved
 loop-bytes-preserved g c = (

@@ -1,9 +1,9 @@
 use Rattle.std.proofs.Common.{ℕ, List, ◌∷◌, Option, map, length}
 use denote.Text.{Utf8}
 use denote.Shadow.{shadow}
-use Rattle.xm_words.specs.Seen.{seen_files}
+use Rattle.command_line.specs.Seen.{seen_files}
 use Rattle.file_commands.specs.Packing.{file_names}
-use Rattle.file_commands.specs.Told.{vector_bytes}
+use Rattle.file_commands.specs.EndingValues.{vector_bytes}
 use Rattle.file_commands.specs.Work.{outside}
 use Rattle.file_commands.specs.Read.{HasRead}
 use Rattle.file_commands.proofs.reading.read_files.Given as goal

@@ -1,5 +1,5 @@
 use Rattle.std.proofs.Common.{ap, map}
-use Rattle.file_commands.specs.Told.{vector_bytes}
+use Rattle.file_commands.specs.EndingValues.{vector_bytes}
 use Rattle.file_commands.proofs.PackingLemmas.{has_all, read_begun}
 use Rattle.file_commands.proofs.reading.read_three.Goals as goal
 

@@ -1,7 +1,7 @@
 use Rattle.std.proofs.Common.{[], ◌∷◌, refl}
-use Rattle.xm_words.specs.Words.{Upgrade}
+use Rattle.command_line.specs.Words.{Upgrade}
 use Rattle.file_commands.specs.Outcome.{outcome_of}
-use Rattle.file_commands.specs.Told.{ending_of}
+use Rattle.file_commands.specs.EndingValues.{ending_of}
 use Rattle.file_commands.specs.CommandLemmas.{comes_from, done_by_one, not_read_done}
 use Rattle.file_commands.proofs.upgrading.upgrade.Goals as goal
 

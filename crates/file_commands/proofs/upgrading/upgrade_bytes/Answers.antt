@@ -1,6 +1,6 @@
 use Rattle.std.proofs.Common.{refl}
-use Rattle.xm_words.specs.Words.{Upgrade}
-use Rattle.file_maker.specs.Parsing.{upgraded_of}
+use Rattle.command_line.specs.Words.{Upgrade}
+use Rattle.builders.specs.Parsing.{upgraded_of}
 use Rattle.file_commands.specs.CommandLemmas.{one-long, one-short, refused_comes}
 use Rattle.file_commands.proofs.upgrading.upgrade_bytes.Goals as goal
 

@@ -1,9 +1,9 @@
 use Rattle.std.proofs.Common.{ℕ, List, length, ap, ◌∙◌, sym}
 use Rattle.machine_model.specs.Machine.{Machine, run}
-use Rattle.whole_system.specs.State.{with_inputs}
+use Rattle.system_state.specs.State.{with_inputs}
 use Rattle.generated_system.specs.Generated.{generated}
-use Rattle.generated_system.specs.Told.{run_length}
-use Rattle.generated_runs.proofs.RunLemmas.{keeps_system, one_system, sixteen, starts_fresh, starts_running, told_so}
+use Rattle.generated_system.specs.Reported.{run_length}
+use Rattle.generated_runs.proofs.RunLemmas.{keeps_system, one_system, sixteen, starts_fresh, starts_running, reported_so}
 use Rattle.generated_runs.proofs.running.run_container.Goals as goal
 
 pub system_in-requires : goal.system_in-requires
@@ -38,5 +38,5 @@ returns c =
     let state = rw c.in_ok-machine.ensures.state at c.run_frames-ran.ensures.state in
     let lines = rw c.in_ok-machine.ensures.state at c.run_frames-ran.ensures.lines in
     let long = ap (λ (bytes : List ℕ). length bytes) c.requires.text in
-    let told = told_so c.args.number (length c.args.container.now) c.run_frames-ran.result.lines c.in_ok-system.system c.in_ok-inputs.inputs c.run_frames-ran.new.machine.state is c.in_ok-inputs.ensures.value long state lines in
-    rw (← told) c.lines_of.ensures
+    let reported = reported_so c.args.number (length c.args.container.now) c.run_frames-ran.result.lines c.in_ok-system.system c.in_ok-inputs.inputs c.run_frames-ran.new.machine.state is c.in_ok-inputs.ensures.value long state lines in
+    rw (← reported) c.lines_of.ensures

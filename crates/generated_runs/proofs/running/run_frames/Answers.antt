@@ -1,4 +1,4 @@
-use Rattle.generated_system.specs.Told.{run_length}
+use Rattle.generated_system.specs.Reported.{run_length}
 use Rattle.generated_runs.proofs.RunLemmas.{never_rose}
 use Rattle.generated_runs.proofs.running.run_frames.Goals as goal
 

@@ -10,5 +10,5 @@ part-requires c =
 
 pub returns-clause-read : goal.returns-clause-read
 returns-clause-read c =
-    piece_read c.args.entries.now c.args.bytes.now c.in-Some.place c.args.address c.min-count.result c.args.done c.args.into.now c.put.new.bytes c.part.result.now
-    c.requires.space c.in-Some.ensures.at (omega (arith, c.min-count.ensures)) c.part.ensures c.put.ensures.value
+    piece_read c.args.entries.now c.args.bytes.now c.in-Some.place c.args.address c.min-count.result c.args.done c.args.into.now c.write_at.new.bytes c.part.result.now
+    c.requires.space c.in-Some.ensures.at (omega (arith, c.min-count.ensures)) c.part.ensures c.write_at.ensures.value

@@ -1,6 +1,6 @@
 use Rattle.std.proofs.Common.{◌≡◌, ◌∙◌, arith, refl}
 use Rattle.machine_model.specs.LinkCalls as stated
-use Rattle.whole_system.specs.Serving.{caller_of}
+use Rattle.system_state.specs.Serving.{caller_of}
 use Rattle.hypercalls.proofs.ServingLemmas.{unseen}
 use Rattle.hypercalls.proofs.serving.serve_numbered.Goals as goal
 

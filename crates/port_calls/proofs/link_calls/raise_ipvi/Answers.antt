@@ -2,8 +2,8 @@ use Rattle.std.proofs.Common.{◌≡◌, None, refl, sym, ap, ◌∙◌}
 use Rattle.xm_conf.specs.Configuration.{Conf}
 use Rattle.xm_conf.specs.View.{link_of}
 use Rattle.machine_model.specs.Caller.{a_of}
-use Rattle.whole_system.specs.Serving.{caller_of}
-use Rattle.whole_system.specs.ServedLemmas.{served_as}
+use Rattle.system_state.specs.Serving.{caller_of}
+use Rattle.system_state.specs.ServedLemmas.{served_as}
 use Rattle.port_calls.proofs.LinkCallLemmas.{is_refused}
 use Rattle.port_calls.proofs.link_calls.raise_ipvi.Goals as goal
 

@@ -1,6 +1,6 @@
 use Rattle.std.proofs.Common.{◌≡◌, ◌<◌, length, ap, arith}
 use Rattle.xm_conf.specs.Configuration.{Conf}
-use Rattle.whole_system.specs.State.{SysState}
+use Rattle.system_state.specs.State.{SysState}
 use Rattle.port_calls.proofs.LinkCallLemmas.{signals}
 use Rattle.port_calls.proofs.link_calls.signal_over.Goals as goal
 

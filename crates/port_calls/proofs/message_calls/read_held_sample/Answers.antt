@@ -1,8 +1,8 @@
 use Rattle.std.proofs.Common.{ap, refl, sym}
 use Rattle.machine_model.specs.PortCalls.{held_read}
 use Rattle.port_calls.specs.MadePorts.{port_in}
-use Rattle.whole_system.specs.Serving.{caller_of}
-use Rattle.whole_system.specs.ServedLemmas.{served_as}
+use Rattle.system_state.specs.Serving.{caller_of}
+use Rattle.system_state.specs.ServedLemmas.{served_as}
 use Rattle.port_calls.proofs.message_calls.read_held_sample.Goals as goal
 
 pub returns-in_default : goal.returns-in_default

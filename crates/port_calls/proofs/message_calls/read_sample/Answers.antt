@@ -1,7 +1,7 @@
 use Rattle.std.proofs.Common.{◌≡◌, length, ap, refl, ◌∙◌}
 use Rattle.machine_model.specs.Caller.{is_room}
 use Rattle.machine_model.specs.Structures.{word}
-use Rattle.whole_system.specs.Serving.{caller_of}
+use Rattle.system_state.specs.Serving.{caller_of}
 use Rattle.port_calls.proofs.ReadingLemmas.{room_after, sample_done, validity_room}
 use Rattle.port_calls.proofs.message_calls.read_sample.Goals as goal
 

@@ -1,8 +1,8 @@
 use Rattle.std.proofs.Common.{refl}
 use Rattle.port_calls.specs.MadePorts.{port_in}
 use Rattle.port_calls.specs.declared.on_ports.PortWork.TheVariants as work
-use Rattle.whole_system.specs.Serving.{caller_of}
-use Rattle.whole_system.specs.ServedLemmas.{served_as}
+use Rattle.system_state.specs.Serving.{caller_of}
+use Rattle.system_state.specs.ServedLemmas.{served_as}
 use Rattle.port_calls.proofs.OnPortLemmas.{call_made, call_unmade}
 use Rattle.port_calls.proofs.on_ports.call_port.Goals as goal
 
@@ -19,6 +19,6 @@ pub returns-in-Receive : goal.returns-in-Receive
 returns-in-Receive c =
     rw c.in-Receive.is (served_as refl (call_made c.args.kind work.Receive (caller_of c.args.site c.args.sys.now) (port_in c.args.site.part c.args.sys.now c.in-Some.port) c.in-Some.ensures.value) c.receive_on.ensures)
 
-pub returns-in-Tell : goal.returns-in-Tell
-returns-in-Tell c =
-    rw c.in-Tell.is (served_as refl (call_made c.args.kind work.Tell (caller_of c.args.site c.args.sys.now) (port_in c.args.site.part c.args.sys.now c.in-Some.port) c.in-Some.ensures.value) c.tell_on.ensures)
+pub returns-in-Status : goal.returns-in-Status
+returns-in-Status c =
+    rw c.in-Status.is (served_as refl (call_made c.args.kind work.Status (caller_of c.args.site c.args.sys.now) (port_in c.args.site.part c.args.sys.now c.in-Some.port) c.in-Some.ensures.value) c.status_on.ensures)

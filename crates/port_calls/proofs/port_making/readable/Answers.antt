@@ -1,7 +1,7 @@
 use Rattle.std.proofs.Common.{arith}
 use Rattle.guest_bus.specs.Memory.{is_readable}
 use Rattle.machine_model.specs.Partition.{areas_of}
-use Rattle.whole_system.specs.Serving.{caller_of}
+use Rattle.system_state.specs.Serving.{caller_of}
 use Rattle.port_calls.proofs.PortMakingLemmas.{all_readable}
 use Rattle.port_calls.proofs.port_making.readable.Goals as goal
 

@@ -1,5 +1,5 @@
 use Rattle.std.proofs.Common.{◌≡◌}
-use Rattle.whole_system.specs.State.{with_machine}
+use Rattle.system_state.specs.State.{with_machine}
 use Rattle.port_calls.proofs.HearingLemmas.{notified_to}
 use Rattle.port_calls.proofs.traffic.notify.Given as goal
 

@@ -1,5 +1,5 @@
 use Rattle.std.proofs.Common.{◌≡◌, drop}
-use Rattle.whole_system.specs.State.{part_at}
+use Rattle.system_state.specs.State.{part_at}
 use Rattle.port_calls.specs.Traffic.{hears_from, is_on}
 use Rattle.port_calls.proofs.traffic.one_hears.Given as goal
 

@@ -1,5 +1,5 @@
 use Rattle.std.proofs.Common.{Some, None}
-use Rattle.xm_words.specs.Seen.{seen_file, seen_files}
+use Rattle.command_line.specs.Seen.{seen_file, seen_files}
 use Rattle.file_commands.specs.Work.{outside}
 use Rattle.run_commands.specs.CoreLemmas.{fits_next, inside_next, lost_next, saves_next, saves_none}
 use Rattle.run_commands.proofs.cores.write_cores.Goals as goal

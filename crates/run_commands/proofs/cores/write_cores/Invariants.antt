@@ -1,5 +1,5 @@
 use Rattle.std.proofs.Common.{ℕ, List, Option, length}
-use Rattle.xm_words.specs.Seen.{seen_files}
+use Rattle.command_line.specs.Seen.{seen_files}
 use Rattle.run_commands.specs.Cores.{AreForPartitions, FitInto}
 use Rattle.file_commands.specs.Outcome.{core_outputs}
 use Rattle.file_commands.specs.Work.{Outside, SavesAll, outside}

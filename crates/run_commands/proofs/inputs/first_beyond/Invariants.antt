@@ -1,5 +1,5 @@
 use Rattle.std.proofs.Common.{◌≡◌, length}
-use Rattle.xm_words.specs.Seen.{seen_options}
+use Rattle.command_line.specs.Seen.{seen_options}
 use Rattle.file_commands.specs.Inputs.{first_beyond}
 use Rattle.run_commands.proofs.inputs.first_beyond.Given as goal
 

@@ -1,4 +1,4 @@
-use Rattle.xm_words.specs.Seen.{seen_file}
+use Rattle.command_line.specs.Seen.{seen_file}
 use Rattle.run_commands.specs.InputLemmas.{words_given}
 use Rattle.run_commands.proofs.inputs.give.Goals as goal
 

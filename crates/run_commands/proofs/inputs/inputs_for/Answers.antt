@@ -1,5 +1,5 @@
 use Rattle.std.proofs.Common.{sym}
-use Rattle.xm_words.specs.Seen.{seen_options}
+use Rattle.command_line.specs.Seen.{seen_options}
 use Rattle.run_commands.specs.CoreLemmas.{always_ok, cores_inside, inputs_inside, scripts_inside}
 use Rattle.run_commands.proofs.inputs.inputs_for.Goals as goal
 

@@ -1,10 +1,10 @@
 use Rattle.std.proofs.Common.{◌≡◌, map, drop, length, None}
-use Rattle.xm_words.specs.Seen.{seen_files}
+use Rattle.command_line.specs.Seen.{seen_files}
 use Rattle.run_commands.specs.Cores.{AreForPartitions}
 use Rattle.file_commands.specs.Inputs.{inputs_with, no_inputs}
 use Rattle.file_commands.specs.Outcome.{first_long}
 use Rattle.file_commands.specs.Packing.{file_names}
-use Rattle.file_commands.specs.Told.{vector_bytes}
+use Rattle.file_commands.specs.EndingValues.{vector_bytes}
 use Rattle.run_commands.proofs.inputs.read_inputs.Given as goal
 
 abbrev pub invariant-loop-bytes : goal.invariant-loop-bytes

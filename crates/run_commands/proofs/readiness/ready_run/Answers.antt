@@ -1,8 +1,8 @@
-use Rattle.xm_words.specs.Seen.{seen_options}
-use Rattle.xm_words.specs.Words.{scripts_in, span_in}
+use Rattle.command_line.specs.Seen.{seen_options}
+use Rattle.command_line.specs.Words.{scripts_in, span_in}
 use Rattle.file_commands.specs.Outcome.{ticks_asked}
-use Rattle.file_commands.specs.Told.{ending_of}
-use Rattle.run_commands.proofs.NumberLemmas.{told_ready}
+use Rattle.file_commands.specs.EndingValues.{ending_of}
+use Rattle.run_commands.proofs.NumberLemmas.{received_ready}
 use Rattle.run_commands.proofs.ReadyLemmas.{inputs_refuse}
 use Rattle.run_commands.proofs.readiness.ready_run.Goals as goal
 
@@ -14,4 +14,4 @@ returns-in-Err-clause-value c =
 pub returns-in-Ok-clause-numbers : goal.returns-in-Ok-clause-numbers
 returns-in-Ok-clause-numbers c = λ inputs given.
     let words = rw (c.part_count.ensures, c.conf.ensures.value, c.split_contents.ensures.others) at c.in-Ok.ensures.value in
-    told_ready c.ready_with.result c.args.system.now (ticks_asked (span_in (seen_options c.args.options)) c.args.system.now.conf) (scripts_in (seen_options c.args.options)) _ c.in-Ok.inputs inputs words c.ready_with.ensures.numbers given
+    received_ready c.ready_with.result c.args.system.now (ticks_asked (span_in (seen_options c.args.options)) c.args.system.now.conf) (scripts_in (seen_options c.args.options)) _ c.in-Ok.inputs inputs words c.ready_with.ensures.numbers given

@@ -1,9 +1,9 @@
 use Rattle.std.proofs.Common.{arith, refl}
-use Rattle.whole_system.specs.State.{with_inputs}
-use Rattle.xm_words.specs.Seen.{seen_options}
-use Rattle.xm_words.specs.Words.{cores_in, scripts_in}
-use Rattle.file_commands.specs.Told.{ending_of}
-use Rattle.run_commands.proofs.NumberLemmas.{told_asked}
+use Rattle.system_state.specs.State.{with_inputs}
+use Rattle.command_line.specs.Seen.{seen_options}
+use Rattle.command_line.specs.Words.{cores_in, scripts_in}
+use Rattle.file_commands.specs.EndingValues.{ending_of}
+use Rattle.run_commands.proofs.NumberLemmas.{received_asked}
 use Rattle.run_commands.proofs.ReadyLemmas.{scripts_refuse}
 use Rattle.run_commands.proofs.ScriptLemmas.{within_is}
 use Rattle.run_commands.proofs.readiness.ready_with.Goals as goal
@@ -22,4 +22,4 @@ returns-in-Err-clause-value c =
 pub returns-in-Ok-clause-numbers : goal.returns-in-Ok-clause-numbers
 returns-in-Ok-clause-numbers c =
     let asked = rw (c.span.ensures.value, c.conf.ensures.value) at c.ticks_asked-asked.ensures in
-    told_asked (with_inputs c.args.system.now c.args.inputs) c.ticks_asked-asked.result _ (scripts_in (seen_options c.args.options)) asked (c.in-Ok.ensures.numbers c.args.inputs c.requires.inputs)
+    received_asked (with_inputs c.args.system.now c.args.inputs) c.ticks_asked-asked.result _ (scripts_in (seen_options c.args.options)) asked (c.in-Ok.ensures.numbers c.args.inputs c.requires.inputs)

@@ -10,4 +10,4 @@ pub returns : goal.returns
 returns c =
     let same = c.conf.ensures.value ∙ ap (λ (g : Machine). g.system.conf) c.sys.ensures.machine in
     let fits = subst (λ (conf : Conf). Fits (described conf)) same c.raw-fits.ensures.fits in
-    few_cued c.args.machine.now.state c.args.p (c.tells_few_bytes.ensures.messages c.args.machine.now.state fits) (c.tells_few_bytes.ensures.sights c.args.machine.now.state c.args.p c.done-counted.ensures.counters.facts)
+    few_cued c.args.machine.now.state c.args.p (c.trades_few_bytes.ensures.messages c.args.machine.now.state fits) (c.trades_few_bytes.ensures.sights c.args.machine.now.state c.args.p c.done-counted.ensures.counters.facts)

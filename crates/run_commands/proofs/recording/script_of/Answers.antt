@@ -2,9 +2,9 @@ use Rattle.std.proofs.Common.{◌∙◌, ap, arith, length, subst}
 use Rattle.std.specs.List.{AllByRecursion}
 use Rattle.machine_model.specs.Cue.{script}
 use Rattle.machine_model.specs.Machine.{Machine, start}
-use Rattle.whole_system.specs.State.{with_inputs}
+use Rattle.system_state.specs.State.{with_inputs}
 use Rattle.cue_scripts.specs.Written.{IsWritten}
-use Rattle.told_scripts.specs.Telling.{HasNumbers}
+use Rattle.recording_model.specs.Receiving.{HasNumbers}
 use Rattle.run_commands.proofs.RunLemmas.{are_numbered}
 use Rattle.run_commands.proofs.TickLemmas.{started-parts, started-ticks}
 use Rattle.run_commands.proofs.recording.script_of.Goals as goal

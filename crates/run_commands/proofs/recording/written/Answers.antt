@@ -10,8 +10,8 @@ pub returns-then-halted-clause-numbers : goal.returns-then-halted-clause-numbers
 returns-then-halted-clause-numbers c =
     halt_numbered c.args.machine.now.state c.args.p c.args.ticks c.loop-done.done c.loop-done.machine.state c.loop-done.writer (sym c.halted.ensures ∙ c.if-halted.true) c.loop-done.invariant
 
-pub told_in-requires-clause-more : goal.told_in-requires-clause-more
-told_in-requires-clause-more c =
+pub received_in_tick-requires-clause-more : goal.received_in_tick-requires-clause-more
+received_in_tick-requires-clause-more c =
     omega (arith, c.requires.most, tick_left c.args.machine.now.state c.args.p c.args.ticks c.loop-done.done c.loop-done.machine.state c.loop-done.writer c.requires.fresh c.loop-done-test.true c.loop-done.invariant)
 
 pub add-requires-clause-few : goal.add-requires-clause-few
@@ -20,10 +20,10 @@ add-requires-clause-few c =
 
 pub loop-done-preserved-in_ok-add : goal.loop-done-preserved-in_ok-add
 loop-done-preserved-in_ok-add c =
-    one_recorded c.args.machine.now.state c.args.p c.args.ticks c.loop-done.done c.loop-done.machine.state c.told_in.new.machine.state c.loop-done.writer c.add.new.self
+    one_recorded c.args.machine.now.state c.args.p c.args.ticks c.loop-done.done c.loop-done.machine.state c.received_in_tick.new.machine.state c.loop-done.writer c.add.new.self
     c.loop-done-test.true (sym c.halted.ensures ∙ c.if-halted.false) c.loop-done.invariant c.in_ok-cue.ensures.state (rw c.in_ok-cue.ensures.cue at c.has_numbers.ensures.numbers) (λ cues is. rw c.in_ok-cue.ensures.cue at (c.in_ok-add.ensures.written cues is))
 
 pub loop-done-preserved : goal.loop-done-preserved
 loop-done-preserved c =
-    one_recorded c.args.machine.now.state c.args.p c.args.ticks c.loop-done.done c.loop-done.machine.state c.told_in.new.machine.state c.loop-done.writer c.add.new.self
+    one_recorded c.args.machine.now.state c.args.p c.args.ticks c.loop-done.done c.loop-done.machine.state c.received_in_tick.new.machine.state c.loop-done.writer c.add.new.self
     c.loop-done-test.true (sym c.halted.ensures ∙ c.if-halted.false) c.loop-done.invariant c.in_ok-cue.ensures.state (rw c.in_ok-cue.ensures.cue at c.has_numbers.ensures.numbers) (λ cues is. rw c.in_ok-cue.ensures.cue at (c.in_ok-add.ensures.written cues is))

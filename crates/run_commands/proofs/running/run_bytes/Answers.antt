@@ -1,6 +1,6 @@
 use Rattle.std.proofs.Common.{◌≡◌, ℕ, ◌⊎◌, ◌<◌, length, refl, sym, ◌∙◌, ap, subst}
 use Rattle.xm_base.specs.declared.limits.TheConstants.{IMAGE_BYTES}
-use Rattle.xm_words.specs.Words.{Bare}
+use Rattle.command_line.specs.Words.{Bare}
 use Rattle.file_commands.specs.Ending.{length_text}
 use Rattle.file_commands.specs.Outcome.{Outcome, command_refused}
 use Rattle.file_commands.specs.CommandLemmas.{one-long, refused_comes}
@@ -22,8 +22,8 @@ returns-in-Err-Length-clause-comes g c =
     let wrong : (length c.args.bytes.now ≡ 0) ⊎ (IMAGE_BYTES < length c.args.bytes.now) =
     let P : ℕ → Type 0 = λ n. (n ≡ 0) ⊎ (IMAGE_BYTES < n) in subst P found.0 found.1 in
     let outcome = outcome-length c.args.image.now c.args.ticks c.args.bytes.now c.if-bytes-gt-FILE_BYTES.false wrong in
-    let told : ℕ → Outcome = λ n. command_refused c.args.image.now (length_text n) in
-    rw (outcome ∙ ap told (sym found.0 ∙ sym c.in-Err-Length.found-is)) (refused_comes c.args.image.now _ _)
+    let refused_so : ℕ → Outcome = λ n. command_refused c.args.image.now (length_text n) in
+    rw (outcome ∙ ap refused_so (sym found.0 ∙ sym c.in-Err-Length.found-is)) (refused_comes c.args.image.now _ _)
 
 pub returns-in-Ok-new-clause-board : goal.returns-in-Ok-new-clause-board
 returns-in-Ok-new-clause-board g c =

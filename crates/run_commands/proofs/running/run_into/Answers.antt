@@ -1,7 +1,7 @@
 use Rattle.std.proofs.Common.{◌++◌, map}
-use Rattle.xm_words.specs.Seen.{seen_files}
+use Rattle.command_line.specs.Seen.{seen_files}
 use Rattle.file_commands.specs.Outcome.{core_outputs}
-use Rattle.file_commands.specs.Told.{ending_of}
+use Rattle.file_commands.specs.EndingValues.{ending_of}
 use Rattle.run_commands.specs.Scripts.{made_output}
 use Rattle.run_commands.specs.BoardLemmas.{left_by_ending, left_cut}
 use Rattle.run_commands.specs.CoreLemmas.{run_fits, run_inside}

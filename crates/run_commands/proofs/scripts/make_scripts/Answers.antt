@@ -1,18 +1,18 @@
 use Rattle.std.proofs.Common.{ap, map}
-use Rattle.whole_system.specs.State.{with_inputs}
-use Rattle.xm_words.specs.Seen.{seen_file, seen_options}
-use Rattle.xm_words.specs.Words.{scripts_in}
+use Rattle.system_state.specs.State.{with_inputs}
+use Rattle.command_line.specs.Seen.{seen_file, seen_options}
+use Rattle.command_line.specs.Words.{scripts_in}
 use Rattle.run_commands.specs.Scripts.{made_output}
-use Rattle.file_commands.specs.Told.{ending_of}
+use Rattle.file_commands.specs.EndingValues.{ending_of}
 use Rattle.run_commands.specs.CoreLemmas.{inside_next}
-use Rattle.run_commands.proofs.NumberLemmas.{told_all, told_begun, told_next}
+use Rattle.run_commands.proofs.NumberLemmas.{received_all, received_begun, received_next}
 use Rattle.run_commands.proofs.ScriptLemmas.{all_made, next_denied, next_made, scripts_begun}
 use Rattle.run_commands.proofs.scripts.make_scripts.Goals as goal
 
 pub loop-first-init : goal.loop-first-init
 loop-first-init c = record {
   inside = rw c.scripts-rest.ensures.value c.requires.inside;
-  told = λ inputs given. told_begun (with_inputs c.args.system.now inputs) c.args.ticks (scripts_in (seen_options c.args.options)) _ c.scripts-rest.ensures.value;
+  received = λ inputs given. received_begun (with_inputs c.args.system.now inputs) c.args.ticks (scripts_in (seen_options c.args.options)) _ c.scripts-rest.ensures.value;
   goes = λ inputs given. scripts_begun (with_inputs c.args.system.now inputs) c.args.ticks (scripts_in (seen_options c.args.options)) _ _ c.scripts-rest.ensures.value (ap (map made_output) c.new-made.ensures.items);
 }
 
@@ -27,9 +27,9 @@ returns-in-Err-clause-made c = λ inputs given.
 pub loop-first-preserved : goal.loop-first-preserved
 loop-first-preserved c = record {
   inside = (inside_next _ _ _ _ c.in-Some.ensures.value c.loop-first.invariant.inside).1;
-  told = λ inputs given.
-      told_next (with_inputs c.args.system.now inputs) c.args.ticks (scripts_in (seen_options c.args.options)) _ _ (seen_file c.in-Some.first) c.in-Some.ensures.value (c.in-Ok.ensures.numbers inputs given)
-      (c.loop-first.invariant.told inputs given);
+  received = λ inputs given.
+      received_next (with_inputs c.args.system.now inputs) c.args.ticks (scripts_in (seen_options c.args.options)) _ _ (seen_file c.in-Some.first) c.in-Some.ensures.value (c.in-Ok.ensures.numbers inputs given)
+      (c.loop-first.invariant.received inputs given);
   goes = λ inputs given.
       next_made (with_inputs c.args.system.now inputs) c.args.ticks (scripts_in (seen_options c.args.options)) _ _ (seen_file c.in-Some.first) _ _ (made_output c.in-Ok.script)
       c.in-Some.ensures.value (c.in-Ok.ensures.made inputs given) c.in-Ok-put_made.ensures (c.loop-first.invariant.goes inputs given);
@@ -37,7 +37,7 @@ loop-first-preserved c = record {
 
 pub returns-clause-numbers : goal.returns-clause-numbers
 returns-clause-numbers c = λ inputs given.
-    told_all (with_inputs c.args.system.now inputs) c.args.ticks (scripts_in (seen_options c.args.options)) _ c.in_default.ensures.value (c.loop-first.invariant.told inputs given)
+    received_all (with_inputs c.args.system.now inputs) c.args.ticks (scripts_in (seen_options c.args.options)) _ c.in_default.ensures.value (c.loop-first.invariant.received inputs given)
 
 pub returns-clause-made : goal.returns-clause-made
 returns-clause-made c = λ inputs given.

@@ -1,10 +1,10 @@
 use Rattle.std.proofs.Common.{map}
-use Rattle.xm_words.specs.Seen.{seen_options}
-use Rattle.xm_words.specs.Words.{Run}
-use Rattle.file_commands.specs.Told.{vector_bytes, ending_of}
+use Rattle.command_line.specs.Seen.{seen_options}
+use Rattle.command_line.specs.Words.{Run}
+use Rattle.file_commands.specs.EndingValues.{vector_bytes, ending_of}
 use Rattle.run_commands.specs.AccountLemmas.{accounted_by, accounted_unread}
 use Rattle.file_commands.specs.CommandLemmas.{comes_from}
-use Rattle.run_commands.proofs.NumberLemmas.{told_whole, unread_unmade}
+use Rattle.run_commands.proofs.NumberLemmas.{received_whole, unread_unmade}
 use Rattle.run_commands.proofs.unpacking.run_container.Goals as goal
 
 pub returns-in-Ok-clause-accounted : goal.returns-in-Ok-clause-accounted
@@ -26,7 +26,7 @@ pub returns-in-Ok-clause-numbers : goal.returns-in-Ok-clause-numbers
 returns-in-Ok-clause-numbers g c = λ made.
     let read = rw c.inputs.ensures.value at c.in-Ok.ensures (g.O.Sink.got c.args.out.now) (g.O.Sink.faults c.args.out.now) in
     let numbers = rw c.deref.ensures.value at c.run_files.ensures.numbers in
-    told_whole c.args.container.now (seen_options c.args.options) _ (map vector_bytes c.in-Ok.contents.items) read.0 (numbers made)
+    received_whole c.args.container.now (seen_options c.args.options) _ (map vector_bytes c.in-Ok.contents.items) read.0 (numbers made)
 
 pub returns-in-Err-clause-numbers : goal.returns-in-Err-clause-numbers
 returns-in-Err-clause-numbers g c = λ made.

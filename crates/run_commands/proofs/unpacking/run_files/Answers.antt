@@ -1,7 +1,7 @@
 use Rattle.std.proofs.Common.{map, codes, sym}
-use Rattle.xm_words.specs.Seen.{seen_options}
-use Rattle.xm_words.specs.Words.{Run}
-use Rattle.file_commands.specs.Told.{vector_bytes}
+use Rattle.command_line.specs.Seen.{seen_options}
+use Rattle.command_line.specs.Words.{Run}
+use Rattle.file_commands.specs.EndingValues.{vector_bytes}
 use Rattle.file_commands.specs.CommandLemmas.{outcome-long, outcome-short, refused_comes}
 use Rattle.run_commands.proofs.unpacking.run_files.Goals as goal
 
@@ -26,4 +26,4 @@ returns-in-None-clause-board g c =
 pub returns-in-None-clause-numbers : goal.returns-in-None-clause-numbers
 returns-in-None-clause-numbers g c = λ made.
     let short = rw c.inputs.ensures.value at c.in-None.ensures.value in
-    record { short = sym short; told = c.run_packed.ensures.numbers made }
+    record { short = sym short; received = c.run_packed.ensures.numbers made }

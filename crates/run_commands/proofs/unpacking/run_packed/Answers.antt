@@ -1,13 +1,13 @@
 use Rattle.std.proofs.Common.{map, refl}
-use Rattle.xm_words.specs.Seen.{seen_options}
-use Rattle.xm_words.specs.Words.{inputs_in}
+use Rattle.command_line.specs.Seen.{seen_options}
+use Rattle.command_line.specs.Words.{inputs_in}
 use Rattle.file_commands.specs.Outcome.{run_outcome}
 use Rattle.file_commands.specs.Packing.{file_names}
-use Rattle.file_commands.specs.Told.{vector_bytes}
+use Rattle.file_commands.specs.EndingValues.{vector_bytes}
 use Rattle.run_commands.specs.BoardLemmas.{unmade_leaves}
-use Rattle.file_maker.specs.ImagingLemmas.{container_unmade}
+use Rattle.builders.specs.ImagingLemmas.{container_unmade}
 use Rattle.run_commands.specs.InputLemmas.{rest_short}
-use Rattle.run_commands.proofs.NumberLemmas.{never_unpacked, told_system}
+use Rattle.run_commands.proofs.NumberLemmas.{never_unpacked, received_system}
 use Rattle.run_commands.proofs.WorkLemmas.{fault_text_by, outcome-unpacked, unmade_runs}
 use Rattle.run_commands.proofs.unpacking.run_packed.Goals as goal
 
@@ -40,7 +40,7 @@ returns-in-Err-clause-board g c = unmade_leaves _ c.args.container.now c.no_cont
 pub returns-in-Ok-clause-numbers : goal.returns-in-Ok-clause-numbers
 returns-in-Ok-clause-numbers g c = λ made system inputs unpacks given.
     let exact = rw c.split_contents.ensures.first at c.in-Ok.ensures.exact in
-    told_system (seen_options c.args.options) (map vector_bytes c.args.contents.now) c.in-Ok.system exact (c.run_unpacked.ensures.numbers made) system inputs unpacks given
+    received_system (seen_options c.args.options) (map vector_bytes c.args.contents.now) c.in-Ok.system exact (c.run_unpacked.ensures.numbers made) system inputs unpacks given
 
 pub returns-in-Err-clause-numbers : goal.returns-in-Err-clause-numbers
 returns-in-Err-clause-numbers g c = λ made system inputs unpacks given. absurd (never_unpacked _ c.args.container.now c.no_container.result c.unmade.ensures made)

@@ -1,4 +1,4 @@
-use Rattle.file_commands.specs.Told.{ending_of}
+use Rattle.file_commands.specs.EndingValues.{ending_of}
 use Rattle.run_commands.proofs.ReadyLemmas.{refusing_comes, refusing_leaves, refusing_unmade}
 use Rattle.run_commands.proofs.unpacking.run_unpacked.Goals as goal
 

@@ -1,5 +1,5 @@
 use Rattle.std.proofs.Common.{◌≡◌, take}
-use Rattle.xm_words.specs.Texts.{texts_of}
+use Rattle.command_line.specs.Texts.{texts_of}
 use Rattle.xm_commands.proofs.arguments.words_of.Given as goal
 
 abbrev pub invariant-loop-text : goal.invariant-loop-text

@@ -1,7 +1,7 @@
 use Rattle.std.proofs.Common.{map, codes, sym}
-use Rattle.xm_words.specs.Seen.{seen_further}
-use Rattle.xm_words.specs.Words.{Replay}
-use Rattle.file_commands.specs.Told.{vector_bytes}
+use Rattle.command_line.specs.Seen.{seen_further}
+use Rattle.command_line.specs.Words.{Replay}
+use Rattle.file_commands.specs.EndingValues.{vector_bytes}
 use Rattle.file_commands.specs.CommandLemmas.{outcome-long, outcome-short, refused_comes}
 use Rattle.xm_commands.proofs.replaying.replay_files.Goals as goal
 

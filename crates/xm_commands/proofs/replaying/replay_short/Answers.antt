@@ -1,8 +1,8 @@
 use Rattle.std.proofs.Common.{map}
-use Rattle.xm_words.specs.Seen.{seen_further}
-use Rattle.xm_words.specs.Words.{replay_input}
+use Rattle.command_line.specs.Seen.{seen_further}
+use Rattle.command_line.specs.Words.{replay_input}
 use Rattle.file_commands.specs.Outcome.{replay_outcome}
-use Rattle.file_commands.specs.Told.{vector_bytes}
+use Rattle.file_commands.specs.EndingValues.{vector_bytes}
 use Rattle.xm_commands.proofs.ReplayLemmas.{input_short, unready_comes, unready_leaves}
 use Rattle.xm_commands.proofs.replaying.replay_short.Goals as goal
 

@@ -1,7 +1,7 @@
 use Rattle.std.proofs.Common.{Bool, subst}
-use Rattle.alone_replay.specs.Readied.{IsBootedOrLeft}
-use Rattle.told_scripts.specs.Replayed.{replay_lines}
-use Rattle.told_scripts.specs.Lone.{booted_alone, own_view}
+use Rattle.replay_setup.specs.Readied.{IsBootedOrLeft}
+use Rattle.recording_model.specs.Replayed.{replay_lines}
+use Rattle.recording_model.specs.Lone.{booted_alone, own_view}
 use Rattle.xm_commands.proofs.ReplayLemmas.{played_from}
 use Rattle.xm_commands.proofs.replaying.show.Goals as goal
 

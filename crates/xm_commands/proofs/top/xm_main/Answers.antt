@@ -1,5 +1,5 @@
 use Rattle.file_commands.specs.Ending.{complaint}
-use Rattle.file_commands.specs.Told.{ending_of}
+use Rattle.file_commands.specs.EndingValues.{ending_of}
 use Rattle.xm_commands.proofs.PageLemmas.{is_answer}
 use Rattle.xm_commands.proofs.TopLemmas.{done_is_finished, said}
 use Rattle.xm_commands.proofs.top.xm_main.Goals as goal

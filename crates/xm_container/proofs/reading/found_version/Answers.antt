@@ -1,8 +1,8 @@
 use Rattle.std.proofs.Common.{codes}
 use Rattle.std.proofs.lemmas.Result.{err_from_is_err_and}
-use Rattle.sealed_files.specs.Known.{head_faults}
-use Rattle.sealed_files.specs.LiftedLemmas.{version_refused_so, version_so}
-use Rattle.file_texts.specs.OfHeads.{box_fault}
+use Rattle.file_headers.specs.Known.{head_faults}
+use Rattle.file_headers.specs.LiftedLemmas.{version_refused_so, version_so}
+use Rattle.fault_messages.specs.OfHeads.{box_fault}
 use Rattle.xm_container.proofs.reading.found_version.Goals as goal
 
 pub returns-in_err-stated_version : goal.returns-in_err-stated_version

@@ -1,15 +1,15 @@
 use Rattle.std.proofs.Common.{[], ◌∷◌, ◌+◌, ◌<◌, List, drop, length, ◌∙◌, arith, subst}
 use Rattle.std.proofs.lemmas.Result.{err_from_is_err_and}
 use Rattle.xm_report.specs.Report.{ReportLine}
-use Rattle.whole_system.specs.State.{part_at}
+use Rattle.system_state.specs.State.{part_at}
 use Rattle.machine_model.specs.Lines.{end_line}
 use Rattle.machine_model.specs.Lists.{all_of}
 use Rattle.machine_model.specs.Machine.{booted_part}
 use Rattle.xm_machine.proofs.OutLemmas.{AreOut, ends_from, more_out, next_end, out_cut}
 use Rattle.xm_machine.proofs.report.end_parts.Goals as goal
 
-pub returns-in_err-put_line-clause-told : goal.returns-in_err-put_line-clause-told
-returns-in_err-put_line-clause-told g c =
+pub returns-in_err-put_line-clause-printed : goal.returns-in_err-put_line-clause-printed
+returns-in_err-put_line-clause-printed g c =
     let p = err_from_is_err_and c.from_residual.result c.from_residual.ensures.1 in
     let cut = rw c.end_line.ensures at c.in_err-put_line.ensures.got in
     let below : c.loop-p.p < length c.args.sys.now.machine.parts = omega (arith, c.loop-p-test.true, c.count.ensures.value) in

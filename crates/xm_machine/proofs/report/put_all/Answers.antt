@@ -10,8 +10,8 @@ pub put_line-requires : goal.put_line-requires
 put_line-requires g c =
     short_line c.args.lines.now c.loop-line.line-index (System 0 0 0) c.requires.short (omega (arith, c.loop-line-test.true, c.loop-line.auto.line-index-end))
 
-pub returns-in_err-put_line-clause-told : goal.returns-in_err-put_line-clause-told
-returns-in_err-put_line-clause-told g c =
+pub returns-in_err-put_line-clause-printed : goal.returns-in_err-put_line-clause-printed
+returns-in_err-put_line-clause-printed g c =
     let p = err_from_is_err_and c.from_residual.result c.from_residual.ensures.1 in
     let below : c.loop-line.line-index < length c.args.lines.now = omega (arith, c.loop-line-test.true, c.loop-line.auto.line-index-end) in
     let next = subst (λ (rest : List ReportLine). AreOut (map line_value c.args.lines.now) rest c.loop-line.count (g.O.Sink.got c.args.out.now) (g.O.Sink.got c.loop-line.out))

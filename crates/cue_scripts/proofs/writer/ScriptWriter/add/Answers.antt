@@ -15,4 +15,4 @@ pub returns-in-None-clause-written : goal.returns-in-None-clause-written
 returns-in-None-clause-written c = λ cues is.
     let cue = script_cue_value c.args.cue.now in
     let before = subst (IsWritten cues) (sym c.self.view_is) is in
-    on_ok_weaker c.put.result (λ e. subst (IsWritten (cues ++ cue ∷ [])) (sym e) (puts cues cue _ (sym c.plain_kind.ensures ∙ c.in-None.is) before)) c.put.ensures
+    on_ok_weaker c.append_cue.result (λ e. subst (IsWritten (cues ++ cue ∷ [])) (sym e) (puts cues cue _ (sym c.plain_kind.ensures ∙ c.in-None.is) before)) c.append_cue.ensures

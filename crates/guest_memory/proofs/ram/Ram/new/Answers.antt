@@ -8,7 +8,7 @@ use Rattle.guest_memory.proofs.NearLemmas.{near_selected, parts_counted}
 use Rattle.guest_memory.proofs.ZeroLemmas.{kept_new, seen_new}
 use Rattle.guest_memory.proofs.ram.Ram.new.Goals as goal
 
--- new memories of so many partitions
+-- new memories of this many partitions
 abbrev fresh : List Part → Memories
 fresh parts = record { areas = map memory_areas parts; maps = map zeros_in (map memory_areas parts); selected = 0 }
 

@@ -1,4 +1,4 @@
-use Rattle.whole_system.specs.State.{with_inputs}
+use Rattle.system_state.specs.State.{with_inputs}
 use Rattle.xm_alone.proofs.BootLemmas.{booted-lone, booted-there}
 use Rattle.xm_alone.proofs.alone.Alone.new.Goals as goal
 

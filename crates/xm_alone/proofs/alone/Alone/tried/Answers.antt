@@ -1,9 +1,9 @@
 use Rattle.std.proofs.Common.{ℕ, ◌<◌, Bool, Option, Err, subst, sym}
 use Rattle.cue_scripts.specs.Script.{IsScript}
 use Rattle.machine_model.specs.View.{System, view_of}
-use Rattle.whole_system.specs.State.{with_inputs}
-use Rattle.xm_alone.specs.Replay.{IsSilentReplay, TakesAll, TellsFit, lone_in}
-use Rattle.told_scripts.specs.Lone.{Lone}
+use Rattle.system_state.specs.State.{with_inputs}
+use Rattle.xm_alone.specs.Replay.{IsSilentReplay, TakesAll, AnswersFit, lone_in}
+use Rattle.recording_model.specs.Lone.{Lone}
 use Rattle.xm_alone.proofs.BootLemmas.{booted-fresh, booted-lone, booted-same, booted-there}
 use Rattle.xm_alone.proofs.SilentLemmas.{fault_fits}
 use Rattle.xm_alone.proofs.alone.Alone.tried.Goals as goal
@@ -42,4 +42,4 @@ returns-else-silent-clause-fits c =
 pub returns-in-Err-clause-fits : goal.returns-in-Err-clause-fits
 returns-in-Err-clause-fits c =
     fault_fits Bool (Option Lone) (view_of (with_inputs c.args.system c.args.inputs) c.args.p) c.args.script.now c.in-Err.fault
-    (subst (λ (system : System). TellsFit {T = Bool} (view_of system c.args.p) c.args.script.now (Err c.in-Err.fault)) (booted-same (with_inputs c.args.system c.args.inputs) c.in_ok-machine.machine.state c.in_ok-machine.ensures.state) c.in-Err.ensures.fits)
+    (subst (λ (system : System). AnswersFit {T = Bool} (view_of system c.args.p) c.args.script.now (Err c.in-Err.fault)) (booted-same (with_inputs c.args.system c.args.inputs) c.in_ok-machine.machine.state c.in_ok-machine.ensures.state) c.in-Err.ensures.fits)

@@ -3,7 +3,7 @@ use Rattle.std.proofs.Math.Nat.{min-le_left}
 use Rattle.std.proofs.lemmas.Result.{err_from_is_err_and}
 use Rattle.cyclic_plans.specs.PlanClock.{ticks_left}
 use Rattle.xm_machine.specs.Cues.{KeepsLastTick}
-use Rattle.tick_pieces.specs.Machine.{IsCounted}
+use Rattle.tick_steps.specs.Machine.{IsCounted}
 use Rattle.xm_machine.specs.Machine.{Meaning}
 use Rattle.xm_machine.specs.Stretch.{AreStepped, IsStretchCut}
 use Rattle.xm_machine.proofs.HeardLemmas.{heard_on, none_heard}

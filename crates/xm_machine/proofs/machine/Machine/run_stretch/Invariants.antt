@@ -1,7 +1,7 @@
 use Rattle.std.proofs.Common.{◌≡◌, ◌-◌}
 use Rattle.uart_board.specs.contracts.views.BoardViewBoard.TheImpl.{ghosts}
 use Rattle.xm_machine.specs.Heard.{IsRunHeard}
-use Rattle.tick_pieces.specs.Machine.{IsCounted}
+use Rattle.tick_steps.specs.Machine.{IsCounted}
 use Rattle.xm_machine.proofs.StretchLemmas.{GoesStretch}
 use Rattle.xm_machine.proofs.machine.Machine.run_stretch.Given as goal
 

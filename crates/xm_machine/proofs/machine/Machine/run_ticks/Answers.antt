@@ -12,8 +12,8 @@ returns-in_err-next-clause-run g c =
     let runs : c.loop-self.self.state.halted ≡ false = ap (λ (m : Meaning). m.state.halted) (sym c.self.view_is) ∙ sym c.halted.ensures.value ∙ c.loop-self-test.true in
     let goes = c.loop-self.invariant.goes in
     let room : goes.done + (c.args.ticks - c.ticks-in-loop-self.result) ≤ c.args.ticks =
-    omega (arith, counted c.loop-self.told c.args.ticks c.args.self.now.state c.loop-self.self.state (g.O.Sink.got c.args.out.now) (g.O.Sink.got c.loop-self.out) goes runs, c.requires.fresh, c.ticks-in-loop-self.ensures.value, goes.within, ap (λ (m : Meaning). m.state.ticks) c.self.view_is) in
-    rw (p.1) (goes_cut c.args.self.now.state c.loop-self.self.state c.step.new.self.state c.loop-self.told (c.args.ticks - c.ticks-in-loop-self.result) c.args.ticks
+    omega (arith, counted c.loop-self.printed c.args.ticks c.args.self.now.state c.loop-self.self.state (g.O.Sink.got c.args.out.now) (g.O.Sink.got c.loop-self.out) goes runs, c.requires.fresh, c.ticks-in-loop-self.ensures.value, goes.within, ap (λ (m : Meaning). m.state.ticks) c.self.view_is) in
+    rw (p.1) (goes_cut c.args.self.now.state c.loop-self.self.state c.step.new.self.state c.loop-self.printed (c.args.ticks - c.ticks-in-loop-self.result) c.args.ticks
     (g.O.Sink.got c.args.out.now) (g.O.Sink.got c.loop-self.out) (g.O.Sink.got c.step.new.out) goes c.in_err-next.ensures.step.cut room)
 
 pub loop-self-init : goal.loop-self-init
@@ -36,12 +36,12 @@ loop-self-preserved g c =
     let runs : c.loop-self.self.state.halted ≡ false = ap (λ (m : Meaning). m.state.halted) (sym c.self.view_is) ∙ sym c.halted.ensures.value ∙ c.loop-self-test.true in
     let goes = c.loop-self.invariant.goes in
     let room : goes.done + (c.args.ticks - c.ticks-in-loop-self.result) ≤ c.args.ticks =
-    omega (arith, counted c.loop-self.told c.args.ticks c.args.self.now.state c.loop-self.self.state (g.O.Sink.got c.args.out.now) (g.O.Sink.got c.loop-self.out) goes runs, c.requires.fresh, c.ticks-in-loop-self.ensures.value, goes.within, ap (λ (m : Meaning). m.state.ticks) c.self.view_is) in
+    omega (arith, counted c.loop-self.printed c.args.ticks c.args.self.now.state c.loop-self.self.state (g.O.Sink.got c.args.out.now) (g.O.Sink.got c.loop-self.out) goes runs, c.requires.fresh, c.ticks-in-loop-self.ensures.value, goes.within, ap (λ (m : Meaning). m.state.ticks) c.self.view_is) in
     let kept = c.loop-self.invariant.kept in
     let keeps_room : kept.done + (c.args.ticks - c.ticks-in-loop-self.result) ≤ c.args.ticks =
     omega (arith, keeps_counted c.args.ticks c.args.self.now c.loop-self.self kept runs, c.requires.fresh, c.ticks-in-loop-self.ensures.value, kept.within, ap (λ (m : Meaning). m.state.ticks) c.self.view_is) in
     record {
-      goes = goes_on c.args.self.now.state c.loop-self.self.state c.step.new.self.state c.loop-self.told c.in_ok-next.next.lines (c.args.ticks - c.ticks-in-loop-self.result) c.args.ticks
+      goes = goes_on c.args.self.now.state c.loop-self.self.state c.step.new.self.state c.loop-self.printed c.in_ok-next.next.lines (c.args.ticks - c.ticks-in-loop-self.result) c.args.ticks
           (g.O.Sink.got c.args.out.now) (g.O.Sink.got c.loop-self.out) (g.O.Sink.got c.step.new.out) goes are.step (omega (arith, c.in_ok-next.ensures.few, are.step.some)) room;
       kept = keeps_on c.args.ticks (c.args.ticks - c.ticks-in-loop-self.result) c.args.self.now c.loop-self.self c.step.new.self c.loop-self.invariant.kept
           (keeps_stepped c.in_ok-next.next (c.args.ticks - c.ticks-in-loop-self.result) c.loop-self.self c.step.new.self (g.O.Sink.got c.loop-self.out) (g.O.Sink.got c.step.new.out) are c.in_ok-next.ensures.kept) keeps_room;
@@ -53,12 +53,12 @@ loop-self-preserved g c =
 
 pub returns-else-ticks-clause-run : goal.returns-else-ticks-clause-run
 returns-else-ticks-clause-run g c =
-    goes_out c.loop-self.told c.args.ticks c.args.self.now.state c.loop-self.self.state (g.O.Sink.got c.args.out.now) (g.O.Sink.got c.loop-self.out) c.loop-self.invariant.goes c.requires.fresh
+    goes_out c.loop-self.printed c.args.ticks c.args.self.now.state c.loop-self.self.state (g.O.Sink.got c.args.out.now) (g.O.Sink.got c.loop-self.out) c.loop-self.invariant.goes c.requires.fresh
     (λ runs. omega (arith, c.if-ticks.false, c.ticks.ensures.value, ap (λ (m : Meaning). m.state.ticks) c.self.view_is))
 
 pub returns-after-loop-self-clause-run : goal.returns-after-loop-self-clause-run
 returns-after-loop-self-clause-run g c =
-    goes_out c.loop-self.told c.args.ticks c.args.self.now.state c.loop-self.self.state (g.O.Sink.got c.args.out.now) (g.O.Sink.got c.loop-self.out) c.loop-self.invariant.goes c.requires.fresh
+    goes_out c.loop-self.printed c.args.ticks c.args.self.now.state c.loop-self.self.state (g.O.Sink.got c.args.out.now) (g.O.Sink.got c.loop-self.out) c.loop-self.invariant.goes c.requires.fresh
     (λ runs. absurd (let halts : c.loop-self.self.state.halted ≡ true = ap (λ (m : Meaning). m.state.halted) (sym c.self.view_is) ∙ sym c.halted.ensures.value ∙ c.loop-self-test.false in cc))
 
 pub returns-in_err-next-clause-heard : goal.returns-in_err-next-clause-heard
@@ -87,8 +87,8 @@ returns-after-loop-self-clause-kept g c =
     keeps_out c.args.ticks c.args.self.now c.loop-self.self c.loop-self.invariant.kept c.requires.fresh
     (λ runs. absurd (let halts : c.loop-self.self.state.halted ≡ true = ap (λ (m : Meaning). m.state.halted) (sym c.self.view_is) ∙ sym c.halted.ensures.value ∙ c.loop-self-test.false in cc))
 
-pub overflow_add-told : goal.overflow_add-told
-overflow_add-told g c =
+pub overflow_add-printed : goal.overflow_add-printed
+overflow_add-printed g c =
     let are = c.in_ok-next.ensures.step in
     let goes = c.loop-self.invariant.goes in
     omega (arith, goes.few, goes.within, c.requires.most, c.in_ok-next.ensures.few, are.step.some, are.step.within)

@@ -1,7 +1,7 @@
 use Rattle.xm_machine.proofs.CuedLemmas.{keeps_so}
 use Rattle.xm_machine.proofs.GoingLemmas.{cause_so, few_so, step_so}
 use Rattle.xm_machine.proofs.HeardLemmas.{span_heard}
-use Rattle.tick_pieces.specs.KeptLemmas.{kept_ticks}
+use Rattle.tick_steps.specs.KeptLemmas.{kept_ticks}
 use Rattle.xm_machine.proofs.machine.Machine.step.Goals as goal
 
 pub invariant_of-self : goal.invariant_of-self
@@ -13,16 +13,16 @@ invariant_of-self g c =
 
 pub returns-clause-step : goal.returns-clause-step
 returns-clause-step g c =
-    let told = rw c.ticks-begun.ensures.value at c.tell.ensures.told in
-    rw (c.stepped_by.ensures, ← c.self.view_is) (step_so c.tell.result c.ends_stretch-ends.result c.run-span.result c.args.most c.self.inside.sys c.run-span.new.sys c.run-span.new.lines
-    (g.O.Sink.got c.args.out.now) (g.O.Sink.got c.tell.new.out) c.run-span.ensures.done c.ends_stretch-ends.ensures told)
+    let printed = rw c.ticks-begun.ensures.value at c.print_tick.ensures.printed in
+    rw (c.stepped_by.ensures, ← c.self.view_is) (step_so c.print_tick.result c.ends_stretch-ends.result c.run-span.result c.args.most c.self.inside.sys c.run-span.new.sys c.run-span.new.lines
+    (g.O.Sink.got c.args.out.now) (g.O.Sink.got c.print_tick.new.out) c.run-span.ensures.done c.ends_stretch-ends.ensures printed)
 
 pub returns-clause-few : goal.returns-clause-few
-returns-clause-few g c = rw (c.stepped_by.ensures) (few_so c.tell.result c.run-span.result.ticks c.ends_stretch-ends.result c.tell.ensures.few)
+returns-clause-few g c = rw (c.stepped_by.ensures) (few_so c.print_tick.result c.run-span.result.ticks c.ends_stretch-ends.result c.print_tick.ensures.few)
 
 pub returns-clause-cause : goal.returns-clause-cause
 returns-clause-cause g c =
-    rw (c.stepped_by.ensures) (cause_so c.tell.result c.run-span.result.ticks c.ends_stretch-ends.result (g.O.Sink.faults c.args.out.now) (g.O.Sink.faults c.tell.new.out) c.tell.ensures.cause)
+    rw (c.stepped_by.ensures) (cause_so c.print_tick.result c.run-span.result.ticks c.ends_stretch-ends.result (g.O.Sink.faults c.args.out.now) (g.O.Sink.faults c.print_tick.new.out) c.print_tick.ensures.cause)
 
 pub returns-clause-counters : goal.returns-clause-counters
 returns-clause-counters g c =
@@ -33,11 +33,11 @@ returns-clause-counters g c =
 
 pub returns-clause-heard : goal.returns-clause-heard
 returns-clause-heard g c =
-    let heard = rw c.ticks-begun.ensures.value at c.tell.ensures.heard in
+    let heard = rw c.ticks-begun.ensures.value at c.print_tick.ensures.heard in
     rw (← c.self.view_is) (span_heard c.keeps_numbers.ensures.runs c.run-span.result c.args.most c.self.inside.sys c.run-span.new.sys c.run-span.new.lines
     (record { places = _; marks = _ }) (record { places = _; marks = _ }) c.run-span.ensures.done heard)
 
 pub returns-clause-kept : goal.returns-clause-kept
 returns-clause-kept g c =
-    rw (c.stepped_by.ensures, ← c.self.view_is) (keeps_so c.tell.result c.ends_stretch-ends.result c.run-span.result c.args.most c.self.inside.sys c.run-span.new.sys c.run-span.new.lines c.self.inside.kept c.run-span.new.self c.run-span.ensures.done
+    rw (c.stepped_by.ensures, ← c.self.view_is) (keeps_so c.print_tick.result c.ends_stretch-ends.result c.run-span.result c.args.most c.self.inside.sys c.run-span.new.sys c.run-span.new.lines c.self.inside.kept c.run-span.new.self c.run-span.ensures.done
     c.run-span.ensures.kept)

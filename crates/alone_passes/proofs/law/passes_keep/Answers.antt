@@ -1,5 +1,0 @@
-use Rattle.alone_passes.proofs.KeptLemmas.{passes_keep}
-use Rattle.alone_passes.proofs.law.passes_keep.Goals as goal
-
-pub returns : goal.returns
-returns c = record { law = passes_keep c.keeps_plans.ensures.ticks }

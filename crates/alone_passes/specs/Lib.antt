@@ -1,8 +1,0 @@
-pub mod Kept
-pub mod Laws
-pub mod Passes
-pub mod Step
-pub mod Taking
-pub mod TakingLaws
-pub mod TakingRows
-pub mod TellingLaws

@@ -1,0 +1,20 @@
+//! What is built out of the bytes of a file: another file, or the text that is printed of it.
+#![tactic(auto)]
+
+mod grouping;
+mod imaging;
+mod parsing;
+mod planning;
+mod printout;
+mod scripting;
+mod success;
+mod unmade;
+mod upgrading;
+
+pub use imaging::{make_xef, no_container, no_image};
+pub use parsing::make_xmc;
+pub use printout::{Printout, printout_text};
+pub use scripting::no_script;
+pub use success::ok_line;
+pub use unmade::Unmade;
+pub use upgrading::{make_upgraded, no_configuration};

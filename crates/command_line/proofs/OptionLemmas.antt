@@ -1,0 +1,182 @@
+-- What is to be typed for the options of a run.
+use Rattle.std.proofs.Common.{◌≡◌, ℕ, ◌<◌, ◌≤◌, Bool, true, false, ◌&&◌, nat_eq, if◌then◌else◌, subst, List, [], ◌∷◌, ◌++◌, length, codes, decimal, Option, Some, None, is_some, refl, ap, ◌∙◌, arith, String}
+use Rattle.std.specs.List.{flat_map}
+use Rattle.std.specs.Prelude.{All}
+use Rattle.std.specs.Str.{bytes_eq}
+use Rattle.std.proofs.lemmas.Bool.{and_parts, and_from, eqb-true, eq-eqb}
+use Rattle.std.proofs.lemmas.List.Elements.{All-cons, All-head, All-nil, All-tail}
+use Rattle.xm_base.specs.declared.limits.TheConstants.{TICKS}
+use Rattle.command_line.specs.declared.commands.Span.{Span}
+use Rattle.command_line.specs.declared.commands.Span.TheVariants.{Frames, Ticks}
+use Rattle.command_line.specs.declared.run_options.FileKind.{FileKind}
+use Rattle.command_line.specs.declared.run_options.FileKind.TheVariants.{Core, Input, Script}
+use Rattle.command_line.specs.Grammar.{HaveOneFileEach, AreRunOptions, IsRunOption, count_of, file_option_of, option_of, option_words, part_word}
+use Rattle.command_line.specs.Texts.{texts_of}
+use Rattle.command_line.specs.Words.{PartFile, RunOption, Length, ForPart, are_apart, are_kinds_apart, are_options, are_run_options, before_others, cores_in, files_in, inputs_in, scripts_in, kind_of, option_by, option_for, part_file_of, run_option_of, run_options, span_of, spanned, spans_in, ticks_of}
+use Rattle.command_line.proofs.PartFileLemmas.{apart_pairs, named_word, pairs_apart, word_named}
+use Rattle.command_line.proofs.WordLemmas.{named, text_ticks, ticks_text}
+
+-- words are an option and its number, and that is not above the limit
+record TypedSpan (option number : List ℕ) (span : Span) : Type 0 where
+  pub option_is : option ≡ option_of span
+  pub number_is : number ≡ decimal (count_of span)
+  pub small : count_of span ≤ TICKS
+
+-- so it is with a length that is the same
+span_as : (option number : List ℕ) (made span : Span) → TypedSpan option number made → Some made ≡ Some span → TypedSpan option number span
+span_as option number made span typed e = (let same : made ≡ span = cc in subst (TypedSpan option number) same typed)
+
+-- how long a run is
+span_typed : (option number : List ℕ) (span : Span) → span_of option number ≡ Some span → TypedSpan option number span
+unfolding span_of
+span_typed option number span e = at (bytes_eq option (codes "--frames")) (bytes_eq option (codes "--ticks")) (ticks_of number) refl refl refl e
+  where
+    at : (frames ticks : Bool) (count : Option ℕ) → bytes_eq option (codes "--frames") ≡ frames → bytes_eq option (codes "--ticks") ≡ ticks → ticks_of number ≡ count
+        → (if frames then spanned Frames count else if ticks then spanned Ticks count else None) ≡ Some span → TypedSpan option number span
+    at true ticks (Some n) is asked count e =
+        let text = ticks_text number n count in
+        span_as option number (Frames n) span (record { option_is = named option (codes "--frames") is; number_is = text.1; small = text.0 }) e
+    at true ticks None is asked count e = absurd (let no : ⊥ = cc in no)
+    at false true (Some n) is asked count e =
+        let text = ticks_text number n count in
+        span_as option number (Ticks n) span (record { option_is = named option (codes "--ticks") asked; number_is = text.1; small = text.0 }) e
+    at false true None is asked count e = absurd (let no : ⊥ = cc in no)
+    at false false count is asked counted e = absurd (let no : ⊥ = cc in no)
+
+-- so it is with a kind that is the same
+kind_as : (option : List ℕ) (made kind : FileKind) → option ≡ file_option_of made → Some made ≡ Some kind → option ≡ file_option_of kind
+kind_as option made kind typed e = (let same : made ≡ kind = cc in subst (λ (k : FileKind). option ≡ file_option_of k) same typed)
+
+-- the option in front of a file
+kind_typed : (option : List ℕ) (kind : FileKind) → kind_of option ≡ Some kind → option ≡ file_option_of kind
+unfolding kind_of
+kind_typed option kind e = at (bytes_eq option (codes "--input")) (bytes_eq option (codes "--core")) (bytes_eq option (codes "--script")) refl refl refl e
+  where
+    at : (input core script : Bool) → bytes_eq option (codes "--input") ≡ input → bytes_eq option (codes "--core") ≡ core → bytes_eq option (codes "--script") ≡ script
+        → (if input then Some Input else if core then Some Core else if script then Some Script else None) ≡ Some kind → option ≡ file_option_of kind
+    at true core script is other last e = kind_as option Input kind (named option (codes "--input") is) e
+    at false true script is other last e = kind_as option Core kind (named option (codes "--core") other) e
+    at false false true is other last e = kind_as option Script kind (named option (codes "--script") last) e
+    at false false false is other last e = absurd (let no : ⊥ = cc in no)
+
+-- two words are what is typed for an option, and that is right
+record TypedOption (option word : List ℕ) (made : RunOption) : Type 0 where
+  pub words : (option ∷ word ∷ []) ≡ option_words made
+  pub right : IsRunOption made
+
+-- so it is with an option that is the same
+option_as : (option word : List ℕ) (made other : RunOption) → TypedOption option word made → Some made ≡ Some other → TypedOption option word other
+option_as option word made other typed e = (let same : made ≡ other = cc in subst (TypedOption option word) same typed)
+
+-- an option of a run
+option_typed : (option word : List ℕ) (made : RunOption) → run_option_of option word ≡ Some made → TypedOption option word made
+unfolding run_option_of
+option_typed option word made e = at (span_of option word) (kind_of option) (part_file_of word) refl refl refl e
+  where
+    at : (span : Option Span) (kind : Option FileKind) (file : Option PartFile) → span_of option word ≡ span → kind_of option ≡ kind → part_file_of word ≡ file
+        → option_by span (option_for kind file) ≡ Some made → TypedOption option word made
+    at (Some span) kind file measured is found e =
+        let typed = span_typed option word span measured in
+        let option_is : option ≡ option_of span = typed.option_is in
+        let number_is : word ≡ decimal (count_of span) = typed.number_is in
+        option_as option word (Length span) made (record { words = cc; right = typed.small }) e
+    at None (Some kind) (Some file) measured is found e =
+        let typed = word_named word file found in
+        let option_is : option ≡ file_option_of kind = kind_typed option kind is in
+        let word_is : word ≡ part_word file = typed.1 in
+        option_as option word (ForPart kind file) made (record { words = cc; right = typed.0 }) e
+    at None (Some kind) None measured is found e = absurd (let no : ⊥ = cc in no)
+    at None None file measured is found e = absurd (let no : ⊥ = cc in no)
+
+-- words that are options are typed so
+options_typed : (words : List (List ℕ)) → are_options words ≡ true → (words ≡ flat_map option_words (run_options words)) × All IsRunOption (run_options words)
+options_typed [] are = (refl, All-nil IsRunOption)
+options_typed (option ∷ []) are = absurd (let no : ⊥ = cc in no)
+options_typed (option ∷ word ∷ words) are =
+    let tests = and_parts (is_some (run_option_of option word)) (are_options words) are in
+    at (run_option_of option word) refl tests.0 (options_typed words tests.1)
+  where
+    at : (found : Option RunOption) → run_option_of option word ≡ found → is_some (run_option_of option word) ≡ true
+        → (words ≡ flat_map option_words (run_options words)) × All IsRunOption (run_options words)
+        → (option ∷ word ∷ words ≡ flat_map option_words (before_others (run_option_of option word) (run_options words))) × All IsRunOption (before_others (run_option_of option word) (run_options words))
+    at None none test rest = absurd (let no : ⊥ = cc in no)
+    at (Some made) found test rest =
+        let first = option_typed option word made found in
+        rw found (ap (λ front. front ++ words) first.words ∙ ap (λ ws. option_words made ++ ws) rest.0, All-cons IsRunOption made (run_options words) first.right rest.1)
+
+-- a single word is no option
+pub few_options : {A : Type 0} (words : List (String A)) → length words < 2 → are_options (texts_of words) ≡ nat_eq (length words) 0
+few_options [] few = refl
+few_options (option ∷ []) few = refl
+few_options (option ∷ word ∷ words) few = absurd (omega arith)
+
+-- options whose files are apart, kind by kind
+kinds_apart : (options : List RunOption) → are_kinds_apart options ≡ true → (kind : FileKind) → HaveOneFileEach (files_in kind options)
+kinds_apart options apart kind =
+    let all = and_parts (are_apart (inputs_in options) && are_apart (cores_in options)) (are_apart (scripts_in options)) apart in
+    let two = and_parts (are_apart (inputs_in options)) (are_apart (cores_in options)) all.0 in
+    of two.0 two.1 all.1 kind
+  where
+    of : are_apart (inputs_in options) ≡ true → are_apart (cores_in options) ≡ true → are_apart (scripts_in options) ≡ true → (kind : FileKind) → HaveOneFileEach (files_in kind options)
+    of inputs cores scripts Input = apart_pairs (inputs_in options) inputs
+    of inputs cores scripts Core = apart_pairs (cores_in options) cores
+    of inputs cores scripts Script = apart_pairs (scripts_in options) scripts
+
+-- and the test of such options
+apart_kinds : (options : List RunOption) → ((kind : FileKind) → HaveOneFileEach (files_in kind options)) → are_kinds_apart options ≡ true
+apart_kinds options apart =
+    and_from (are_apart (inputs_in options) && are_apart (cores_in options)) (are_apart (scripts_in options))
+    (and_from (are_apart (inputs_in options)) (are_apart (cores_in options)) (pairs_apart (inputs_in options) (apart Input)) (pairs_apart (cores_in options) (apart Core)))
+    (pairs_apart (scripts_in options) (apart Script))
+
+-- words that are the options of a run are typed so
+pub run_options_typed : (words : List (List ℕ)) → are_run_options words ≡ true → (words ≡ flat_map option_words (run_options words)) × AreRunOptions (run_options words)
+unfolding are_run_options
+run_options_typed words are =
+    let tests = and_parts (are_options words && nat_eq (length (spans_in (run_options words))) 1) (are_kinds_apart (run_options words)) are in
+    let front = and_parts (are_options words) (nat_eq (length (spans_in (run_options words))) 1) tests.0 in
+    let each = options_typed words front.0 in
+    (each.0, record { each = each.1; spanned = eqb-true _ 1 front.1; apart = kinds_apart (run_options words) tests.1 })
+
+-- what is typed for the length of a run determines it
+reads_span : (span : Span) → count_of span ≤ TICKS → span_of (option_of span) (decimal (count_of span)) ≡ Some span
+unfolding span_of
+reads_span (Frames count) small = rw (text_ticks (decimal count) count small refl) refl
+reads_span (Ticks count) small = rw (text_ticks (decimal count) count small refl) refl
+
+-- what is typed for a file for a partition is so read
+reads_file : (kind : FileKind) (file : PartFile) → IsRunOption (ForPart kind file) → run_option_of (file_option_of kind) (part_word file) ≡ Some (ForPart kind file)
+unfolding run_option_of span_of kind_of
+reads_file Input file right = rw (named_word file right) refl
+reads_file Core file right = rw (named_word file right) refl
+reads_file Script file right = rw (named_word file right) refl
+
+-- what is typed for a length is so read
+reads_length : (span : Span) → count_of span ≤ TICKS → run_option_of (option_of span) (decimal (count_of span)) ≡ Some (Length span)
+unfolding run_option_of
+reads_length span small = rw (reads_span span small) refl
+
+-- what is typed for an option is so read, before other words
+reads_option : (made : RunOption) (words : List (List ℕ)) → IsRunOption made → (run_options (option_words made ++ words) ≡ made ∷ run_options words) × (are_options (option_words made ++ words) ≡ are_options words)
+reads_option (Length span) words right = rw (reads_length span right) (refl, refl)
+reads_option (ForPart kind file) words right = rw (reads_file kind file right) (refl, refl)
+
+-- what is typed for options is so read
+reads_options : (options : List RunOption) → All IsRunOption options → (run_options (flat_map option_words options) ≡ options) × (are_options (flat_map option_words options) ≡ true)
+reads_options [] right = (refl, refl)
+reads_options (option ∷ options) right =
+    let first = reads_option option (flat_map option_words options) (All-head IsRunOption option options right) in
+    let rest = reads_options options (All-tail IsRunOption option options right) in
+    (first.0 ∙ ap (λ others. option ∷ others) rest.0, first.1 ∙ rest.1)
+
+-- what is typed for the options of a run is so read
+pub reads_run_options : (options : List RunOption) → AreRunOptions options → (run_options (flat_map option_words options) ≡ options) × (are_run_options (flat_map option_words options) ≡ true)
+unfolding are_run_options
+reads_run_options options right =
+    let read = reads_options options right.each in (
+      read.0,
+      and_from (are_options (flat_map option_words options) && nat_eq (length (spans_in (run_options (flat_map option_words options)))) 1) (are_kinds_apart (run_options (flat_map option_words options)))
+          (and_from (are_options (flat_map option_words options)) (nat_eq (length (spans_in (run_options (flat_map option_words options)))) 1) read.1
+          (eq-eqb (length (spans_in (run_options (flat_map option_words options)))) 1 (ap (λ made. length (spans_in made)) read.0 ∙ right.spanned)))
+          (ap are_kinds_apart read.0 ∙ apart_kinds options right.apart),
+    )

@@ -1,0 +1,123 @@
+-- The grammar in the words of its users: what is to be typed for each command.
+use Rattle.std.specs.Prelude.{◌≡◌, ◌≢◌, ℕ, ◌<◌, ◌≤◌, ◌↔◌, ⊤, List, [], ◌∷◌, ◌++◌, length, map, codes, decimal, All, AllPairs, Some}
+use Rattle.std.specs.List.{flat_map}
+use Rattle.xm_base.specs.declared.limits.TheConstants.{TICKS}
+use Rattle.command_line.specs.declared.commands.Span.{Span}
+use Rattle.command_line.specs.declared.commands.Span.TheVariants.{Frames, Ticks}
+use Rattle.command_line.specs.declared.run_options.FileKind.{FileKind}
+use Rattle.command_line.specs.declared.run_options.FileKind.TheVariants.{Core, Input, Script}
+use Rattle.command_line.specs.Words.{Command, PartFile, ReplayFiles, RunOption, Bare, Parse, Upgrade, BuildImage, ReadImage, Pack, ListContainer, CheckContainer, MakePlan, CheckPlan, ListGroups, Generate, Run, Replay, Length, ForPart, Neither, InputAlone, CoreAlone, InputThenCore, CoreThenInput, command_of, files_in, spans_in, ticks_of}
+
+-- a word is this many ticks where it is their number in decimal, and they are not above the limit
+abbrev pub TicksAreDecimal : Type 0
+TicksAreDecimal = (word : List ℕ) (n : ℕ) → (ticks_of word ≡ Some n) ↔ ((n ≤ TICKS) × (word ≡ decimal n))
+
+-- a name of a file: it has a byte, and does not begin with two dashes
+pub record IsFileName (word : List ℕ) : Type 0 where
+  pub some : 0 < length word
+  pub plain : (rest : List ℕ) → word ≢ codes "--" ++ rest
+
+-- what is typed for a file for a partition
+abbrev pub part_word : PartFile → List ℕ
+part_word named = decimal named.part ++ codes "=" ++ named.file
+
+-- the option that is typed for how long a run is
+abbrev pub option_of : Span → List ℕ
+option_of (Frames count) = codes "--frames"
+option_of (Ticks count) = codes "--ticks"
+
+-- the number after it
+abbrev pub count_of : Span → ℕ
+count_of (Frames count) = count
+count_of (Ticks count) = count
+
+-- the option that is typed for a file of a kind
+abbrev pub file_option_of : FileKind → List ℕ
+file_option_of Input = codes "--input"
+file_option_of Core = codes "--core"
+file_option_of Script = codes "--script"
+
+-- what is typed for an option of a run
+abbrev pub option_words : RunOption → List (List ℕ)
+option_words (Length span) = option_of span ∷ decimal (count_of span) ∷ []
+option_words (ForPart kind file) = file_option_of kind ∷ part_word file ∷ []
+
+-- what is typed for the further files of a replay
+abbrev pub further_words : ReplayFiles → List (List ℕ)
+further_words Neither = []
+further_words (InputAlone input) = codes "--input" ∷ input ∷ []
+further_words (CoreAlone core) = codes "--core" ∷ core ∷ []
+further_words (InputThenCore input core) = codes "--input" ∷ input ∷ codes "--core" ∷ core ∷ []
+further_words (CoreThenInput core input) = codes "--core" ∷ core ∷ codes "--input" ∷ input ∷ []
+
+-- what is typed for each command
+abbrev pub words_of : Command → List (List ℕ)
+words_of (Bare image ticks) = codes "bare" ∷ image ∷ decimal ticks ∷ []
+words_of (Parse description output) = codes "xmcparser" ∷ description ∷ output ∷ []
+words_of (Upgrade configuration output) = codes "xmcparser" ∷ codes "upgrade" ∷ configuration ∷ output ∷ []
+words_of (BuildImage program output) = codes "xmeformat" ∷ codes "build" ∷ program ∷ output ∷ []
+words_of (ReadImage image) = codes "xmeformat" ∷ codes "read" ∷ image ∷ []
+words_of (Pack configuration output images) = codes "xmpack" ∷ codes "build" ∷ configuration ∷ output ∷ map part_word images
+words_of (ListContainer container) = codes "xmpack" ∷ codes "list" ∷ container ∷ []
+words_of (CheckContainer container) = codes "xmpack" ∷ codes "check" ∷ container ∷ []
+words_of (MakePlan description) = codes "plan" ∷ codes "make" ∷ description ∷ []
+words_of (CheckPlan description) = codes "plan" ∷ codes "check" ∷ description ∷ []
+words_of (ListGroups description) = codes "flows" ∷ description ∷ []
+words_of (Generate number) = codes "gen" ∷ decimal number ∷ []
+words_of (Run container options) = codes "run" ∷ container ∷ flat_map option_words options
+words_of (Replay container part script further) = codes "alone" ∷ container ∷ decimal part ∷ script ∷ further_words further
+
+-- a file for a partition: the partition's number is at most 31, and the file is one
+abbrev pub IsPartFile : PartFile → Type 0
+IsPartFile named = (named.part ≤ 31) × IsFileName named.file
+
+-- no partition has two files
+abbrev pub HaveOneFileEach : List PartFile → Type 0
+HaveOneFileEach files = AllPairs (λ one other. one.part ≢ other.part) files
+
+-- files for partitions: there is one, each is one, and no partition has two
+pub record ArePartFiles (files : List PartFile) : Type 0 where
+  pub some : 0 < length files
+  pub each : All IsPartFile files
+  pub apart : HaveOneFileEach files
+
+-- an option of a run: a length not above the limit, or a file for a partition
+abbrev pub IsRunOption : RunOption → Type 0
+IsRunOption (Length span) = count_of span ≤ TICKS
+IsRunOption (ForPart kind file) = IsPartFile file
+
+-- options of a run: each is one, one says how long the run is, and no partition has two files of one kind
+pub record AreRunOptions (options : List RunOption) : Type 0 where
+  pub each : All IsRunOption options
+  pub spanned : length (spans_in options) ≡ 1
+  pub apart : (kind : FileKind) → HaveOneFileEach (files_in kind options)
+
+-- the further files of a replay are files
+abbrev pub AreFurther : ReplayFiles → Type 0
+AreFurther Neither = ⊤
+AreFurther (InputAlone input) = IsFileName input
+AreFurther (CoreAlone core) = IsFileName core
+AreFurther (InputThenCore input core) = IsFileName input × IsFileName core
+AreFurther (CoreThenInput core input) = IsFileName core × IsFileName input
+
+-- what each command names is a file, its partition is at most 31, its ticks are not above the limit, and its options are right
+abbrev pub IsRight : Command → Type 0
+IsRight (Bare image ticks) = IsFileName image × (ticks ≤ TICKS)
+IsRight (Parse description output) = IsFileName description × IsFileName output
+IsRight (Upgrade configuration output) = IsFileName configuration × IsFileName output
+IsRight (BuildImage program output) = IsFileName program × IsFileName output
+IsRight (ReadImage image) = IsFileName image
+IsRight (Pack configuration output images) = IsFileName configuration × IsFileName output × ArePartFiles images
+IsRight (ListContainer container) = IsFileName container
+IsRight (CheckContainer container) = IsFileName container
+IsRight (MakePlan description) = IsFileName description
+IsRight (CheckPlan description) = IsFileName description
+IsRight (ListGroups description) = IsFileName description
+IsRight (Generate number) = number ≤ 4294967295
+IsRight (Run container options) = IsFileName container × AreRunOptions options
+IsRight (Replay container part script further) = IsFileName container × (part ≤ 31) × IsFileName script × AreFurther further
+
+-- words are a command exactly where they are what is typed for it, and what they name is right
+abbrev pub CommandsAreSpelled : Type 0
+CommandsAreSpelled =
+    (words : List (List ℕ)) (command : Command) → (command_of words ≡ Some command) ↔ ((words ≡ words_of command) × IsRight command)

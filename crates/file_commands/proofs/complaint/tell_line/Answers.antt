@@ -1,9 +1,0 @@
-use Rattle.std.proofs.Common.{◌++◌}
-use Rattle.xm_outside.specs.Growth.{writes_then}
-use Rattle.file_commands.specs.Ending.{behind_file}
-use Rattle.file_commands.proofs.complaint.tell_line.Goals as goal
-
-pub returns-clause-line : goal.returns-clause-line
-returns-clause-line g c =
-    writes_then c.tell_behind.result (g.E.Sink.got c.args.err.now) (g.E.Sink.got c.write_two.new.err) (g.E.Sink.got c.tell_behind.new.err)
-    (c.args.program.now ++ c.args.file.now) (behind_file c.args.text.now) c.in_ok-write_two.ensures.text c.tell_behind.ensures.line

@@ -1,8 +1,0 @@
-use Rattle.file_maker.specs.Parsing.{conf_of}
-use Rattle.file_maker.specs.Grouping.{groups_for, groups_of}
-use Rattle.file_maker.specs.ParsingLemmas.{unmade_of}
-use Rattle.file_maker.proofs.grouping.groups.Goals as goal
-
-pub returns-in-Err : goal.returns-in-Err
-unfolding groups_of
-returns-in-Err c = unmade_of groups_for c.in-Err.why (conf_of c.args.text.now) c.in-Err.ensures

@@ -1,8 +1,0 @@
-use Rattle.std.proofs.Common.{refl}
-use Rattle.file_maker.specs.Imaging.{container_lines_of, container_lines_by}
-use Rattle.file_maker.specs.ImagingLemmas.{container_unmade}
-use Rattle.file_maker.proofs.imaging.container_lines.Goals as goal
-
-pub returns : goal.returns
-unfolding container_lines_of
-returns c = container_unmade (container_lines_by c.args.file.now) (λ fault. refl) c.in-Err.fault _ c.no_container.result c.in-Err.ensures.exact c.no_container.ensures.text c.no_container.ensures.memory

@@ -1,8 +1,0 @@
-use Rattle.std.proofs.Common.{refl}
-use Rattle.file_maker.specs.Imaging.{container_verdict_of, container_verdict_by}
-use Rattle.file_maker.specs.ImagingLemmas.{container_unmade}
-use Rattle.file_maker.proofs.imaging.container_verdict.Goals as goal
-
-pub returns-in-Err : goal.returns-in-Err
-unfolding container_verdict_of
-returns-in-Err c = container_unmade (container_verdict_by) (λ fault. refl) c.in-Err.fault _ c.no_container.result c.in-Err.ensures.exact c.no_container.ensures.text c.no_container.ensures.memory

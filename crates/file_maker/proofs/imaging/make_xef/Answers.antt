@@ -1,7 +1,0 @@
-use Rattle.file_maker.specs.Imaging.{xef_of}
-use Rattle.file_maker.specs.ImagingLemmas.{program_unmade}
-use Rattle.file_maker.proofs.imaging.make_xef.Goals as goal
-
-pub returns : goal.returns
-unfolding xef_of
-returns c = program_unmade c.in-Err.fault _ c.no_program.result c.in-Err.ensures c.no_program.ensures.text c.no_program.ensures.memory

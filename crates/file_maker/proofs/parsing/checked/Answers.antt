@@ -1,5 +1,0 @@
-use Rattle.file_maker.specs.ParsingLemmas.{unfit_makes}
-use Rattle.file_maker.proofs.parsing.checked.Goals as goal
-
-pub returns-in-Err : goal.returns-in-Err
-returns-in-Err c = unfit_makes c.in-Err.fault c.args.draft.now c.unfit.result c.in-Err.ensures.verdict c.unfit.ensures.text c.unfit.ensures.memory

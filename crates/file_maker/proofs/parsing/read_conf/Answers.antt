@@ -1,5 +1,0 @@
-use Rattle.file_maker.specs.ParsingLemmas.{unread_makes}
-use Rattle.file_maker.proofs.parsing.read_conf.Goals as goal
-
-pub returns-in-Err : goal.returns-in-Err
-returns-in-Err c = unread_makes c.in-Err.fault c.args.text.now c.unread.result c.in-Err.ensures.refused c.unread.ensures.text c.unread.ensures.memory

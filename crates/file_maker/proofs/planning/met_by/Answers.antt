@@ -1,5 +1,0 @@
-use Rattle.file_maker.proofs.PlanningLemmas.{met_is}
-use Rattle.file_maker.proofs.planning.met_by.Goals as goal
-
-pub returns : goal.returns
-returns c = met_is c.args.plan.now c.args.id c.args.need c.met.result c.requires.need c.met.ensures

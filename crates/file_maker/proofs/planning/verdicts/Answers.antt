@@ -1,8 +1,0 @@
-use Rattle.file_maker.specs.Parsing.{conf_of}
-use Rattle.file_maker.specs.Planning.{verdicts_for, verdicts_of}
-use Rattle.file_maker.specs.ParsingLemmas.{unmade_of}
-use Rattle.file_maker.proofs.planning.verdicts.Goals as goal
-
-pub returns-in-Err : goal.returns-in-Err
-unfolding verdicts_of
-returns-in-Err c = unmade_of verdicts_for c.in-Err.why (conf_of c.args.text.now) c.in-Err.ensures

@@ -1,6 +1,0 @@
-use Rattle.guest_memory.specs.Loading.{memory_areas}
-use Rattle.kept_rows.proofs.KeptLemmas.{first_whole}
-use Rattle.kept_rows.proofs.kept.rows_in.Goals as goal
-
-pub numbered-requires-clause-first : goal.numbered-requires-clause-first
-numbered-requires-clause-first c = rw c.first_in-first.ensures (first_whole (memory_areas c.args.part.now) c.requires.placed)

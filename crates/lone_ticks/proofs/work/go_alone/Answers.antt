@@ -1,6 +1,0 @@
-use Rattle.std.proofs.Common.{refl, sym, ◌∙◌}
-use Rattle.lone_ticks.proofs.LoneWorkLemmas.{undone_same}
-use Rattle.lone_ticks.proofs.work.go_alone.Goals as goal
-
-pub returns-else-is_unseen : goal.returns-else-is_unseen
-returns-else-is_unseen c = (sym c.is_unseen.ensures ∙ c.if-is_unseen.false, undone_same c.args.p c.args.sys.now c.args.sys.now refl)

@@ -1,0 +1,326 @@
+//! The memories of all partitions, with rows of their words.
+
+ghost use Rattle.std.specs.Prelude.{◌≡◌, ◌*◌, ◌+◌, ◌<◌, ◌≤◌, All, IfOk, Ok, OnErr, OnOk, length, map, slice_set};
+ghost use Rattle.guest_bus.specs.Access.{fetched};
+ghost use Rattle.guest_bus.specs.Memory.{all_from, bytes_at, is_readable, is_writable, with_bytes};
+ghost use Rattle.guest_memory.specs.Loading.{LiesInAreas, area_of, areas_with_image, memory_areas, zeros_in};
+ghost use Rattle.guest_memory.specs.Memories.{AreMemories, ArePlaced, SameElsewhere, answer_by, areas_at, first_refused, map_at, others_of, with_map, with_selected};
+ghost use Rattle.predecoded_memory.specs.Shares.{AreEmpty, AreParts, ArePartRows, LieNumbered, first_address, lowest};
+
+use crate::emptied::{empty_stored, empty_words};
+use crate::share::{PartRows, ROWS, numbered, share_for, word_after};
+use guest_bus::{Bus, BusFault, HasWords, Size, Words};
+use guest_memory::{Outside, Ram};
+use predecode::{HasRows, Row, row_for};
+use std::alloc::{AllocError, Global};
+use std::marker::Model;
+use xef_images::Xef;
+use xm_base::{Memory, PartId};
+use xm_conf::{Area, Conf, Part};
+
+/// The memories of all partitions, with rows of the words from each partition's first address on. A row is empty, or that of
+/// its word: who writes a word empties its row. What rows there are is no part of what memories mean.
+#[derive(Debug, Drop)]
+pub struct PredecodedRam {
+    ram: Ram,
+    // Those of a partition stand one after the other, and after those of the partitions before it.
+    rows: Vec<Row>,
+    // Where those of each partition are.
+    parts: Vec<PartRows>,
+    // The number of words of each partition that have rows.
+    share: usize,
+    // The number of first rows of each partition that may have been made: all rows after them are empty.
+    top: usize,
+    // Where those of the selected partition are.
+    own: PartRows,
+}
+
+impl Model for PredecodedRam {
+    ghost use Rattle.std.specs.Coded.{codes};
+    ghost use Rattle.guest_bus.specs.Memory.{memory_code};
+    ghost use Rattle.guest_memory.specs.Memories.{Memories};
+    ghost use Rattle.predecoded_memory.specs.Shares.{AreKept};
+
+    ghost Value = { Memories };
+
+    ghost coded = { Prim.hlevel (codes, memory_code) };
+
+    ghost view = { λ kept. kept.ram };
+
+    ghost invariant = { λ kept. AreKept kept.ram kept.rows.items kept.parts.items kept.share kept.top kept.own };
+}
+
+impl PredecodedRam {
+    /// The memories of a configuration's partitions, all of zeros, with partition 0 selected. All memory is taken
+    /// here: no other call needs any.
+    pub fn new(alloc: Global, conf: &Conf) -> Result<PredecodedRam, Memory>
+        ensures value { IfOk result (λ kept. kept ≡ record { areas = map memory_areas conf.now.parts; maps = map zeros_in (map memory_areas conf.now.parts); selected = 0 }) }
+    {
+        let ram = Ram::new(alloc, conf)?;
+        let _zeros = ram.selected();
+        let described = parts_of(conf);
+        let share = share_for(described.len());
+        let parts = rows_of(alloc, described, share)?;
+        let rows = empty_rows(alloc, ROWS)?;
+        let own = parts[0];
+        Ok(PredecodedRam {
+            ram,
+            rows,
+            parts,
+            share,
+            top: 0,
+            own,
+        })
+    }
+
+    /// The memories without the rows.
+    pub fn ram(&self) -> &Ram
+        ensures { result.now ≡ self.now }
+    {
+        &self.ram
+    }
+
+    /// Selects the partition whose memory a processor sees.
+    pub fn select(&mut self, p: PartId)
+        requires { p < length self.old.areas }
+        ensures value { self.new ≡ with_selected p self.old }
+    {
+        self.ram.select(p);
+        let _now = self.ram.selected();
+        self.own = self.parts[usize::from(p)];
+    }
+
+    /// The partition whose memory a processor sees.
+    pub fn selected(&self) -> PartId
+        ensures value { result ≡ self.now.selected }
+        ensures memories { AreMemories self.now }
+    {
+        self.ram.selected()
+    }
+
+    /// Copies bytes of a partition's memory from an address on, where all of them may be read.
+    pub fn copy_in(&self, p: PartId, address: u32, into: &mut [u8]) -> Result<(), Outside>
+        requires { p < length self.now.areas }
+        ensures answer { result ≡ answer_by (first_refused (is_readable (areas_at p self.now)) address (length into.old)) }
+        ensures read { OnOk result (into.new ≡ bytes_at (map_at p self.now) address (length into.old)) }
+        ensures unchanged { OnErr result (into.new ≡ into.old) }
+    {
+        self.ram.copy_in(p, address, into)
+    }
+
+    /// Writes bytes to a partition's memory from an address on, where all of them may be written.
+    pub fn copy_out(&mut self, p: PartId, address: u32, from: &[u8]) -> Result<(), Outside>
+        requires { p < length self.old.areas }
+        ensures answer { result ≡ answer_by (first_refused (is_writable (areas_at p self.old)) address (length from.now)) }
+        ensures written { OnOk result (self.new ≡ with_map p (with_bytes (map_at p self.old) address from.now) self.old) }
+        ensures unchanged { OnErr result (self.new ≡ self.old) }
+        ensures others { SameElsewhere p self.old self.new }
+    {
+        let part = self.parts[usize::from(p)];
+        let place = word_after(part.first, address);
+        // The bytes begin and end within words.
+        let count = from.len() / 4 + 2;
+        empty_words(&mut self.rows, part.words.begin, self.top, place, count);
+        let copied = self.ram.copy_out(p, address, from);
+        let _now = self.ram.selected();
+        copied
+    }
+
+    /// Whether this many bytes of a partition's memory from an address on may be read.
+    pub fn may_read(&self, p: PartId, address: u32, size: u32) -> bool
+        requires { p < length self.now.areas }
+        ensures value { result ≡ all_from (is_readable (areas_at p self.now)) address size }
+    {
+        self.ram.may_read(p, address, size)
+    }
+
+    /// Whether this many bytes of a partition's memory from an address on may be written.
+    pub fn may_write(&self, p: PartId, address: u32, size: u32) -> bool
+        requires { p < length self.now.areas }
+        ensures value { result ≡ all_from (is_writable (areas_at p self.now)) address size }
+    {
+        self.ram.may_write(p, address, size)
+    }
+
+    /// Loads an image into a partition's memory, and makes all other bytes of it zero.
+    pub fn reload(&mut self, p: PartId, image: &Xef)
+        requires partition { p < length self.old.areas }
+        requires inside { LiesInAreas (areas_at p self.old) image.now }
+        ensures value { self.new ≡ with_map p (areas_with_image (areas_at p self.old) image.now) self.old }
+        ensures others { SameElsewhere p self.old self.new }
+    {
+        let base = self.parts[usize::from(p)].words.begin;
+        empty_words(&mut self.rows, base, self.top, 0, self.top);
+        self.ram.reload(p, image);
+        let _now = self.ram.selected();
+    }
+
+    // The row of the word that stands at an address is kept, where there is one.
+    fn keep(&mut self, address: u32, word: u32)
+        requires { fetched (areas_at self.old.selected self.old) (map_at self.old.selected self.old) address ≡ Ok word }
+        ensures { self.new ≡ self.old }
+    {
+        if address >= self.own.first {
+            let offset = address - self.own.first;
+            let place = (offset >> 2) as usize;
+            if offset % 4 == 0 && place < self.share {
+                put_row(&mut self.rows, self.own.words.begin + place, row_for(word));
+                self.top = self.top.max(place + 1);
+            }
+        }
+    }
+}
+
+impl Bus for PredecodedRam {
+    ghost areas = { λ kept. areas_at kept.selected kept };
+
+    ghost memory = { λ kept. map_at kept.selected kept };
+
+    ghost others = { λ kept. others_of kept };
+
+    #[inline(always)]
+    fn fetch(&mut self, address: u32) -> Result<u32, BusFault> {
+        let word = self.ram.fetch(address);
+        let _now = self.ram.selected();
+        word
+    }
+
+    #[inline(always)]
+    fn load(&mut self, address: u32, size: Size) -> Result<u64, BusFault> {
+        let value = self.ram.load(address, size);
+        let _now = self.ram.selected();
+        value
+    }
+
+    #[inline(always)]
+    fn store(&mut self, address: u32, size: Size, value: u64) -> Result<(), BusFault> {
+        let place = word_after(self.own.first, address);
+        let base = self.own.words.begin;
+        empty_stored(&mut self.rows, base, self.top, place, size);
+        let stored = self.ram.store(address, size, value);
+        let _now = self.ram.selected();
+        stored
+    }
+}
+
+impl HasWords for PredecodedRam {
+    #[inline(always)]
+    fn put_words(&mut self, address: u32, words: &[u32; 16]) -> bool {
+        let place = word_after(self.own.first, address);
+        let base = self.own.words.begin;
+        empty_words(&mut self.rows, base, self.top, place, 16);
+        let done = self.ram.put_words(address, words);
+        let _now = self.ram.selected();
+        done
+    }
+
+    #[inline(always)]
+    fn get_words(&self, address: u32) -> Option<[u32; 16]> {
+        self.ram.get_words(address)
+    }
+}
+
+impl HasRows for PredecodedRam {
+    ghost numbered = { LieNumbered };
+
+    #[inline(always)]
+    fn numbered(&self) -> Words {
+        self.own.words
+    }
+
+    #[inline(always)]
+    fn row(&self, words: Words, place: usize) -> &Row {
+        &self.rows[place]
+    }
+
+    #[cold]
+    #[inline(never)]
+    fn make(&mut self, address: u32) {
+        let found = self.ram.fetch(address);
+        let _now = self.ram.selected();
+        if let Ok(word) = found {
+            self.keep(address, word);
+        }
+    }
+}
+
+// A row more, in the place of another.
+fn put_row(rows: &mut [Row], number: usize, row: Row)
+    requires { number < length rows.old }
+    ensures { rows.new ≡ slice_set rows.old number row }
+{
+    rows[number] = row;
+}
+
+// This many rows, all of them empty.
+fn empty_rows(alloc: Global, count: usize) -> Result<Vec<Row>, AllocError>
+    ensures counted { IfOk result (λ rows. length rows.items ≡ count) }
+    ensures empty { IfOk result (λ rows. AreEmpty rows.items) }
+{
+    let rows = vec![in alloc; Row::EMPTY; count]?;
+    Ok(rows)
+}
+
+// The partitions of a configuration.
+fn parts_of(conf: &Conf) -> &[Part]
+    ensures { result.now ≡ conf.now.parts }
+{
+    &conf.raw().parts
+}
+
+// Where the rows of partitions are, each of which has this many.
+fn rows_of(alloc: Global, parts: &[Part], share: usize) -> Result<Vec<PartRows>, AllocError>
+    requires placed { All ArePlaced (map memory_areas parts.now) }
+    requires share { length parts.now * share ≤ 1048576 }
+    ensures { IfOk result (λ found. AreParts share (map memory_areas parts.now) found.items) }
+{
+    let mut found = Vec::with_capacity(alloc, parts.len())?;
+    let mut base = 0;
+    for part in parts {
+        found.push_reserved(rows_in(part, base, share));
+        base += share;
+    }
+    Ok(found)
+}
+
+// Where those of a partition are, before which this many others stand.
+fn rows_in(part: &Part, base: usize, share: usize) -> PartRows
+    requires placed { ArePlaced (memory_areas part.now) }
+    requires base { base + share ≤ 1048576 }
+    ensures { ArePartRows share base (memory_areas part.now) result }
+{
+    let first = first_in(part);
+    PartRows {
+        first,
+        words: numbered(first, base, share),
+    }
+}
+
+// The lowest address of a partition.
+#[tactic(auto, unfolding(guest_memory::specs::Loading::memory_areas))]
+fn first_in(part: &Part) -> u32
+    ensures { result ≡ first_address (memory_areas part.now) }
+{
+    first_address(&part.areas)
+}
+
+// The lowest address of areas.
+fn first_address(areas: &[Area]) -> u32
+    ensures { result ≡ first_address (map area_of areas.now) }
+{
+    match areas.split_first() {
+        Some((first, others)) => lowest(first.start, others),
+        None => 0,
+    }
+}
+
+// The least of an address and those where areas begin.
+fn lowest(from: u32, areas: &[Area]) -> u32
+    ensures { result ≡ lowest from (map area_of areas.now) }
+{
+    let mut least = from;
+    for area in areas {
+        least = least.min(area.start);
+    }
+    least
+}

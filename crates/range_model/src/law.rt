@@ -1,0 +1,30 @@
+//! That the numbers in a machine stay in their ranges.
+
+ghost use Rattle.range_model.specs.Instructions.{InstructionsKeepRanges};
+ghost use Rattle.range_model.specs.Laws.{BootedScriptsAreInRange, BootsInRange, CuesAreInRange, KeepsRanges, RunsInRange, ScriptsAreInRange};
+
+use machine_model::keeps_numbers;
+
+/// An instruction leaves words in the registers and bytes in the memory, and a trap has a type of one byte.
+pub fn instructions_keep_ranges()
+    ensures law { InstructionsKeepRanges }
+{}
+
+/// In a system whose configuration meets the rules, and whose images begin at words and load bytes, the numbers of each partition and
+/// of each channel are in their ranges: when the machine boots, after each tick, and so after every run.
+pub fn keeps_ranges()
+    ensures boots { BootsInRange }
+    ensures ticks { KeepsRanges }
+    ensures runs { RunsInRange }
+{
+    keeps_numbers();
+}
+
+/// So is what each partition receives: in each tick, and in each cue of its script of a run.
+pub fn cues_are_in_range()
+    ensures tick { CuesAreInRange }
+    ensures run { ScriptsAreInRange }
+    ensures booted { BootedScriptsAreInRange }
+{
+    keeps_numbers();
+}

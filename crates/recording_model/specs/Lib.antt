@@ -1,0 +1,3 @@
+pub mod Lone
+pub mod Replayed
+pub mod Receiving

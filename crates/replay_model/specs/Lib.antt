@@ -1,0 +1,8 @@
+pub mod Kept
+pub mod Laws
+pub mod Passes
+pub mod Step
+pub mod Taking
+pub mod TakingLaws
+pub mod TakingRows
+pub mod ReceivingLaws

@@ -1,0 +1,170 @@
+//! A replay is made ready: the container is unpacked, the script is read and tried, and the partition boots.
+
+ghost use Rattle.std.specs.Prelude.{◌≡◌, ◌<◌, ◌^◌, Err, IfOk, IfSome, None, Ok, List, ℕ, length};
+ghost use Rattle.cue_scripts.specs.Script.{IsScript};
+ghost use Rattle.loaded_system.specs.System.{System as Loaded};
+ghost use Rattle.machine_model.specs.View.{view_of};
+ghost use Rattle.system_state.specs.State.{with_inputs};
+ghost use Rattle.xm_alone.specs.Replay.{IsSilentReplay, TakesAll};
+ghost use Rattle.recording_model.specs.Lone.{booted_alone};
+ghost use Rattle.xm_container.specs.Reading.{unpacked};
+ghost use Rattle.builders.specs.Ready.{fitting, inputs_given, replay_of, with_input, with_script, with_system};
+ghost use Rattle.replay_setup.specs.Readied.{IsScripted, Readies};
+
+use crate::inputs::inputs_given;
+use crate::unready::{Unready, bad_container, bad_script};
+use builders::{no_container, no_script};
+use cue_scripts::{Script, read_script};
+use std::alloc::Global;
+use xm_alone::Alone;
+use xm_base::{Memory, PartId};
+use xm_conf::Conf;
+use xm_container::{System, unpack};
+use xm_machine::Inputs;
+
+/// A replay that may begin: the partition as it boots, and a script that fits it. Where the script's cues were seen to print and say
+/// nothing, the partition stands as they left it, and the line of its end is all that is to be shown.
+#[derive(Debug, Drop)]
+pub struct Replay {
+    pub alone: Alone,
+    pub script: Script,
+    pub silent: bool,
+}
+
+/// The replay of partition `p` by a container, a script and input words, which are bytes of files; or the first reason why there is none.
+#[tactic(auto, unfolding(builders::specs::Ready::replay_of))]
+pub fn make_ready(
+    alloc: Global,
+    container: &[u8],
+    p: PartId,
+    script: &[u8],
+    input: &[u8],
+) -> Result<Replay, Unready>
+    requires { length input.now < 2 ^ 34 }
+    ensures { Readies result (replay_of container.now p script.now input.now) }
+{
+    match unpack(alloc, container) {
+        Ok(system) => of_system(alloc, container, system, p, script, input),
+        Err(fault) => Err(bad_container(no_container(alloc, fault))),
+    }
+}
+
+// The replay in a system that was unpacked.
+fn of_system(
+    alloc: Global,
+    container: &[u8],
+    system: System,
+    p: PartId,
+    script: &[u8],
+    input: &[u8],
+) -> Result<Replay, Unready>
+    requires few { length input.now < 2 ^ 34 }
+    requires same { unpacked container.now ≡ Ok system }
+    ensures { Readies result (with_system p script.now input.now system) }
+{
+    if p >= part_count(system.conf()) {
+        return Err(Unready::NoPartition);
+    }
+    match read_script(alloc, system.conf(), p, script) {
+        Ok(script) => by_script(alloc, container, system, p, script, input),
+        Err(fault) => Err(bad_script(no_script(alloc, fault))),
+    }
+}
+
+// The replay by a script that was read.
+fn by_script(
+    alloc: Global,
+    container: &[u8],
+    system: System,
+    p: PartId,
+    script: Script,
+    input: &[u8],
+) -> Result<Replay, Unready>
+    requires { IsScripted container.now system p script input.now }
+    ensures { Readies result (with_script system p input.now (Ok script)) }
+{
+    match inputs_given(alloc, part_count(system.conf()), p, input) {
+        Ok(inputs) => tried(alloc, container, system, inputs, p, script, input),
+        Err(why) => Err(why),
+    }
+}
+
+// The replay by a script that is tried on the partition.
+fn tried(
+    alloc: Global,
+    container: &[u8],
+    system: System,
+    inputs: Inputs,
+    p: PartId,
+    script: Script,
+    input: &[u8],
+) -> Result<Replay, Unready>
+    requires scripted { IsScripted container.now system p script input.now }
+    requires given { inputs_given (length system.conf.parts) p input.now ≡ Ok inputs }
+    requires count { length inputs ≡ length system.conf.parts }
+    ensures { Readies result (with_input system p script (Ok inputs)) }
+{
+    match Alone::tried(alloc, system, inputs, p, &script) {
+        Ok(silent) => standing(alloc, container, silent, p, script, input),
+        Err(fault) => Err(bad_script(no_script(alloc, fault))),
+    }
+}
+
+// The replay by a script that fits: of the partition as its cues left it, where they printed nothing, else as it boots.
+#[tactic(auto, using(crate::proofs::SilentLemmas::silent_ready))]
+fn standing(
+    alloc: Global,
+    container: &[u8],
+    silent: Option<Alone>,
+    p: PartId,
+    script: Script,
+    input: &[u8],
+) -> Result<Replay, Unready>
+    requires few { length input.now < 2 ^ 34 }
+    ensures { (system : Loaded) (inputs : List (List ℕ)) → unpacked container.now ≡ Ok system → inputs_given (length system.conf.parts) p input.now ≡ Ok inputs
+        → p < length system.conf.parts → IsScript system.conf p script → TakesAll (view_of (with_inputs system inputs) p) script
+        → IfSome silent (IsSilentReplay script (booted_alone (with_inputs system inputs) p)) → Readies result (fitting (with_inputs system inputs) p script None) }
+{
+    match silent {
+        Some(alone) => Ok(Replay {
+            alone,
+            script,
+            silent: true,
+        }),
+        None => match booted(alloc, container, p, input) {
+            Ok(alone) => Ok(Replay {
+                alone,
+                script,
+                silent: false,
+            }),
+            Err(Memory) => Err(Unready::Memory),
+        },
+    }
+}
+
+// The partition as it boots, of the same files once more.
+fn booted(alloc: Global, container: &[u8], p: PartId, input: &[u8]) -> Result<Alone, Memory>
+    requires few { length input.now < 2 ^ 34 }
+    ensures { (system : Loaded) (inputs : List (List ℕ)) → unpacked container.now ≡ Ok system → inputs_given (length system.conf.parts) p input.now ≡ Ok inputs
+        → IfOk result (λ alone. alone ≡ booted_alone (with_inputs system inputs) p) }
+{
+    let Ok(system) = unpack(alloc, container) else {
+        return Err(Memory);
+    };
+    let parts = part_count(system.conf());
+    if p >= parts {
+        return Err(Memory);
+    }
+    match inputs_given(alloc, parts, p, input) {
+        Ok(inputs) => Alone::new(alloc, system, inputs, p),
+        Err(_) => Err(Memory),
+    }
+}
+
+// How many partitions a configuration has.
+#[tactic(auto, unfolding(xm_conf::specs::Description::described))]
+fn part_count(conf: &Conf) -> u8
+    ensures { result ≡ length conf.now.parts }
+{
+    conf.raw().parts.len() as u8
+}

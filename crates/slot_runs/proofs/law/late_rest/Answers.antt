@@ -1,6 +1,0 @@
-use Rattle.slot_runs.proofs.LateLemmas.{meets_after_rest, rests_before}
-use Rattle.slot_runs.proofs.RestLemmas.{rested_once, rested_twice}
-use Rattle.slot_runs.proofs.law.late_rest.Goals as goal
-
-pub returns : goal.returns
-returns c = record { twice = rested_twice; once = rested_once; before = rests_before; met = meets_after_rest }

@@ -1,7 +1,0 @@
-use Rattle.state_ranges.proofs.MachineLemmas.{booted_scripts_are_in_range, cues_are_in_range, scripts_are_in_range}
-use Rattle.state_ranges.proofs.law.cues_are_in_range.Goals as goal
-
-pub returns : goal.returns
-returns c =
-    let same = c.keeps_numbers.ensures.ticks in
-    record { tick = cues_are_in_range; run = scripts_are_in_range same; booted = booted_scripts_are_in_range same c.keeps_numbers.ensures.boots }

@@ -1,8 +1,0 @@
-use Rattle.state_ranges.proofs.MachineLemmas.{boots_in_range, keeps_ranges, runs_in_range}
-use Rattle.state_ranges.proofs.law.keeps_ranges.Goals as goal
-
-pub returns : goal.returns
-returns c =
-    let same = c.keeps_numbers.ensures.ticks in
-    let complete = c.keeps_numbers.ensures.boots in
-    record { boots = boots_in_range complete; ticks = keeps_ranges same; runs = runs_in_range same complete }

@@ -1,0 +1,10 @@
+use Rattle.system_state.proofs.InsideLemmas.{is_areas, is_in_memories}
+use Rattle.system_state.proofs.sys.Sys.may_read.Goals as goal
+
+pub may_read-requires : goal.may_read-requires
+may_read-requires c = is_in_memories c.self.inside c.args.self.now c.args.p c.self.invariant c.self.view_is c.requires
+
+pub returns : goal.returns
+returns c =
+    let areas = is_areas c.self.inside c.args.self.now c.args.p c.self.invariant c.self.view_is c.requires in
+    rw (← areas) (record { value = c.may_read.ensures.value })

@@ -1,0 +1,83 @@
+//! What the engine of a tick does to a system: for the crates that do ticks and calls.
+
+ghost use Rattle.std.specs.Prelude.{◌≡◌, ◌+◌, ◌^◌, ◌<◌, false, length};
+ghost use Rattle.std.specs.Bool.{OnTrue};
+ghost use Rattle.machine_model.specs.Caller.{with_answer};
+ghost use Rattle.machine_model.specs.LocalTick.{clocked, with_interrupts};
+ghost use Rattle.span_model.specs.Meeting.{awake};
+ghost use Rattle.system_state.specs.State.{any_timed, part_at, with_machine, with_part};
+ghost use Rattle.system_state.specs.Turning.{counted_on};
+
+use crate::answering::OUT_0;
+use crate::own_state::any_timed;
+use crate::sys::Sys;
+use xm_base::{PartId, State};
+
+/// Whether it is known, without a look at the partitions, that no hardware timer is armed.
+pub fn is_known_untimed(sys: &Sys) -> bool
+    ensures { OnTrue result (any_timed sys.now.machine.parts ≡ false) }
+{
+    sys.untimed
+}
+
+/// Whether the hardware timer of a partition is armed. Where none is, that stays known until a partition's state is lent.
+#[inline(never)]
+pub fn is_timed(sys: &mut Sys) -> bool
+    ensures value { result ≡ any_timed sys.old.machine.parts }
+    ensures unchanged { sys.new ≡ sys.old }
+{
+    if any_timed(&sys.parts) {
+        return true;
+    }
+    sys.untimed = true;
+    false
+}
+
+/// The interrupts of a tick become pending at a partition: the start of a slot, and those of its timers that are due.
+#[inline(always)]
+pub fn meet(sys: &mut Sys, p: PartId, first: bool)
+    requires { p < length sys.old.machine.parts }
+    ensures value { sys.new ≡ with_machine (with_part p (with_interrupts sys.old.machine.time first (part_at p sys.old.machine)) sys.old.machine) sys.old }
+{
+    sys.parts[usize::from(p)].meet(sys.time, first);
+}
+
+/// A partition becomes ready.
+#[inline(always)]
+pub fn wake(sys: &mut Sys, p: PartId)
+    requires { p < length sys.old.machine.parts }
+    ensures value { sys.new ≡ with_machine (with_part p (awake (part_at p sys.old.machine)) sys.old.machine) sys.old }
+{
+    sys.parts[usize::from(p)].state = State::Ready;
+}
+
+/// A tick more on a partition's execution clock.
+#[inline(always)]
+pub fn count_tick(sys: &mut Sys, p: PartId)
+    requires partition { p < length sys.old.machine.parts }
+    requires clock { (part_at p sys.old.machine).clocks.execution < 2 ^ 63 }
+    ensures value { sys.new ≡ with_machine (with_part p (clocked (part_at p sys.old.machine)) sys.old.machine) sys.old }
+    ensures log { (part_at p sys.new.machine).health ≡ (part_at p sys.old.machine).health }
+{
+    sys.parts[usize::from(p)].clocks.pass();
+}
+
+/// So many ticks more on a partition's execution clock.
+#[inline(always)]
+pub fn count_on(sys: &mut Sys, p: PartId, ticks: u64)
+    requires partition { p < length sys.old.machine.parts }
+    requires clock { (part_at p sys.old.machine).clocks.execution + ticks < 2 ^ 63 }
+    ensures value { sys.new ≡ with_machine (with_part p (counted_on ticks (part_at p sys.old.machine)) sys.old.machine) sys.old }
+{
+    sys.parts[usize::from(p)].clocks.pass_many(ticks);
+}
+
+/// A call of a partition has this result.
+#[inline(always)]
+#[tactic(auto, unfolding(machine_model::specs::Caller::with_answer))]
+pub fn set_result(sys: &mut Sys, p: PartId, value: u32)
+    requires { p < length sys.old.machine.parts }
+    ensures value { sys.new ≡ with_machine (with_part p (with_answer value (part_at p sys.old.machine)) sys.old.machine) sys.old }
+{
+    sys.parts[usize::from(p)].core.set(OUT_0, value);
+}

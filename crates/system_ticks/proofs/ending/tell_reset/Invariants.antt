@@ -1,9 +1,0 @@
-use Rattle.std.proofs.Common.{◌≡◌, ◌+◌, ◌≤◌, ◌++◌, length}
-use Rattle.tick_pieces.specs.Work.{reset_lines}
-use Rattle.system_ticks.proofs.ending.tell_reset.Given as goal
-
-abbrev pub invariant-loop-p : goal.invariant-loop-p
-invariant-loop-p l = record {
-  lines : l.lines ≡ l.fn.lines ++ reset_lines l.n l.p l.fn.mode;
-  few : length l.lines ≤ length l.fn.lines + 1 + l.p;
-}

@@ -1,5 +1,0 @@
-use Rattle.std.proofs.Common.{inr, sym, ◌∙◌}
-use Rattle.system_ticks.proofs.slot.run_slot.Goals as goal
-
-pub wait-requires-clause-nobodys : goal.wait-requires-clause-nobodys
-wait-requires-clause-nobodys c = inr (_, _, _, c.requires.slot, sym c.takes_turns.ensures ∙ c.if-takes_turns.false)

@@ -1,5 +1,0 @@
-use Rattle.tick_pieces.specs.HealthLemmas.{gives_up}
-use Rattle.tick_pieces.proofs.health.give_up.Goals as goal
-
-pub returns-clause-done : goal.returns-clause-done
-returns-clause-done c = gives_up c.args.p _ _ _ _ _ _ _ c.requires.partition c.program_counter-pc.ensures.value c.log.ensures.done c.obey.ensures.done

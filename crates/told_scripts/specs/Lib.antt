@@ -1,3 +1,0 @@
-pub mod Lone
-pub mod Replayed
-pub mod Telling

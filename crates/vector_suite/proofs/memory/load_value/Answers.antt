@@ -1,0 +1,18 @@
+use Rattle.std.proofs.Common.{sym, ◌∙◌, ap, Ok, arith}
+use Rattle.guest_bus.specs.AccessLemmas.{loaded_at, loaded_refused}
+use Rattle.vector_suite.proofs.AreaLemmas.{whole}
+use Rattle.vector_suite.proofs.memory.load_value.Goals as goal
+
+pub returns-in-Ok-clause-value : goal.returns-in-Ok-clause-value
+returns-in-Ok-clause-value c =
+    let at = c.in-Ok.ensures in
+    ap Ok c.value_at.ensures ∙ sym (loaded_at _ _ c.args.bytes.now c.args.address c.in-Ok.at at.lies c.args.size at.free (omega arith))
+
+pub returns-in-Err-clause-value : goal.returns-in-Err-clause-value
+returns-in-Err-clause-value c = sym (loaded_refused _ _ _ _ c.args.size c.in-Err.ensures)
+
+pub returns-in-Ok-clause-whole : goal.returns-in-Ok-clause-whole
+returns-in-Ok-clause-whole c = whole c.args.read_only c.args.bytes.now c.requires c.type_inv.bytes
+
+pub returns-in-Err-clause-whole : goal.returns-in-Err-clause-whole
+returns-in-Err-clause-whole c = whole c.args.read_only c.args.bytes.now c.requires c.type_inv.bytes

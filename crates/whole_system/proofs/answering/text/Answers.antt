@@ -1,6 +1,0 @@
-use Rattle.std.proofs.Common.{◌∙◌}
-use Rattle.whole_system.proofs.CallerLemmas.{text_seen}
-use Rattle.whole_system.proofs.answering.text.Goals as goal
-
-pub returns : goal.returns
-returns c = c.refused_if.ensures ∙ text_seen c.args.site c.args.sys.now c.args.address c.args.size c.may_read.result c.may_read.ensures.value

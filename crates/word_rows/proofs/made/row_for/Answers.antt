@@ -1,5 +1,0 @@
-use Rattle.word_rows.proofs.SourceLemmas.{row_spelled}
-use Rattle.word_rows.proofs.made.row_for.Goals as goal
-
-pub returns : goal.returns
-returns c = row_spelled c.args.word c.decode.result c.row_of.result c.decode.ensures.spelled c.row_of.ensures.row c.row_of.ensures.registers

@@ -1,7 +1,0 @@
-use Rattle.std.proofs.Common.{◌≡◌, drop}
-use Rattle.xm_words.specs.Texts.{texts_of}
-use Rattle.xm_words.specs.Words.{are_named}
-use Rattle.xm_words.proofs.part_files.are_named.Given as goal
-
-abbrev pub invariant-loop-word : goal.invariant-loop-word
-invariant-loop-word l = are_named (texts_of (drop l.word-index l.words)) ≡ are_named (texts_of l.words)

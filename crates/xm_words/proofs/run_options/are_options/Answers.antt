@@ -1,6 +1,0 @@
-use Rattle.std.proofs.Common.{◌∙◌, sym}
-use Rattle.xm_words.proofs.OptionLemmas.{few_options}
-use Rattle.xm_words.proofs.run_options.are_options.Goals as goal
-
-pub returns : goal.returns
-returns c = record { value = c.is_empty.ensures ∙ sym (few_options c.loop-rest.rest.now c.in_default.len_below) ∙ c.loop-rest.invariant }
