@@ -6,7 +6,8 @@ use Rattle.std.proofs.Math.ListN.{length-set}
 use Rattle.xm_base.specs.Cursor.{Place}
 use Rattle.file_headers.specs.Steps.{◌>>=◌}
 use Rattle.bin_config.specs.Reading.{Read, elements_at}
-use Rattle.bin_config.specs.Gives.{Fails, with_front}
+use Rattle.bin_config.specs.Gives.{Fails}
+use Rattle.bin_config.specs.lemmas.GivesTerms.{with_front}
 use Rattle.fault_messages.specs.declared.fault.XmcFault.{XmcFault}
 use Rattle.fault_messages.specs.declared.fault.XmcFault.TheVariants as fault
 

@@ -3,7 +3,8 @@ use Rattle.std.proofs.Common.{◌≡◌, ◌≤◌, List, length, get_or, arith}
 use Rattle.std.specs.Prelude.{All}
 use Rattle.xm_conf.specs.Configuration.{Conf}
 use Rattle.xm_conf.specs.Description.{described}
-use Rattle.xm_conf.specs.Fits.{Fits, HasCounts, HasFewDests, IsKind}
+use Rattle.xm_conf.specs.Fits.{Fits, HasFewDests, IsKind}
+use Rattle.xm_conf.specs.lemmas.FitsTerms.{HasCounts}
 use Rattle.xm_conf.specs.Limits.{most_dests}
 use Rattle.bin_config.specs.Version.{FitsVersion}
 use Rattle.bin_config.specs.declared.version.Version.TheVariants.{Two}

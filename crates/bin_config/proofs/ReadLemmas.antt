@@ -6,7 +6,7 @@ use Rattle.xm_conf.specs.Configuration.{Conf}
 use Rattle.file_headers.specs.Gives.{Gives}
 use Rattle.bin_config.specs.Gives.{Fails}
 use Rattle.bin_config.specs.Laws.{IsSpellingOf, ReadIsSpelled, SpelledIsRead, UpgradedIsSame}
-use Rattle.bin_config.specs.RangeLemmas.{fits_two, ranges_if_spelled}
+use Rattle.bin_config.specs.lemmas.RangeLemmas.{fits_two, ranges_if_spelled}
 use Rattle.bin_config.specs.Reading.{read_as, read_of, read_within}
 use Rattle.bin_config.specs.Spelled.{HasConfRanges}
 use Rattle.bin_config.specs.Version.{FitsVersion, IsWanted}

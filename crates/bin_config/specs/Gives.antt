@@ -1,6 +1,5 @@
 -- What a reader of fields answers.
-use Rattle.std.specs.Prelude.{◌≡◌, ⊤, List, ◌++◌, Result, Ok, Err}
-use Rattle.bin_config.specs.Reading.{Read}
+use Rattle.std.specs.Prelude.{◌≡◌, ⊤, Result, Err}
 use Rattle.fault_messages.specs.declared.fault.XmcFault.{XmcFault}
 use Rattle.fault_messages.specs.declared.fault.XmcFault.TheVariants as fault
 
@@ -8,8 +7,3 @@ use Rattle.fault_messages.specs.declared.fault.XmcFault.TheVariants as fault
 abbrev pub Fails : {Y : Type 0} → XmcFault → Result Y XmcFault → Type 0
 Fails fault.Memory read = ⊤
 Fails other read = read ≡ Err other
-
--- elements that stand before those that are read
-abbrev pub with_front : {X : Type 0} → List X → Read (List X) → Read (List X)
-with_front front (Ok (xs, place)) = Ok (front ++ xs, place)
-with_front front (Err fault) = Err fault

@@ -1,13 +1,7 @@
-pub mod FieldLemmas
-pub mod FrontLemmas
 pub mod Gives
 pub mod Laws
-pub mod Puts
-pub mod RangeLemmas
 pub mod Reading
-pub mod RecordLemmas
-pub mod ShortLemmas
 pub mod Spelled
 pub mod Version
 pub mod Xmc
-pub mod XmcLemmas
+pub mod lemmas

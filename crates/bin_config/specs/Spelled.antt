@@ -125,21 +125,9 @@ pub record IsConfWith (Lists : ListTest) (IsPart : Part → Type 0) (AreLinks : 
   pub chans : Lists Chan (IsChanWith Lists) conf.chans
   pub links : AreLinks conf.links
 
--- a plan that can be spelled
-abbrev pub IsSpelledPlan : Plan → Type 0
-IsSpelledPlan plan = IsPlanWith ForFew plan
-
--- a channel that can be spelled
-abbrev pub IsSpelledChan : Chan → Type 0
-IsSpelledChan chan = IsChanWith ForFew chan
-
 -- a configuration that can be spelled in a version
 abbrev pub IsSpelledConf : Version → Conf → Type 0
 IsSpelledConf v conf = IsConfWith ForFew IsSpelledPart (AreSpelledLinks v) conf
-
--- a plan's numbers are in the ranges of their fields
-abbrev pub HasPlanRanges : Plan → Type 0
-HasPlanRanges plan = IsPlanWith ForEach plan
 
 -- a requirement's numbers are
 pub record HasNeedRanges (need : Need) : Type 0 where
@@ -154,10 +142,6 @@ pub record HasPartRanges (part : Part) : Type 0 where
   pub actions : length part.hm.actions ≡ 12
   pub areas : All IsSpelledArea part.areas
   pub ports : All (λ port. IsName port.name) part.ports
-
--- a channel's numbers are in the ranges of their fields
-abbrev pub HasChanRanges : Chan → Type 0
-HasChanRanges chan = IsChanWith ForEach chan
 
 -- all numbers of a configuration are in the ranges of their fields, and its names are names
 abbrev pub HasConfRanges : Conf → Type 0

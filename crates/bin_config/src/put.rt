@@ -1,7 +1,7 @@
 //! Fields that are put after bytes.
 
 ghost use Rattle.std.specs.Prelude.{◌∷◌, []};
-ghost use Rattle.bin_config.specs.Puts.{Puts};
+ghost use Rattle.bin_config.specs.lemmas.Puts.{Puts};
 ghost use Rattle.bin_config.specs.Xmc as xmc;
 
 use byteorder::{BigEndian, ByteOrder};

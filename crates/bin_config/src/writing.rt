@@ -1,13 +1,14 @@
 //! A configuration, field by field in its binary form.
 
 ghost use Rattle.std.specs.Prelude.{◌≡◌, ℕ, ◌++◌, ◌+◌, ◌<◌, ◌≤◌, List, Result, Some, All, IfOk, IfSome, Ok, OnOk, length, flat_map, slice_get};
-ghost use Rattle.bin_config.specs.Puts.{Puts, WasPut};
+ghost use Rattle.bin_config.specs.lemmas.Puts.{Puts, WasPut};
 ghost use Rattle.bin_config.specs.Spelled as spelled;
+ghost use Rattle.bin_config.specs.lemmas.SpelledTerms as spelled_lemmas;
 ghost use Rattle.bin_config.specs.Xmc as xmc;
 ghost use Rattle.bin_config.specs.declared.version.Version.TheVariants.{Two};
 ghost use Rattle.bin_config.specs.Reading.{read_of};
 ghost use Rattle.bin_config.specs.Version.{FitsVersion};
-ghost use Rattle.xm_conf.specs.Fits.{HasCounts};
+ghost use Rattle.xm_conf.specs.lemmas.FitsTerms.{HasCounts};
 ghost use Rattle.xm_conf.specs.Limits.{most_dests};
 ghost use Rattle.xm_conf.specs.Name.{IsName};
 
@@ -97,7 +98,7 @@ fn put_slot(bytes: &mut Vec<u8>, slot: &Slot) -> Result<(), Memory>
 fn put_plan(bytes: &mut Vec<u8>, plan: &Plan) -> Result<(), Memory>
     requires { length plan.now.slots ≤ 64 }
     ensures bytes { Puts result bytes.old.items bytes.new.items (xmc.plan_record plan.now) }
-    ensures ranges { OnOk result (spelled.HasPlanRanges plan.now) }
+    ensures ranges { OnOk result (spelled_lemmas.HasPlanRanges plan.now) }
 {
     put_word(bytes, plan.frame)?;
     put_list(bytes, &plan.slots, put_slot)
@@ -267,7 +268,7 @@ fn put_end(bytes: &mut Vec<u8>, end: &End) -> Result<(), Memory>
 fn put_chan(bytes: &mut Vec<u8>, chan: &Chan) -> Result<(), Memory>
     requires { length chan.now.dests ≤ most_dests }
     ensures bytes { Puts result bytes.old.items bytes.new.items (xmc.chan chan.now) }
-    ensures ranges { OnOk result (spelled.HasChanRanges chan.now) }
+    ensures ranges { OnOk result (spelled_lemmas.HasChanRanges chan.now) }
 {
     put_byte(bytes, chan_byte(chan.kind))?;
     put_half_word(bytes, chan.length)?;

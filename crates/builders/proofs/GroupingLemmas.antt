@@ -5,7 +5,8 @@ use Rattle.std.specs.List.{flat_map}
 use Rattle.std.proofs.lemmas.List.{append_assoc, append-nil}
 use Rattle.std.proofs.lemmas.List.Concat.{flat_map-append}
 use Rattle.xm_flows.specs.Masks.{members_of}
-use Rattle.builders.specs.Grouping.{comma_unless, id_if, id_text, ids_below, joined_by_commas, next_text}
+use Rattle.builders.specs.lemmas.GroupingTerms.{comma_unless, id_text}
+use Rattle.builders.specs.Grouping.{id_if, ids_below, joined_by_commas, next_text}
 
 -- whether there is none yet
 abbrev pub is_none_yet : List ℕ → Bool

@@ -5,7 +5,7 @@ use Rattle.std.proofs.lemmas.Bool.{cases_lt}
 use Rattle.std.proofs.lemmas.Bool.Decides.{nat_tests}
 use Rattle.std.proofs.lemmas.Nat.{le-div}
 use Rattle.std.proofs.Math.Nat.{div-mul-le_self, mul-le-mul_right}
-use Rattle.cyclic_plans.specs.PlanLemmas.{stands_at}
+use Rattle.cyclic_plans.specs.lemmas.PlanLemmas.{stands_at}
 use Rattle.cyclic_plans.specs.Slots.{slots_of}
 use Rattle.xm_conf.specs.Configuration.{Conf, Part, Plan}
 use Rattle.xm_conf.specs.Description.{described}
@@ -24,7 +24,7 @@ use Rattle.builders.specs.Makes.{IsRefusalText, IsUnmade}
 use Rattle.builders.specs.Planning.{first_plan, frame_text, met_by, met_from, plan_lines_by, verdicts_by}
 use Rattle.builders.specs.declared.unmade.Unmade.{Unmade}
 use Rattle.builders.specs.declared.unmade.Unmade.TheVariants.{Memory}
-use Rattle.builders.specs.ParsingLemmas.{memory_makes, stated_makes}
+use Rattle.builders.specs.lemmas.ParsingLemmas.{memory_makes, stated_makes}
 
 -- why no plan is made
 pub plan_unmade : (fault : PlanFault) (made : Result Plan PlanFault) (why : Unmade) → GivesPlan (Err fault) made → IsRefusalText why (plan_fault_text fault) → (fault ≡ variant.Memory → why ≡ Memory) → IsUnmade why (plan_lines_by made)

@@ -50,13 +50,3 @@ groups_for conf = Ok (added_by_each (group_line_in conf) conf.parts)
 -- the lines of the partitions of a text, or the text of its first fault
 unfoldable pub groups_of : List ℕ → Result (List ℕ) (List ℕ)
 groups_of text = of_conf groups_for (conf_of text)
-
--- what stands before a number: nothing before the first one, and a comma before each other
-abbrev pub comma_unless : Bool → List ℕ
-comma_unless true = []
-comma_unless false = codes ","
-
--- what is written for a partition, which may be a member
-abbrev pub id_text : Bool → Bool → ℕ → List ℕ
-id_text first true p = comma_unless first ++ decimal p
-id_text first false p = []

@@ -1,10 +1,9 @@
 pub mod Grouping
 pub mod Imaging
-pub mod ImagingLemmas
 pub mod Makes
 pub mod Parsing
-pub mod ParsingLemmas
 pub mod Planning
 pub mod Ready
 pub mod Success
 pub mod Printout
+pub mod lemmas

@@ -1,7 +1,6 @@
 -- What is answered where something is made out of a file.
 use Rattle.std.specs.Prelude.{◌≡◌, ℕ, ⊤, List, Vec, Result, Ok, Err}
 use Rattle.std.specs.String.{string_bytes}
-use Rattle.xm_conf.specs.Configuration.{Conf}
 use Rattle.builders.specs.declared.unmade.Unmade.{Unmade}
 use Rattle.builders.specs.declared.unmade.Unmade.TheVariants.{Refused, Memory}
 
@@ -14,11 +13,6 @@ IsUnmade Memory made = ⊤
 abbrev pub Makes : {A : Type 0} → Result (Vec ℕ A) Unmade → Result (List ℕ) (List ℕ) → Type 0
 Makes (Ok bytes) made = made ≡ Ok bytes.items
 Makes (Err why) made = IsUnmade why made
-
--- the configuration is that of the definition, and so is the text of a refusal
-abbrev pub Describes : Result Conf Unmade → Result Conf (List ℕ) → Type 0
-Describes (Ok conf) described = described ≡ Ok conf
-Describes (Err why) described = IsUnmade why described
 
 -- the text is that of the definition, or memory ran out
 abbrev pub IsRefusalText : Unmade → List ℕ → Type 0

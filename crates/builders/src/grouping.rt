@@ -5,7 +5,8 @@ ghost use Rattle.xm_conf.specs.Along.{added_by_each};
 ghost use Rattle.xm_conf.specs.Limits.{most_parts};
 ghost use Rattle.xm_report.specs.Report.{HasRoom};
 ghost use Rattle.xm_flows.specs.Masks.{group_of, members_of};
-ghost use Rattle.builders.specs.Grouping.{comma_unless, covered_text, group_line, group_line_in, groups_for, groups_of, id_text, ids_below, joined_by_commas, members_text};
+ghost use Rattle.builders.specs.lemmas.GroupingTerms.{comma_unless, id_text};
+ghost use Rattle.builders.specs.Grouping.{covered_text, group_line, group_line_in, groups_for, groups_of, ids_below, joined_by_commas, members_text};
 ghost use Rattle.builders.specs.Makes.{Makes};
 
 use crate::parsing::{parts_of, read_conf};

@@ -3,7 +3,8 @@
 ghost use Rattle.std.specs.Prelude.{◌≡◌, ◌<◌, ◌≤◌, ◌^◌, All, IfSome, length};
 ghost use Rattle.xm_conf.specs.Fits.{IsNeed};
 ghost use Rattle.xm_conf.specs.Limits.{most_parts};
-ghost use Rattle.builders.specs.Makes.{Describes, IsRefusalText, Makes};
+ghost use Rattle.builders.specs.lemmas.MakesTerms.{Describes};
+ghost use Rattle.builders.specs.Makes.{IsRefusalText, Makes};
 ghost use Rattle.builders.specs.Parsing.{conf_by_verdict, conf_of, xmc_of};
 ghost use Rattle.fault_messages.specs.Texts.{check_fault_text};
 ghost use Rattle.xmcf_check.specs.Verdict.{verdict_of};

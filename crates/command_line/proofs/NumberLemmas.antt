@@ -4,7 +4,8 @@ use Rattle.std.specs.Str.{all_ascii_digits}
 use Rattle.std.specs.Str.Parse.{digits_value, ParsesUnsigned}
 use Rattle.std.proofs.lemmas.Bool.{and_parts, and_from, and_left, and_right, or_cases, cases_Bool, cases_lt, lt-leb, le-leb, eqb-true, eq-eqb, not-true, both_ways}
 use Rattle.std.proofs.lemmas.Str.Parse.{IsNumeralModel, numerals_by_value, tells_all_ascii_digits, parse_plain, not_in_digits}
-use Rattle.command_line.specs.Words.{IsPlain, is_decimal, number_spelled}
+use Rattle.command_line.specs.lemmas.WordsTerms.{IsPlain}
+use Rattle.command_line.specs.Words.{is_decimal, number_spelled}
 
 -- texts of digits and their values
 pub numerals : IsNumeralModel (λ digits. all_ascii_digits digits ≡ true) (digits_value 10)

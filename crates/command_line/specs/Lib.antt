@@ -1,5 +1,5 @@
 pub mod Grammar
-pub mod RunLemmas
 pub mod Seen
 pub mod Texts
 pub mod Words
+pub mod lemmas

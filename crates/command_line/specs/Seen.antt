@@ -17,11 +17,6 @@ use Rattle.command_line.specs.declared.run_options.RunOptions as run
 abbrev pub seen_file : file.PartFile → PartFile
 seen_file named = record { part = named.part; file = named.file.now }
 
--- what a file for a partition says, where there is one
-abbrev pub seen_part_file : Option file.PartFile → Option PartFile
-seen_part_file None = None
-seen_part_file (Some named) = Some (seen_file named)
-
 -- the files for partitions that words name: each word one, or each option of this kind
 abbrev pub files_by : Option FileKind → List (List ℕ) → List PartFile
 files_by None words = part_files words
@@ -36,11 +31,6 @@ abbrev pub seen_option : option.RunOption → RunOption
 seen_option (options.Length span) = Length span
 seen_option (options.ForPart kind file) = ForPart kind (seen_file file)
 
--- what an option of a run says, where there is one
-abbrev pub seen_run_option : Option option.RunOption → Option RunOption
-seen_run_option None = None
-seen_run_option (Some named) = Some (seen_option named)
-
 -- what the options of a run say
 abbrev pub seen_options : run.RunOptions → List RunOption
 seen_options named = run_options (texts_of named.words.now)
@@ -52,11 +42,6 @@ seen_further (replay.InputAlone input) = InputAlone input.now
 seen_further (replay.CoreAlone core) = CoreAlone core.now
 seen_further (replay.InputThenCore input core) = InputThenCore input.now core.now
 seen_further (replay.CoreThenInput core input) = CoreThenInput core.now input.now
-
--- what they say, where there are some
-abbrev pub seen_replay_files : Option further.ReplayFiles → Option ReplayFiles
-seen_replay_files None = None
-seen_replay_files (Some named) = Some (seen_further named)
 
 -- what a command of the program says
 abbrev pub seen_command : code.Command → Command

@@ -1,5 +1,5 @@
 -- The words of a command line, and the commands that they spell.
-use Rattle.std.specs.Prelude.{◌≡◌, ◌≢◌, ℕ, ◌≤◌, ◌==◌, Bool, true, false, ◌&&◌, ◌||◌, not, nat_le, nat_lt, nat_eq, if◌then◌else◌, List, [], ◌∷◌, length, codes, slice_index, Option, Some, None, is_some}
+use Rattle.std.specs.Prelude.{ℕ, ◌==◌, Bool, true, false, ◌&&◌, ◌||◌, not, nat_le, nat_lt, nat_eq, if◌then◌else◌, List, [], ◌∷◌, length, codes, Option, Some, None, is_some}
 use Rattle.std.specs.List.{after_first, before_first, filter_map, list_all, starts_with}
 use Rattle.std.specs.Str.{all_ascii_digits, bytes_eq}
 use Rattle.std.specs.Str.Parse.{digits_value}
@@ -55,10 +55,6 @@ pub data Command : Type 0 where
 abbrev pub is_decimal : List ℕ → Bool
 is_decimal [] = false
 is_decimal (digit ∷ digits) = all_ascii_digits (digit ∷ digits) && (not (digit == 48) || nat_eq (length digits) 0)
-
--- neither a plus sign nor a needless zero stands in front
-abbrev pub IsPlain : List ℕ → Type 0
-IsPlain word = (slice_index word 0 ≢ 43) × (slice_index word 0 ≡ 48 → length word ≤ 1)
 
 -- the number that a word spells: a decimal number that is not above the limit
 unfoldable pub number_spelled : ℕ → List ℕ → Option ℕ

@@ -1,7 +1,8 @@
 //! The numbers that words spell.
 
 ghost use Rattle.std.specs.Prelude.{◌≡◌, ◌≤◌, ◌↔◌, IfSome, IsTrue};
-ghost use Rattle.command_line.specs.Words.{IsPlain, frames_of, number_spelled, part_number, seed_of, ticks_of};
+ghost use Rattle.command_line.specs.lemmas.WordsTerms.{IsPlain};
+ghost use Rattle.command_line.specs.Words.{frames_of, number_spelled, part_number, seed_of, ticks_of};
 
 use xm_base::{PartId, TICKS};
 

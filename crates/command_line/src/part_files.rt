@@ -1,7 +1,8 @@
 //! Files for partitions, as words name them.
 
 ghost use Rattle.std.specs.Prelude.{◌≡◌, ◌∷◌, [], MatchOption, None, false, true};
-ghost use Rattle.command_line.specs.Seen.{seen_file, seen_files, seen_part_file};
+ghost use Rattle.command_line.specs.Seen.{seen_file, seen_files};
+ghost use Rattle.command_line.specs.lemmas.SeenTerms.{seen_part_file};
 ghost use Rattle.command_line.specs.Texts.{texts_of};
 ghost use Rattle.command_line.specs.Words.{are_apart, are_named, are_part_files, files_in, has_part, is_file, part_file_by, part_file_of, part_files, run_options};
 

@@ -1,7 +1,8 @@
 //! The further files of a replay, as its options name them.
 
 ghost use Rattle.std.specs.Prelude.{◌≡◌, option_copied};
-ghost use Rattle.command_line.specs.Seen.{seen_further, seen_replay_files};
+ghost use Rattle.command_line.specs.Seen.{seen_further};
+ghost use Rattle.command_line.specs.lemmas.SeenTerms.{seen_replay_files};
 ghost use Rattle.command_line.specs.Texts.{texts_of};
 ghost use Rattle.command_line.specs.Words.{both_files, one_file, replay_core, replay_files, replay_input};
 

@@ -1,7 +1,8 @@
 //! The options of a run, as words name them.
 
 ghost use Rattle.std.specs.Prelude.{◌≡◌, ◌∷◌, [], MatchOption, false, length, nat_eq, true};
-ghost use Rattle.command_line.specs.Seen.{seen_file, seen_files, seen_option, seen_options, seen_part_file, seen_run_option};
+ghost use Rattle.command_line.specs.Seen.{seen_file, seen_files, seen_option, seen_options};
+ghost use Rattle.command_line.specs.lemmas.SeenTerms.{seen_part_file, seen_run_option};
 ghost use Rattle.command_line.specs.Texts.{texts_of};
 ghost use Rattle.command_line.specs.Words.{are_kinds_apart, are_options, are_run_options, cores_in, file_by, files_in, inputs_in, kind_of, option_for, part_file_of, kind_place, run_option_of, run_options, scripts_in, span_in, span_of, spans_in};
 

@@ -2,7 +2,7 @@
 use Rattle.std.proofs.Common.{◌≡◌, ℕ, true, false, List, [], ◌∷◌, length, refl, sym, ap, ◌∙◌, subst}
 use Rattle.std.specs.Prelude.{◌==◌, ◌&&◌, ◌||◌, Bool, IfSome, Option, None, Some, if◌then◌else◌, nat_lt, not}
 use Rattle.guest_bus.specs.Memory.{Area, all_from, holds_address, is_readable, is_writable}
-use Rattle.guest_bus.specs.MemoryLemmas.{all_from-each, all_from-true, bytes_at-with_bytes}
+use Rattle.guest_bus.specs.lemmas.MemoryLemmas.{all_from-each, all_from-true, bytes_at-with_bytes}
 use Rattle.health_monitor.specs.declared.effects.Whole.TheVariants as whole
 use Rattle.machine_model.specs.Caller.{Caller, a_of, b_of, c_of, is_room, number_of, with_answer, with_written}
 use Rattle.machine_model.specs.Lists.{then_some}
@@ -11,7 +11,7 @@ use Rattle.machine_model.specs.Emission.{Words}
 use Rattle.machine_model.specs.Traffic.{Still, traffic_as}
 use Rattle.machine_model.specs.View.{PartitionView}
 use Rattle.xm_conf.specs.Configuration.{Conf}
-use Rattle.system_state.specs.ServedLemmas.{areas_seen}
+use Rattle.system_state.specs.lemmas.ServedLemmas.{areas_seen}
 use Rattle.system_state.specs.Serving.{HasEvent, IsServed, IsUponOne, WantsAt, caller_of, own_traffic, untraded, upshot_of}
 use Rattle.system_state.specs.State.{SysState, areas_in, with_machine, with_part}
 use Rattle.system_state.specs.declared.call_site.CallSite.{CallSite}

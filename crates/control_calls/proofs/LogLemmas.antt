@@ -4,16 +4,17 @@ use Rattle.std.specs.Prelude.{if◌then◌else◌, ◌==◌, not, is_none, slice
 use Rattle.std.proofs.lemmas.Bool.{eqb-true}
 use Rattle.xm_traces.specs.Ring.{Kept, entry_at}
 use Rattle.machine_model.specs.Caller.{Caller, Served, a_of, answering, b_of, c_of, invalid_parameter, is_not_kept, is_room, not_available, refused_if, room, shown, target, tested, with_written}
-use Rattle.machine_model.specs.LogCalls.{bytes_of_entry, entry_seen, is_missing, is_own, reading}
+use Rattle.machine_model.specs.Readings.{bytes_of_entry, entry_seen, is_missing, is_own}
+use Rattle.machine_model.specs.lemmas.LogCallsTerms.{reading}
 use Rattle.machine_model.specs.Machine.{shown_entry, shown_of, with_room}
 use Rattle.machine_model.specs.Partition.{PartitionState}
 use Rattle.machine_model.specs.Emission.{NotKept, Sight, Unseen, Words}
 use Rattle.machine_model.specs.View.{view_of}
-use Rattle.system_state.specs.ServedLemmas.{served_as}
+use Rattle.system_state.specs.lemmas.ServedLemmas.{served_as}
 use Rattle.control_calls.proofs.ShownLemmas.{IsShownBytes, IsShownEntry}
-use Rattle.system_state.specs.SightLemmas.{shown_there}
+use Rattle.system_state.specs.lemmas.SightLemmas.{shown_there}
 use Rattle.system_state.specs.Serving.{IsServed, caller_of}
-use Rattle.system_state.specs.Shown.{seen_when}
+use Rattle.system_state.specs.lemmas.Shown.{seen_when}
 use Rattle.system_state.specs.State.{SysState, part_at}
 use Rattle.system_state.specs.declared.call_site.CallSite.{CallSite}
 use Rattle.system_state.specs.declared.served.Served as code

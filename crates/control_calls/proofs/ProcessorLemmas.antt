@@ -4,14 +4,15 @@ use Rattle.std.proofs.Math.Seq.{drop-nil}
 use Rattle.guest_bus.specs.Memory.{Memory, bytes_at}
 use Rattle.machine_model.specs.Caller.{Caller, Test, a_of, answering, invalid_parameter, is_room, refused_if, room, tested, with_written}
 use Rattle.machine_model.specs.Partition.{PartitionState, areas_of}
-use Rattle.machine_model.specs.ProcessorCalls.{by_flush, by_return, flush_regwin, input_read, iret, printed, read_input, undone}
+use Rattle.machine_model.specs.OwnEffects.{by_flush, by_return, input_read, printed, undone}
+use Rattle.machine_model.specs.ProcessorCalls.{flush_regwin, iret, read_input}
 use Rattle.machine_model.specs.Structures.{word}
 use Rattle.machine_model.specs.Emission.{Console, Unseen}
 use Rattle.machine_model.specs.View.{view_of}
 use Rattle.span_model.specs.Passes.{part_at, with_part}
 use Rattle.virt_traps.specs.declared.delivery.IretFault.{IretFault}
 use Rattle.virt_traps.specs.declared.windows.StackFault.{StackFault}
-use Rattle.system_state.specs.ServedLemmas.{served_changed}
+use Rattle.system_state.specs.lemmas.ServedLemmas.{served_changed}
 use Rattle.system_state.specs.Serving.{IsCaller, IsServed, caller_of}
 use Rattle.system_state.specs.State.{OwnState, SysState, areas_in, memory_of, with_machine, with_memory, input_words_of}
 use Rattle.system_state.specs.Stepping.{after_flush, after_return, flushed_in, returned_in}

@@ -5,16 +5,16 @@ use Rattle.cyclic_plans.specs.PlanClock.{here}
 use Rattle.xm_traces.specs.Ring.{Kept, entry_at}
 use Rattle.machine_model.specs.Caller.{Caller, a_of, b_of, c_of, invalid_parameter, is_room, no_permission, number_of, refused_if, room, system_only, target}
 use Rattle.machine_model.specs.Lists.{then_some}
-use Rattle.machine_model.specs.LogCalls.{is_own}
+use Rattle.machine_model.specs.Readings.{is_own}
 use Rattle.machine_model.specs.Machine.{answer_to, shown_entry, shown_of, sight_for, with_room}
 use Rattle.machine_model.specs.Partition.{PartitionState}
 use Rattle.machine_model.specs.Observed.{CurrentPlan, HealthCounts, HealthEntryOf, Observation, PartitionStatus, PlanStatus, Question, SystemStatus, TraceCounts, TraceEntryOf, about_other, about_system, observing}
 use Rattle.machine_model.specs.Structures.{counts_bytes, health_bytes, partition_status, plan_status, system_status, trace_bytes, word}
-use Rattle.machine_model.specs.TimeCalls.{is_no_plan}
+use Rattle.machine_model.specs.lemmas.TimeCallsTerms.{is_no_plan}
 use Rattle.machine_model.specs.Emission.{Unseen, Words}
-use Rattle.system_state.specs.SightLemmas.{sight_of_number}
+use Rattle.system_state.specs.lemmas.SightLemmas.{sight_of_number}
 use Rattle.system_state.specs.Serving.{caller_of}
-use Rattle.system_state.specs.Shown.{seen_when}
+use Rattle.system_state.specs.lemmas.Shown.{seen_when}
 use Rattle.system_state.specs.State.{SysState}
 use Rattle.system_state.specs.declared.call_site.CallSite.{CallSite}
 

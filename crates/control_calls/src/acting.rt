@@ -4,7 +4,7 @@ ghost use Rattle.std.specs.Prelude.{◌≡◌, ◌<◌, ◌==◌, if◌then◌el
 ghost use Rattle.machine_model.specs.Caller.{answering, is_room, room, tested, with_answer, with_written};
 ghost use Rattle.machine_model.specs.Emission.{Unseen, Words};
 ghost use Rattle.system_state.specs.Serving.{HasEvent, IsCaller, IsServed, IsUponOne, WantsAt, caller_of, upshot_of};
-ghost use Rattle.system_state.specs.Shown.{seen_when};
+ghost use Rattle.system_state.specs.lemmas.Shown.{seen_when};
 
 use system_state::answering::{answer, answer_written, room, write};
 use system_state::{Act, CallSite, Note, Served, Sys, engine};

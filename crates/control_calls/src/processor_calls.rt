@@ -4,7 +4,8 @@ ghost use Rattle.std.specs.Prelude.{◌≡◌, ◌%◌, ◌/◌, ◌^◌, ◌==�
 ghost use Rattle.std.specs.Int.{bit_at, to_be_bytes, w32};
 ghost use Rattle.xm_base.specs.declared.limits.TheConstants.{CONSOLE_BYTES};
 ghost use Rattle.machine_model.specs.Caller.{a_of, answering, b_of, caller_bytes, is_room, with_written};
-ghost use Rattle.machine_model.specs.ProcessorCalls.{clear_irqmask, flush_regwin, input_read, iret, printed, read_input, set_irqmask, set_psr, set_tbr, undone, write_console};
+ghost use Rattle.machine_model.specs.ProcessorCalls.{clear_irqmask, flush_regwin, iret, read_input, set_irqmask, set_psr, set_tbr, write_console};
+ghost use Rattle.machine_model.specs.OwnEffects.{input_read, printed, undone};
 ghost use Rattle.machine_model.specs.Emission.{Unseen};
 ghost use Rattle.sparc_step.specs.Registers.{with_icc};
 ghost use Rattle.system_state.specs.Serving.{IsCaller, IsServed, MayRead, caller_of};

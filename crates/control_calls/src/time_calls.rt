@@ -5,7 +5,8 @@ ghost use Rattle.cyclic_plans.specs.PlanClock.{IsInFrame};
 ghost use Rattle.sparc_step.specs.Registers.{register_at};
 ghost use Rattle.virt_clocks.specs.Clocks.{armed, with_timer};
 ghost use Rattle.machine_model.specs.Caller.{answering, invalid_parameter, is_neither, refused_if};
-ghost use Rattle.machine_model.specs.TimeCalls.{clock_numbered, clock_of, get_plan_status, get_time, is_negative, joined, set_timer, switch_sched_plan};
+ghost use Rattle.machine_model.specs.Readings.{clock_numbered, clock_of, is_negative, joined};
+ghost use Rattle.machine_model.specs.TimeCalls.{get_plan_status, get_time, set_timer, switch_sched_plan};
 ghost use Rattle.machine_model.specs.Emission.{Unseen};
 ghost use Rattle.system_state.specs.Serving.{IsCaller, IsServed, caller_of};
 

@@ -6,7 +6,7 @@ use Rattle.std.proofs.lemmas.List.{length-replicate}
 use Rattle.std.proofs.lemmas.List.Elements.{All-head, All-tail}
 use Rattle.std.proofs.lemmas.List.Sums.{sum_by-cons}
 use Rattle.guest_bus.specs.Memory.{Area, Memory, bytes_at}
-use Rattle.guest_bus.specs.MemoryLemmas.{length-bytes_at}
+use Rattle.guest_bus.specs.lemmas.MemoryLemmas.{length-bytes_at}
 use Rattle.health_monitor.specs.declared.entry.HealthEntry.{HealthEntry}
 use Rattle.virt_clocks.specs.declared.timer.Timer.{Timer}
 use Rattle.xm_traces.specs.Ring.{Kept}

@@ -8,7 +8,7 @@ use Rattle.xm_base.specs.declared.partition.Mode.TheVariants as mode
 use Rattle.xm_base.specs.declared.partition.Order.{Order}
 use Rattle.xm_base.specs.declared.partition.Order.TheVariants as upon
 use Rattle.xm_conf.specs.Configuration.{Conf}
-use Rattle.file_headers.specs.FieldLemmas.{wide8, wide16, wide32, Reads, bytes_again, listed_again, number_again}
+use Rattle.file_headers.specs.lemmas.FieldLemmas.{wide8, wide16, wide32, Reads, bytes_again, listed_again, number_again}
 use Rattle.file_headers.specs.Steps.{◌>>=◌}
 use Rattle.machine_model.specs.Cue.{Away, Mine, CueSlot}
 use Rattle.machine_model.specs.Emission.{AllHalted, AllReset, NoEvent, NotKept, OwnPuts, OwnSignals, OwnStill, OwnTakes, OwnTraffic, Sight, Unseen, WholeEvent, Words}

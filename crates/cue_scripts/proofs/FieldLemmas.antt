@@ -3,11 +3,12 @@ use Rattle.std.proofs.Common.{◌≡◌, ℕ, ◌^◌, ◌%◌, ◌<◌, Bool, t
 use Rattle.std.specs.Int.{w8, w64, to_be_bytes}
 use Rattle.std.proofs.lemmas.List.{take_at}
 use Rattle.std.proofs.lemmas.Nat.{from_be_bytes-to_be_bytes_8}
-use Rattle.xm_base.specs.Bytes.{AreBytes, spelled_8}
+use Rattle.xm_base.specs.Bytes.{AreBytes}
+use Rattle.xm_base.specs.lemmas.BytesLemmas.{spelled_8}
 use Rattle.xm_base.specs.Cursor.{Place, ahead}
-use Rattle.file_headers.specs.FieldLemmas.{AreBytes-take, IsWide, Takes, wide8, listed_takes}
+use Rattle.file_headers.specs.lemmas.FieldLemmas.{AreBytes-take, IsWide, Takes, wide8, listed_takes}
 use Rattle.file_headers.specs.Steps.{◌>>=◌}
-use Rattle.file_headers.specs.StepLemmas.{stepped}
+use Rattle.file_headers.specs.lemmas.StepLemmas.{stepped}
 use Rattle.file_headers.specs.Fields.{listed_at}
 use Rattle.cue_scripts.specs.Reading.{script_field, script_short}
 use Rattle.fault_messages.specs.declared.fault.ScriptFault.{ScriptFault}

@@ -7,9 +7,9 @@ use Rattle.std.proofs.lemmas.Bool.{eq-eqb}
 use Rattle.std.proofs.lemmas.List.{append-nil, length-append, length-replicate}
 use Rattle.xm_base.specs.Cursor.{ahead, left, cursor_start}
 use Rattle.xm_conf.specs.Configuration.{Conf}
-use Rattle.file_headers.specs.FieldLemmas.{wide8, wide16, Reads, bytes_again, listed_again, number_again}
-use Rattle.xef_images.specs.ImageLemmas.{Decides-nat_le}
-use Rattle.file_headers.specs.StepLemmas.{ok_is}
+use Rattle.file_headers.specs.lemmas.FieldLemmas.{wide8, wide16, Reads, bytes_again, listed_again, number_again}
+use Rattle.xef_images.specs.lemmas.ImageLemmas.{Decides-nat_le}
+use Rattle.file_headers.specs.lemmas.StepLemmas.{ok_is}
 use Rattle.machine_model.specs.Cue.{Cue}
 use Rattle.file_headers.specs.Heads.{magic_at, version_at}
 use Rattle.cue_scripts.specs.Entries.{Alike, AreLongest, Entry, Other, expanded, bare_cue, runs}

@@ -8,13 +8,13 @@ use Rattle.std.proofs.lemmas.List.{append-nil, nil_from_length}
 use Rattle.xm_base.specs.Bytes.{AreBytes}
 use Rattle.xm_base.specs.Cursor.{Place, ahead, left, cursor_start}
 use Rattle.xm_conf.specs.Configuration.{Conf}
-use Rattle.file_headers.specs.FieldLemmas.{Takes, takes_both, wide8, listed_takes}
-use Rattle.xef_images.specs.ImageLemmas.{Decides-nat_le}
-use Rattle.file_headers.specs.StepLemmas.{stepped, ok_is, passed}
+use Rattle.file_headers.specs.lemmas.FieldLemmas.{Takes, takes_both, wide8, listed_takes}
+use Rattle.xef_images.specs.lemmas.ImageLemmas.{Decides-nat_le}
+use Rattle.file_headers.specs.lemmas.StepLemmas.{stepped, ok_is, passed}
 use Rattle.file_headers.specs.Steps.{◌>>=◌, unless}
 use Rattle.machine_model.specs.Cue.{Cue}
 use Rattle.file_headers.specs.Fields.{listed_at}
-use Rattle.file_headers.specs.HeadLemmas.{is_first, magic_takes, version_takes}
+use Rattle.file_headers.specs.lemmas.HeadLemmas.{is_first, magic_takes, version_takes}
 use Rattle.file_headers.specs.Heads.{magic_at, version_at}
 use Rattle.cue_scripts.specs.Entries.{Entry, expanded, runs}
 use Rattle.cue_scripts.specs.Spelling.{IsSpelledScript, entry_text, script_head_text, script_text}

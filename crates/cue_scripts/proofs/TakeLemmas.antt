@@ -8,8 +8,8 @@ use Rattle.std.proofs.lemmas.Bool.Decides.{nat_tests}
 use Rattle.xm_base.specs.Bytes.{AreBytes}
 use Rattle.xm_base.specs.Cursor.{Place, ahead}
 use Rattle.xm_conf.specs.Configuration.{Conf}
-use Rattle.file_headers.specs.FieldLemmas.{Takes, takes_both, wide16, bytes_take, listed_takes}
-use Rattle.file_headers.specs.StepLemmas.{stepped, ok_is}
+use Rattle.file_headers.specs.lemmas.FieldLemmas.{Takes, takes_both, wide16, bytes_take, listed_takes}
+use Rattle.file_headers.specs.lemmas.StepLemmas.{stepped, ok_is}
 use Rattle.file_headers.specs.Steps.{◌>>=◌}
 use Rattle.machine_model.specs.Cue.{Away, Mine, CueSlot}
 use Rattle.machine_model.specs.Emission.{OwnPuts, OwnSignals, OwnTakes, OwnTraffic}

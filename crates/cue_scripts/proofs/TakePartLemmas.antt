@@ -11,8 +11,8 @@ use Rattle.xm_base.specs.declared.partition.Mode.TheVariants as mode
 use Rattle.xm_base.specs.declared.partition.Order.{Order}
 use Rattle.xm_base.specs.declared.partition.Order.TheVariants as upon
 use Rattle.xm_conf.specs.Configuration.{Conf}
-use Rattle.file_headers.specs.FieldLemmas.{Takes, takes_both, wide32, bytes_take, number_takes}
-use Rattle.file_headers.specs.StepLemmas.{stepped, ok_is}
+use Rattle.file_headers.specs.lemmas.FieldLemmas.{Takes, takes_both, wide32, bytes_take, number_takes}
+use Rattle.file_headers.specs.lemmas.StepLemmas.{stepped, ok_is}
 use Rattle.file_headers.specs.Steps.{◌>>=◌}
 use Rattle.machine_model.specs.Cue.{Away, Mine, CueSlot}
 use Rattle.machine_model.specs.Emission.{AllHalted, AllReset, NoEvent, NotKept, OwnStill, OwnTraffic, Sight, Unseen, WholeEvent, Words}

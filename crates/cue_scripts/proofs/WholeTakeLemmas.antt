@@ -11,9 +11,9 @@ use Rattle.std.proofs.lemmas.List.Concat.{flat_map-cons}
 use Rattle.xm_base.specs.Bytes.{AreBytes}
 use Rattle.xm_base.specs.Cursor.{Place, ahead}
 use Rattle.xm_conf.specs.Configuration.{Conf}
-use Rattle.file_headers.specs.FieldLemmas.{Takes, takes_both, wide32, listed_takes}
-use Rattle.xef_images.specs.ImageLemmas.{Decides-nat_le}
-use Rattle.file_headers.specs.StepLemmas.{stepped, ok_is, passed}
+use Rattle.file_headers.specs.lemmas.FieldLemmas.{Takes, takes_both, wide32, listed_takes}
+use Rattle.xef_images.specs.lemmas.ImageLemmas.{Decides-nat_le}
+use Rattle.file_headers.specs.lemmas.StepLemmas.{stepped, ok_is, passed}
 use Rattle.file_headers.specs.Steps.{◌>>=◌, unless}
 use Rattle.machine_model.specs.Cue.{Away, Cue, Mine, CueSlot}
 use Rattle.machine_model.specs.Emission.{AllHalted, OwnStill, OwnTraffic}

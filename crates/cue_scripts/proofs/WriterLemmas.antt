@@ -7,7 +7,7 @@ use Rattle.std.proofs.lemmas.Grind.{flat_map-append}
 use Rattle.std.proofs.lemmas.List.{append-nil, length-append}
 use Rattle.std.proofs.lemmas.List.Concat.{flat_map-cons}
 use Rattle.xm_base.specs.declared.limits.TheConstants.{FILE_BYTES}
-use Rattle.xef_images.specs.ImageLemmas.{Decides-nat_le}
+use Rattle.xef_images.specs.lemmas.ImageLemmas.{Decides-nat_le}
 use Rattle.machine_model.specs.Cue.{Cue}
 use Rattle.cue_scripts.specs.Entries.{Alike, AreLongest, Entry, MayFollow, Other, cues_of, expanded, plain_cue_of, bare_cue, plain_kind, runs}
 use Rattle.cue_scripts.specs.Spelling.{entry_text, script_head_text, script_text}

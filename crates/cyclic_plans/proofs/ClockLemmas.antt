@@ -9,7 +9,7 @@ use Rattle.xm_conf.specs.Fits.{Fits}
 use Rattle.xm_conf.specs.declared.plan.Slot.{Slot}
 use Rattle.cyclic_plans.specs.Slots.{Covers, slots_of, frame_of, slot_from, here_in, RunsIn, IsHere, IsGap}
 use Rattle.cyclic_plans.specs.PlanClock.{CyclicClock, IsInFrame, frame_from, moment, slot_at, here, next_plan, AsksPlan, ticks_left}
-use Rattle.cyclic_plans.specs.PlanLemmas.{plan_fits, begins_in_frame}
+use Rattle.cyclic_plans.specs.lemmas.PlanLemmas.{plan_fits, begins_in_frame}
 use Rattle.cyclic_plans.proofs.SlotLemmas.{slot_from-found, slot_from-gap, slot_from-none}
 use Rattle.cyclic_plans.proofs.StretchLemmas.{stretch_end-past, stretch_end-inside, stretch_end-alike}
 

@@ -1,3 +1,3 @@
 pub mod PlanClock
-pub mod PlanLemmas
 pub mod Slots
+pub mod lemmas

@@ -6,16 +6,18 @@ use Rattle.guest_bus.specs.Words.{word_address}
 use Rattle.sparc_code.specs.Decoded.{decoded}
 use Rattle.sparc_step.specs.Execution.{done, executed}
 use Rattle.sparc_step.specs.Registers.{Registers, placed}
-use Rattle.fast_loop.specs.Coming.{IsCame}
-use Rattle.fast_loop.specs.Runs.{AreSteps, IsCall, no_steps, one_more, one_settled, settled-call, word_more}
-use Rattle.fast_loop.specs.Shifts.{IsShift}
+use Rattle.fast_loop.specs.lemmas.Coming.{IsCame}
+use Rattle.fast_loop.specs.Runs.{AreSteps, IsCall}
+use Rattle.fast_loop.specs.lemmas.RunsLemmas.{no_steps, one_more, one_settled, settled-call, word_more}
+use Rattle.fast_loop.specs.lemmas.Shifts.{IsShift}
 use Rattle.predecode.specs.Rows.{as_done}
 use Rattle.fast_loop.proofs.DroppedLemmas.{same_executed}
-use Rattle.fast_loop.specs.Steps.{Goes}
+use Rattle.fast_loop.specs.lemmas.Steps.{Goes}
 use Rattle.predecode.specs.Kept.{IsRowFor}
-use Rattle.fast_loop.specs.TurnLemmas.{turned-word}
-use Rattle.fast_loop.specs.Places.{at_place, at_slot}
-use Rattle.fast_loop.specs.Turning.{Turns, calling}
+use Rattle.fast_loop.specs.lemmas.TurnLemmas.{turned-word}
+use Rattle.fast_loop.specs.lemmas.Places.{at_place, at_slot}
+use Rattle.fast_loop.specs.lemmas.TurningTerms.{Turns}
+use Rattle.fast_loop.specs.Turning.{calling}
 use Rattle.fast_loop.proofs.TurningLemmas.{next_address}
 use Rattle.fast_loop.specs.declared.one.Came.{Came}
 use Rattle.fast_loop.specs.declared.one.Came.TheVariants.{Next, Jump, Turn, Slot, Calls}

@@ -17,7 +17,7 @@ use Rattle.sparc_step.specs.Outcome.{went, with_result}
 use Rattle.sparc_step.specs.Registers.{Registers, advanced, register_at, with_register}
 use Rattle.predecode.specs.Kinds.{row_kind_of}
 use Rattle.predecode.specs.Rows.{as_done, done_as, is_dropped}
-use Rattle.fast_loop.specs.Steps.{Goes}
+use Rattle.fast_loop.specs.lemmas.Steps.{Goes}
 
 -- a branch that is never taken goes on alone
 never_goes : (areas : List Area) (core : Registers) (memory : Memory) → executed (instr.Branch 0 false (pos 0)) areas core memory ≡ done (advanced core) memory

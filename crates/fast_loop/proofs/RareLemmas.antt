@@ -11,12 +11,12 @@ use Rattle.sparc_step.specs.Flow.{moved, window_above, window_below, write_y_row
 use Rattle.sparc_step.specs.Operands.{sum_of, value_of}
 use Rattle.sparc_step.specs.Outcome.{with_result}
 use Rattle.sparc_step.specs.Registers.{Registers, advanced, in_window, placed, register_at, with_register, with_y}
-use Rattle.fast_loop.specs.Effects.{y_of}
+use Rattle.fast_loop.specs.lemmas.Effects.{y_of}
 use Rattle.predecode.specs.Kinds.{row_kind_of}
-use Rattle.fast_loop.specs.PlacedLemmas.{advanced-placed, register_at-placed, sum_of-placed, value_of-placed, with_result-placed, with_y-placed}
+use Rattle.fast_loop.specs.lemmas.PlacedLemmas.{advanced-placed, register_at-placed, sum_of-placed, value_of-placed, with_result-placed, with_y-placed}
 use Rattle.predecode.specs.Rows.{HasSource, IsRowOf, RowDoes}
 use Rattle.fast_loop.proofs.StepLemmas.{branch_apart, transfer_apart, trap_apart}
-use Rattle.fast_loop.specs.Steps.{Goes}
+use Rattle.fast_loop.specs.lemmas.Steps.{Goes}
 use Rattle.fast_loop.proofs.WindowLemmas.{moved-placed, window_above-placed, window_below-placed}
 use Rattle.predecode.specs.declared.rows.Row.{Row}
 

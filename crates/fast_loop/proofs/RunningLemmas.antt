@@ -3,10 +3,11 @@ use Rattle.std.proofs.Common.{◌≡◌, ℕ, ◌+◌, ◌-◌, ◌%◌, ◌^◌
 use Rattle.guest_bus.specs.Memory.{Area, Memory}
 use Rattle.guest_bus.specs.Words.{word_address}
 use Rattle.sparc_step.specs.Registers.{Registers, placed}
-use Rattle.fast_loop.specs.Coming.{IsCame}
-use Rattle.fast_loop.specs.Codes.{RunStopsAt}
-use Rattle.fast_loop.specs.Runs.{AreSteps, IsCall, no_steps, steps_then}
-use Rattle.fast_loop.specs.Places.{at_place}
+use Rattle.fast_loop.specs.lemmas.Coming.{IsCame}
+use Rattle.fast_loop.specs.lemmas.Codes.{RunStopsAt}
+use Rattle.fast_loop.specs.Runs.{AreSteps, IsCall}
+use Rattle.fast_loop.specs.lemmas.RunsLemmas.{no_steps, steps_then}
+use Rattle.fast_loop.specs.lemmas.Places.{at_place}
 use Rattle.fast_loop.proofs.TurningLemmas.{next_address}
 use Rattle.fast_loop.specs.declared.one.Came.TheVariants.{Next, Jump, Turn, Calls}
 use Rattle.guest_bus.specs.declared.words.Words.{Words}

@@ -8,14 +8,14 @@ use Rattle.std.proofs.lemmas.List.Edits.{sets, sets-eq}
 use Rattle.std.specs.Int.{from_be_bytes, w32}
 use Rattle.std.specs.Prelude.{if◌then◌else◌, ◌==◌, ◌&&◌, nat_le, nat_lt, slice_index, slice_set}
 use Rattle.guest_bus.specs.Access.{access_fault, fetched, unless_refused}
-use Rattle.guest_bus.specs.AccessLemmas.{length-bytes_of}
+use Rattle.guest_bus.specs.lemmas.AccessLemmas.{length-bytes_of}
 use Rattle.guest_bus.specs.Memory.{Area, Memory, bytes_at, is_readable, is_writable, with_bytes}
-use Rattle.guest_bus.specs.MemoryLemmas.{bytes_at-with_bytes_apart}
+use Rattle.guest_bus.specs.lemmas.MemoryLemmas.{bytes_at-with_bytes_apart}
 use Rattle.guest_bus.specs.Words.{MayStand, allows, bytes_of, words_at}
 use Rattle.sparc_step.specs.Registers.{Registers, ins_place, locals_and_ins, locals_place, place_in_windows, register_at, with_inv, with_locals_and_ins, with_saved}
 use Rattle.virt_traps.specs.Moves.{fill_address, filled, move_made, move_refused, spill_address, spill_window, spilled}
 use Rattle.virt_traps.specs.SaveArea.{is_usable, register_of, registers_from, saved, with_registers}
-use Rattle.fast_loop.specs.Shifts.{IsFilled, IsSpilled}
+use Rattle.fast_loop.specs.lemmas.Shifts.{IsFilled, IsSpilled}
 
 -- registers of a window that stand one after the other
 registers_placed : (windows : List ℕ) (window n count from : ℕ) → ((k : ℕ) → k < count → place_in_windows window (n + k) ≡ from + k) → from + count ≤ length windows → registers_from windows window n count ≡ take count (drop from windows)

@@ -19,9 +19,10 @@ use Rattle.virt_traps.specs.Moves.{Moved, fill_address, filled, move_made, move_
 use Rattle.virt_traps.specs.SaveArea.{is_usable, saved, with_registers}
 use Rattle.virt_traps.specs.Settled.{after_trap, again_or_trap, answered, made_again, settled}
 use Rattle.fast_loop.proofs.RareLemmas.{of_window, restore_kind, save_kind}
-use Rattle.predecode.specs.Rows.{AreRegisterNumbers, HasSource, IsRowOf, row_as_done}
-use Rattle.fast_loop.specs.Shifts.{IsFilled, IsShift, IsSpilled}
-use Rattle.fast_loop.specs.TurnLemmas.{turned-word}
+use Rattle.predecode.specs.Rows.{AreRegisterNumbers, HasSource, IsRowOf}
+use Rattle.predecode.specs.lemmas.RowsLemmas.{row_as_done}
+use Rattle.fast_loop.specs.lemmas.Shifts.{IsFilled, IsShift, IsSpilled}
+use Rattle.fast_loop.specs.lemmas.TurnLemmas.{turned-word}
 use Rattle.predecode.specs.declared.rows.Row.{Row}
 
 -- a SAVE to the invalid window traps

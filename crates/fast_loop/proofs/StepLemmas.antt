@@ -18,11 +18,12 @@ use Rattle.sparc_step.specs.Flow.{branch_row, passed, sethi_row, taken, branch_t
 use Rattle.sparc_step.specs.Operands.{sum_of, value_of}
 use Rattle.sparc_step.specs.Registers.{Registers, placed, register_at, with_register}
 use Rattle.sparc_step.specs.Transfers.{transfer}
-use Rattle.fast_loop.specs.Effects.{IsTransferred, worked_by_kind}
-use Rattle.predecode.specs.Kinds.{row_kind_of, kind_of_branch, kind_of_transfer, kind_of_trap, other, transfer_of}
-use Rattle.fast_loop.specs.PlacedLemmas.{advanced-placed, register_at-placed, sum_of-placed, value_of-placed, with_result-placed, worked-placed}
+use Rattle.fast_loop.specs.lemmas.Effects.{IsTransferred, worked_by_kind}
+use Rattle.predecode.specs.Kinds.{row_kind_of, kind_of_branch, kind_of_transfer, kind_of_trap, other}
+use Rattle.predecode.specs.lemmas.KindsTerms.{transfer_of}
+use Rattle.fast_loop.specs.lemmas.PlacedLemmas.{advanced-placed, register_at-placed, sum_of-placed, value_of-placed, with_result-placed, worked-placed}
 use Rattle.predecode.specs.Rows.{RowDoes, HasSource, IsRowOf}
-use Rattle.fast_loop.specs.Steps.{Goes}
+use Rattle.fast_loop.specs.lemmas.Steps.{Goes}
 use Rattle.predecode.specs.declared.rows.Row.{Row}
 
 -- work on registers

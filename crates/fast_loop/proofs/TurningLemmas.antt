@@ -16,12 +16,12 @@ use Rattle.sparc_step.specs.Words.{residue}
 use Rattle.sparc_step.specs.declared.outcome.Turn.{Turn}
 use Rattle.sparc_step.specs.declared.outcome.Turn.TheVariants.{Call, Went}
 use Rattle.predecode.specs.Kinds.{kind_of_trap, other}
-use Rattle.fast_loop.specs.PlacedLemmas.{sum_of-placed}
+use Rattle.fast_loop.specs.lemmas.PlacedLemmas.{sum_of-placed}
 use Rattle.fast_loop.proofs.RareLemmas.{arith_rare}
 use Rattle.predecode.specs.Rows.{HasSource, IsRowOf}
 use Rattle.fast_loop.proofs.StepLemmas.{arith_not_two, branch_apart, transfer_apart, transfer_kinds, trap_apart}
-use Rattle.fast_loop.specs.TurnLemmas.{branch_taken, call_taken, jump_taken}
-use Rattle.fast_loop.specs.Places.{at_place, at_slot}
+use Rattle.fast_loop.specs.lemmas.TurnLemmas.{branch_taken, call_taken, jump_taken}
+use Rattle.fast_loop.specs.lemmas.Places.{at_place, at_slot}
 use Rattle.fast_loop.specs.Turning.{calling}
 use Rattle.predecode.specs.declared.rows.Row.{Row}
 

@@ -5,7 +5,7 @@ use Rattle.std.specs.Prelude.{if◌then◌else◌, ◌==◌}
 use Rattle.sparc_step.specs.Flow.{window_entered, moved, window_above, window_below}
 use Rattle.sparc_step.specs.Outcome.{trapped, went, with_result}
 use Rattle.sparc_step.specs.Registers.{Registers, in_window, placed, with_register}
-use Rattle.fast_loop.specs.PlacedLemmas.{with_result-placed}
+use Rattle.fast_loop.specs.lemmas.PlacedLemmas.{with_result-placed}
 
 in_window-placed : (core : Registers) (pc npc window : ℕ) → in_window (placed pc npc core) window ≡ placed pc npc (in_window core window)
 unfolding in_window placed

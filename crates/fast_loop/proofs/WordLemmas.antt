@@ -8,14 +8,14 @@ use Rattle.sparc_step.specs.Execution.{done}
 use Rattle.sparc_step.specs.Operands.{sum_of}
 use Rattle.sparc_step.specs.Registers.{Registers}
 use Rattle.fast_loop.proofs.DroppedLemmas.{goes_itself, same_executed}
-use Rattle.fast_loop.specs.Places.{at_place, at_slot}
+use Rattle.fast_loop.specs.lemmas.Places.{at_place, at_slot}
 use Rattle.fast_loop.proofs.StepLemmas.{transfers_go}
-use Rattle.fast_loop.specs.Steps.{IsMemoryStep, IsRowStep, IsWordStep, Uses}
+use Rattle.fast_loop.specs.lemmas.Steps.{IsMemoryStep, IsRowStep, IsWordStep, Uses}
 use Rattle.fast_loop.proofs.TurningLemmas.{address_at, taken_turns}
 use Rattle.fast_loop.specs.declared.simple.Step.{Step}
 use Rattle.fast_loop.specs.declared.simple.Step.TheVariants.{Next, Taken, Shifts, Stays}
 use Rattle.predecode.specs.Kept.{IsKeptRow, word_there}
-use Rattle.predecode.specs.KeptLemmas.{row_stands}
+use Rattle.predecode.specs.lemmas.KeptLemmas.{row_stands}
 use Rattle.predecode.specs.Kinds.{unmade}
 use Rattle.predecode.specs.Rows.{HasSource, as_done}
 use Rattle.predecode.specs.declared.rows.Row.{Row}

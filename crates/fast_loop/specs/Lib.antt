@@ -1,10 +1,3 @@
-pub mod Effects
-pub mod Places
-pub mod Steps
-pub mod Codes
 pub mod Turning
 pub mod Runs
-pub mod Coming
-pub mod PlacedLemmas
-pub mod TurnLemmas
-pub mod Shifts
+pub mod lemmas

@@ -5,8 +5,8 @@ ghost use Rattle.std.specs.Bool.{OnTrue};
 ghost use Rattle.guest_bus.specs.Access.{after_store, store_fault};
 ghost use Rattle.guest_bus.specs.declared.bus.Size.TheVariants.{Eight};
 ghost use Rattle.sparc_code.specs.declared.instruction.MemOp.TheVariants.{LdD, StD};
-ghost use Rattle.fast_loop.specs.Effects.{IsTransferred, extended_by};
-ghost use Rattle.predecode.specs.Kinds.{load_by_size, store_by_size, transfer_of};
+ghost use Rattle.fast_loop.specs.lemmas.Effects.{IsTransferred, extended_by};
+ghost use Rattle.predecode.specs.lemmas.KindsTerms.{load_by_size, store_by_size, transfer_of};
 
 use guest_bus::{Bus, Size};
 use predecode::kinds;
@@ -15,7 +15,7 @@ use sparc_step::transfers::{signed_byte, signed_half};
 
 /// The kinds 13 to 22, at an address. One that is refused changes nothing.
 #[inline(always)]
-#[tactic(auto, unfolding(predecode::specs::Kinds::transfer_of))]
+#[tactic(auto, unfolding(predecode::specs::lemmas::KindsTerms::transfer_of))]
 pub(crate) fn transfer<B: Bus>(
     own: &mut Processor,
     bus: &mut B,
@@ -51,7 +51,7 @@ pub(crate) fn transfer<B: Bus>(
 
 // The kinds 15 to 18.
 #[inline(never)]
-#[tactic(auto, unfolding(predecode::specs::Kinds::transfer_of))]
+#[tactic(auto, unfolding(predecode::specs::lemmas::KindsTerms::transfer_of))]
 fn other_load<B: Bus>(own: &mut Processor, bus: &mut B, kind: u8, rd: u8, address: u32) -> bool
     requires from { 15 ≤ kind }
     requires below { kind < 19 }
@@ -77,7 +77,7 @@ fn other_load<B: Bus>(own: &mut Processor, bus: &mut B, kind: u8, rd: u8, addres
 
 // The kinds 21 and 22.
 #[inline(never)]
-#[tactic(auto, unfolding(predecode::specs::Kinds::transfer_of))]
+#[tactic(auto, unfolding(predecode::specs::lemmas::KindsTerms::transfer_of))]
 fn other_store<B: Bus>(own: &mut Processor, bus: &mut B, kind: u8, rd: u8, address: u32) -> bool
     requires from { 21 ≤ kind }
     requires below { kind < 23 }

@@ -4,10 +4,10 @@ ghost use Rattle.std.specs.Prelude.{◌≡◌, ◌+◌, ◌<◌, ◌≤◌};
 ghost use Rattle.guest_bus.specs.Memory.{Memory};
 ghost use Rattle.guest_bus.specs.Words.{AreWords};
 ghost use Rattle.sparc_step.specs.Registers.{Registers};
-ghost use Rattle.fast_loop.specs.Codes.{IsPlaceBefore};
-ghost use Rattle.fast_loop.specs.Coming.{HasRoom, IsCame};
+ghost use Rattle.fast_loop.specs.lemmas.Codes.{IsPlaceBefore};
+ghost use Rattle.fast_loop.specs.lemmas.Coming.{HasRoom, IsCame};
 ghost use Rattle.fast_loop.specs.Runs.{AreSteps};
-ghost use Rattle.fast_loop.specs.Places.{at_place, at_slot};
+ghost use Rattle.fast_loop.specs.lemmas.Places.{at_place, at_slot};
 
 use crate::places::address;
 use crate::shifting::shift;

@@ -6,9 +6,9 @@ ghost use Rattle.guest_bus.specs.Memory.{Area, Memory};
 ghost use Rattle.sparc_code.specs.declared.instruction.Src.{Src};
 ghost use Rattle.sparc_step.specs.Operands.{sum_of as sum_of_operands, value_of};
 ghost use Rattle.sparc_step.specs.Registers.{in_window, register_at, with_register, with_y};
-ghost use Rattle.fast_loop.specs.Effects.{y_of};
+ghost use Rattle.fast_loop.specs.lemmas.Effects.{y_of};
 ghost use Rattle.predecode.specs.Rows.{AreRegisterNumbers, HasSource};
-ghost use Rattle.fast_loop.specs.Steps.{IsRowStep, Uses};
+ghost use Rattle.fast_loop.specs.lemmas.Steps.{IsRowStep, Uses};
 
 use crate::simple::Step;
 use crate::working::{first, second, sum_of};
@@ -53,7 +53,7 @@ fn write_y(own: &mut Processor, row: &Row) -> Step
 
 // Y is the one operand with the other's bits turned.
 #[inline(always)]
-#[tactic(auto, unfolding(crate::specs::Effects::y_of))]
+#[tactic(auto, unfolding(crate::specs::lemmas::Effects::y_of))]
 fn put_y(own: &mut Processor, row: &Row)
     requires registers { AreRegisterNumbers row.now }
     ensures { (source : Src) → HasSource source row.now → own.new ≡ with_y own.old (y_of (register_at own.old row.now.rs1) (value_of source own.old)) }

@@ -3,9 +3,9 @@
 ghost use Rattle.std.specs.Prelude.{◌≡◌, ◌+◌, ◌^◌, ◌<◌, ◌≤◌, false};
 ghost use Rattle.std.specs.Bool.{OnTrue};
 ghost use Rattle.guest_bus.specs.Words.{AreWords};
-ghost use Rattle.fast_loop.specs.Codes.{RunStopsAt};
+ghost use Rattle.fast_loop.specs.lemmas.Codes.{RunStopsAt};
 ghost use Rattle.fast_loop.specs.Runs.{AreSteps, IsCall};
-ghost use Rattle.fast_loop.specs.Places.{at_place, at_slot};
+ghost use Rattle.fast_loop.specs.lemmas.Places.{at_place, at_slot};
 
 use crate::one::{Came, one};
 use crate::places::{address, address_after, distance, place_of};

@@ -7,7 +7,7 @@ ghost use Rattle.sparc_step.specs.Operands.{sum_of as sum_of_operands};
 ghost use Rattle.sparc_step.specs.Registers.{in_window, register_at, window_filled, with_register};
 ghost use Rattle.predecode.specs.Rows.{AreRegisterNumbers, HasSource};
 ghost use Rattle.predecode.specs.Kinds.{unmade};
-ghost use Rattle.fast_loop.specs.Shifts.{IsShift, IsSpilled};
+ghost use Rattle.fast_loop.specs.lemmas.Shifts.{IsShift, IsSpilled};
 
 use crate::working::sum_of;
 use guest_bus::HasWords;

@@ -5,9 +5,9 @@ ghost use Rattle.guest_bus.specs.Memory.{Area, Memory};
 ghost use Rattle.sparc_code.specs.declared.instruction.Src.{Src};
 ghost use Rattle.sparc_step.specs.Operands.{value_of};
 ghost use Rattle.sparc_step.specs.Registers.{register_at};
-ghost use Rattle.fast_loop.specs.Effects.{worked_by_kind};
+ghost use Rattle.fast_loop.specs.lemmas.Effects.{worked_by_kind};
 ghost use Rattle.predecode.specs.Rows.{AreRegisterNumbers, HasSource};
-ghost use Rattle.fast_loop.specs.Steps.{IsMemoryStep, IsRowStep, IsWordStep};
+ghost use Rattle.fast_loop.specs.lemmas.Steps.{IsMemoryStep, IsRowStep, IsWordStep};
 ghost use Rattle.fast_loop.specs.declared.simple.Step.TheVariants.{Next};
 
 use crate::moving::transfer;

@@ -3,7 +3,7 @@
 ghost use Rattle.std.specs.Prelude.{◌≡◌, ℕ, ◌<◌};
 ghost use Rattle.guest_bus.specs.Words.{AreWords};
 ghost use Rattle.predecode.specs.Rows.{AreRegisterNumbers};
-ghost use Rattle.fast_loop.specs.Turning.{Turns, TurnsBy};
+ghost use Rattle.fast_loop.specs.lemmas.TurningTerms.{Turns, TurnsBy};
 
 use crate::places::{address, displacement};
 use crate::working::sum_of;

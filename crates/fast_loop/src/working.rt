@@ -5,7 +5,7 @@ ghost use Rattle.std.specs.Bool.{OnTrue};
 ghost use Rattle.sparc_code.specs.declared.instruction.Src.{Src};
 ghost use Rattle.sparc_step.specs.Operands.{sum_of, value_of};
 ghost use Rattle.sparc_step.specs.Registers.{register_at};
-ghost use Rattle.fast_loop.specs.Effects.{worked_by_kind, set_wide};
+ghost use Rattle.fast_loop.specs.lemmas.Effects.{worked_by_kind, set_wide};
 ghost use Rattle.predecode.specs.Rows.{AreRegisterNumbers, HasSource};
 
 use predecode::{Row, kinds};
@@ -48,7 +48,7 @@ pub(crate) fn sum_of(own: &Processor, row: &Row) -> u32
 
 /// The kinds 0, 1 and 3.
 #[inline(always)]
-#[tactic(auto, unfolding(crate::specs::Effects::worked_by_kind))]
+#[tactic(auto, unfolding(crate::specs::lemmas::Effects::worked_by_kind))]
 pub(crate) fn frequent(own: &mut Processor, kind: u8, rd: u8, a: u32, b: u32)
     requires kind { kind < 4 }
     requires work { kind ≢ 2 }
@@ -68,7 +68,7 @@ pub(crate) fn frequent(own: &mut Processor, kind: u8, rd: u8, a: u32, b: u32)
 
 /// The kinds 4 to 12.
 #[inline(always)]
-#[tactic(auto, unfolding(crate::specs::Effects::worked_by_kind))]
+#[tactic(auto, unfolding(crate::specs::lemmas::Effects::worked_by_kind))]
 pub(crate) fn plain(own: &mut Processor, kind: u8, rd: u8, a: u32, b: u32)
     requires from { 4 ≤ kind }
     requires below { kind < 13 }
@@ -105,7 +105,7 @@ pub(crate) fn plain(own: &mut Processor, kind: u8, rd: u8, a: u32, b: u32)
 
 /// The kinds 23 to 25.
 #[inline(always)]
-#[tactic(auto, unfolding(crate::specs::Effects::worked_by_kind))]
+#[tactic(auto, unfolding(crate::specs::lemmas::Effects::worked_by_kind))]
 pub(crate) fn coded(own: &mut Processor, kind: u8, rd: u8, a: u32, b: u32)
     requires from { 23 ≤ kind }
     requires below { kind < 26 }
@@ -146,7 +146,7 @@ pub(crate) fn multiply_or_divide(own: &mut Processor, kind: u8, rd: u8, a: u32, 
 }
 
 #[inline(always)]
-#[tactic(auto, unfolding(crate::specs::Effects::worked_by_kind))]
+#[tactic(auto, unfolding(crate::specs::lemmas::Effects::worked_by_kind))]
 fn multiply(own: &mut Processor, kind: u8, rd: u8, a: u32, b: u32)
     requires from { 26 ≤ kind }
     requires below { kind < 28 }
@@ -171,7 +171,7 @@ fn put_product(own: &mut Processor, rd: u8, product: u64)
 }
 
 #[inline(always)]
-#[tactic(auto, unfolding(crate::specs::Effects::worked_by_kind, sparc_step::specs::Arithmetic::dividend))]
+#[tactic(auto, unfolding(crate::specs::lemmas::Effects::worked_by_kind, sparc_step::specs::Arithmetic::dividend))]
 fn divide(own: &mut Processor, kind: u8, rd: u8, a: u32, b: u32)
     requires from { 28 ≤ kind }
     requires below { kind < 30 }

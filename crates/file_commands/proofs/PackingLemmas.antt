@@ -8,10 +8,12 @@ use Rattle.command_line.specs.Words.{PartFile, Pack}
 use Rattle.file_commands.specs.Denial.{Denial}
 use Rattle.file_commands.specs.Ending.{Ending, Done, Usage, ReadFault, Refused, WriteFaultReport, WriteFaultFile, UartFault, NoMemory}
 use Rattle.file_commands.specs.Outcome.{Outcome, content, first_long, outcome_of, packed_to, unless_long, outcome_of_contents}
-use Rattle.file_commands.specs.Packing.{container_of, images_of, limited, file_names}
-use Rattle.file_commands.specs.Read.{HasRead}
-use Rattle.file_commands.specs.Work.{Outside, AreNotRead, Comes, IsNotRead, IsOutOfMemory, ReadsFiles, after_store_call, called_for}
-use Rattle.file_commands.specs.OutputLemmas.{called_for-is}
+use Rattle.file_commands.specs.Packing.{container_of, images_of, file_names}
+use Rattle.file_commands.specs.lemmas.PackingTerms.{limited}
+use Rattle.file_commands.specs.lemmas.Read.{HasRead}
+use Rattle.file_commands.specs.Work.{Outside, AreNotRead, IsNotRead, IsOutOfMemory, ReadsFiles, after_store_call, called_for}
+use Rattle.file_commands.specs.lemmas.WorkTerms.{Comes}
+use Rattle.file_commands.specs.lemmas.OutputLemmas.{called_for-is}
 
 -- Files are read.
 

@@ -1,10 +1,9 @@
 -- What the program's endings say.
-use Rattle.std.specs.Prelude.{◌≡◌, ℕ, ⊤, List, map, codes, None, Vec, Result, Ok, Err}
+use Rattle.std.specs.Prelude.{◌≡◌, ℕ, List, map, codes, None, Vec, Result, Ok, Err}
 use Rattle.std.specs.String.{string_bytes}
 use Rattle.xm_base.specs.declared.limits.TheConstants.{FILE_BYTES}
 use Rattle.xm_outside.specs.Files.{ReadsFile}
 use Rattle.file_commands.specs.Ending.{Ending, Done, Usage, ReadFault, Refused, WriteFaultReport, WriteFaultFile, UartFault, NoMemory, input_text, length_text, partition_text, ticks_text}
-use Rattle.file_commands.specs.Denial.{Denial}
 use Rattle.file_commands.specs.Outcome.{Output}
 use Rattle.file_commands.specs.Work.{Outside, AreNotRead, AreNotSaved, IsNotRead, ReadsFiles, SavesAll, after_store_call, called_for}
 use Rattle.file_commands.specs.declared.ending.Refusal.{Refusal}
@@ -50,19 +49,3 @@ AreFilesRead (Err ending) files before after = AreNotRead (ending_of ending) fil
 abbrev pub AreSaved : {T : Type 0} → Result T code.Ending → List Output → Outside → Outside → Type 0
 AreSaved (Ok _) outputs before after = SavesAll None outputs before after
 AreSaved (Err ending) outputs before after = AreNotSaved (ending_of ending) outputs before after
-
--- the call ends by this refusal, or memory ran out
-abbrev pub IsDenied : {X : Type 0} → Ending → Result X Denial → Type 0
-IsDenied Done made = ⊥
-IsDenied Usage made = ⊥
-IsDenied (ReadFault file) made = ⊥
-IsDenied (Refused file text) made = made ≡ Err (record { file = file; text = text })
-IsDenied WriteFaultReport made = ⊥
-IsDenied (WriteFaultFile file) made = ⊥
-IsDenied (UartFault place) made = ⊥
-IsDenied NoMemory made = ⊤
-
--- what was made is that of the definition, and so is the refusal by which the call ends
-abbrev pub MakesOr : {X Y : Type 0} → (X → Y) → Result X code.Ending → Result Y Denial → Type 0
-MakesOr view (Ok value) made = made ≡ Ok (view value)
-MakesOr view (Err ending) made = IsDenied (ending_of ending) made

@@ -1,14 +1,11 @@
-pub mod CommandLemmas
 pub mod Denial
 pub mod Ending
 pub mod Inputs
-pub mod LaterLemmas
 pub mod Makes
 pub mod Outcome
-pub mod OutputLemmas
 pub mod Packing
-pub mod Read
 pub mod Status
 pub mod Printout
 pub mod EndingValues
 pub mod Work
+pub mod lemmas

@@ -1,5 +1,5 @@
 -- The outcome of a configuration and the images of its partitions, by the bytes of their files.
-use Rattle.std.specs.Prelude.{ℕ, List, [], ◌∷◌, map, codes, Option, Some, None, Result, Ok, Err}
+use Rattle.std.specs.Prelude.{ℕ, List, [], ◌∷◌, map, Result, Ok, Err}
 use Rattle.xm_conf.specs.Configuration.{Conf}
 use Rattle.bin_config.specs.Reading.{read_of}
 use Rattle.fault_messages.specs.Texts.{xmc_fault_text}
@@ -59,8 +59,3 @@ container_for configuration (Err fault) images = Err (denial configuration (xmc_
 -- of these: the configuration's bytes, an image's bytes in the order of the files, what the images are to the configuration
 unfoldable pub container_of : List ℕ → List ℕ → List PartFile → List (List ℕ) → Result (List ℕ) Denial
 container_of configuration bytes files contents = container_for configuration (read_of bytes) (images_of files contents)
-
--- a file that is too long is refused before any other
-abbrev pub limited : Option (List ℕ) → Result (List ℕ) Denial → Result (List ℕ) Denial
-limited None container = container
-limited (Some file) container = Err (denial file (codes "too-long"))

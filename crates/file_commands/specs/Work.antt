@@ -1,5 +1,5 @@
 -- What the program does to the outside, by cases on how it ends.
-use Rattle.std.specs.Prelude.{◌≡◌, ℕ, ◌⊎◌, List, [], ◌∷◌, ◌++◌, Option, Some, None, IsSome, Result, Ok, Err, zero, suc}
+use Rattle.std.specs.Prelude.{◌≡◌, ℕ, ◌⊎◌, List, [], ◌∷◌, ◌++◌, Option, Some, None, IsSome, zero, suc}
 use Rattle.xm_base.specs.declared.limits.TheConstants.{FILE_BYTES}
 use Rattle.xm_outside.specs.Causes.{Rose, counted}
 use Rattle.xm_outside.specs.Files.{Files, IsAbsent, OthersStay, ReadsFile, stored}
@@ -177,27 +177,6 @@ IsMisuse NoMemory before after = ⊥
 abbrev pub Works : Ending → List (List ℕ) → Option Command → Outside → Outside → Type 0
 Works ending contents None before after = IsMisuse ending before after
 Works ending contents (Some command) before after = Does ending contents command before after
-
--- what is done once the files are read: their outcome, by cases on how that ended
-abbrev pub Comes : Ending → Outcome → Outside → Outside → Type 0
-Comes Done outcome before after = (outcome.denial ≡ None) × (after ≡ did outcome before)
-Comes Usage outcome before after = ⊥
-Comes (ReadFault file) outcome before after = ⊥
-Comes (Refused file text) outcome before after =
-    (outcome.denial ≡ Some (record { file = file; text = text })) × (after ≡ did outcome before)
-Comes WriteFaultReport outcome before after =
-    Rose before.faults after.faults × GrewByPrefix before.got outcome.report after.got
-    × (after ≡ with_report after.got after.faults (wrote outcome.output before))
-Comes (WriteFaultFile file) outcome before after = IsNotSaved file outcome before after
-Comes (UartFault place) outcome before after = IsSome outcome.run × (outcome.denial ≡ None) × (after ≡ did outcome before)
-Comes NoMemory outcome before after = after ≡ before
-
--- a file is written, or it is not, and the others stay
-abbrev pub Saves : {T E : Type 0} → Result T E → Output → Outside → Outside → Type 0
-Saves (Ok _) output before after = after ≡ wrote (Some output) before
-Saves (Err _) output before after =
-    Rose before.write_faults after.write_faults × OthersStay before.files output.file after.files
-    × (after ≡ with_files after.files after.write_faults (after_store_call before))
 
 -- files are written one after another: all, or those before the first that is not
 abbrev pub SavesAll : Option (List ℕ) → List Output → Outside → Outside → Type 0

@@ -54,7 +54,7 @@ fn name_text<E: Sink>(err: &mut E, file: &str, text: &str) -> Result<(), Failed>
 }
 
 // Writes the program's name, the file's and the text.
-#[tactic(auto, using(xm_outside::specs::Growth::writes_then))]
+#[tactic(auto, using(xm_outside::specs::lemmas::GrowthLemmas::writes_then))]
 fn name_text_line<E: Sink>(
     err: &mut E,
     program: &[u8],
@@ -127,7 +127,7 @@ fn name_file<E: Sink>(err: &mut E, file: &str, rest: &[u8]) -> Result<(), Failed
 }
 
 // Writes three pieces, one after the other.
-#[tactic(auto, using(xm_outside::specs::Growth::writes_then))]
+#[tactic(auto, using(xm_outside::specs::lemmas::GrowthLemmas::writes_then))]
 fn write_three<E: Sink>(
     err: &mut E,
     first: &[u8],
@@ -142,7 +142,7 @@ fn write_three<E: Sink>(
 }
 
 // Writes two pieces, one after the other.
-#[tactic(auto, using(xm_outside::specs::Growth::writes_then))]
+#[tactic(auto, using(xm_outside::specs::lemmas::GrowthLemmas::writes_then))]
 fn write_two<E: Sink>(err: &mut E, first: &[u8], second: &[u8]) -> Result<(), Failed>
     ensures text { Writes result (E.got err.old) (first.now ++ second.now) (E.got err.new) }
     ensures cause { HasCause result (E.faults err.old) (E.faults err.new) }

@@ -7,8 +7,10 @@ ghost use Rattle.file_commands.specs.Denial.{Denial};
 ghost use Rattle.builders.specs.Makes.{Makes};
 ghost use Rattle.file_commands.specs.Makes.{IsUnmadeOf};
 ghost use Rattle.file_commands.specs.Outcome.{file_made, made_text, packed_to, outcome_of_print, text_reported};
-ghost use Rattle.file_commands.specs.EndingValues.{MakesOr, vector_bytes, ending_of};
-ghost use Rattle.file_commands.specs.Work.{Comes, Reports, outside};
+ghost use Rattle.file_commands.specs.lemmas.EndingValuesTerms.{MakesOr};
+ghost use Rattle.file_commands.specs.EndingValues.{vector_bytes, ending_of};
+ghost use Rattle.file_commands.specs.lemmas.WorkTerms.{Comes};
+ghost use Rattle.file_commands.specs.Work.{Reports, outside};
 
 use crate::ending::{Ending, Refusal};
 use builders::{Unmade, ok_line};

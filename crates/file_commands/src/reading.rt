@@ -4,7 +4,7 @@ ghost use Rattle.std.specs.Prelude.{◌≡◌, ◌∷◌, [], ℕ, List, None, O
 ghost use Rattle.file_commands.specs.Outcome.{content, first_long, name_if_any};
 ghost use Rattle.file_commands.specs.Packing.{file_names};
 ghost use Rattle.file_commands.specs.EndingValues.{AreFilesRead, IsFileRead, vector_bytes};
-ghost use Rattle.file_commands.specs.Read.{HasRead, HasReadNext};
+ghost use Rattle.file_commands.specs.lemmas.Read.{HasRead, HasReadNext};
 ghost use Rattle.file_commands.specs.Work.{Outside, outside};
 ghost use Rattle.command_line.specs.Seen.{seen_files};
 

@@ -3,7 +3,8 @@
 ghost use Rattle.std.specs.Prelude.{[], ◌∷◌};
 ghost use Rattle.file_commands.specs.Outcome.{outcome_of};
 ghost use Rattle.file_commands.specs.EndingValues.{ending_of};
-ghost use Rattle.file_commands.specs.Work.{Comes, IsDone, outside};
+ghost use Rattle.file_commands.specs.lemmas.WorkTerms.{Comes};
+ghost use Rattle.file_commands.specs.Work.{IsDone, outside};
 ghost use Rattle.command_line.specs.Words.{Upgrade};
 
 use crate::delivery::deliver;

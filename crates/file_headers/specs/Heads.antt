@@ -1,16 +1,12 @@
 -- A file with a head and a digest: the name of its format, one of its versions, the length of the whole, its fields, and the MD5 of all of them.
-use Rattle.std.specs.Prelude.{◌≡◌, ◌≢◌, ◌↔◌, ℕ, ◌-◌, Bool, ◌&&◌, nat_le, nat_lt, if◌then◌else◌, List, ◌++◌, length, take, drop, Result, Ok, Err}
-use Rattle.std.specs.Int.{w16, w32, to_be_bytes}
+use Rattle.std.specs.Prelude.{◌≡◌, ◌≢◌, ◌↔◌, ℕ, ◌-◌, Bool, ◌&&◌, nat_le, nat_lt, if◌then◌else◌, List, length, take, drop, Result, Ok, Err}
+use Rattle.std.specs.Int.{w16, w32}
 use Rattle.std.specs.Str.{bytes_eq}
 use Rattle.md5.specs.Md5.{md5}
 use Rattle.xm_base.specs.Cursor.{Place, cursor_start}
 use Rattle.file_headers.specs.Faults.{HeadFaults}
 use Rattle.file_headers.specs.Fields.{field_bytes, number_at}
 use Rattle.file_headers.specs.Steps.{◌>>=◌, unless}
-
--- the first 10 bytes: a name of four, the version, and the length of the whole
-abbrev pub lead_text : List ℕ → ℕ → ℕ → List ℕ
-lead_text name version size = name ++ to_be_bytes w16 version ++ to_be_bytes w32 size
 
 -- the name of the format, and the place after it
 unfoldable pub magic_at : {F : Type 0} → (ℕ → F) → F → List ℕ → Place → Result Place F

@@ -1,12 +1,8 @@
-pub mod DigestLemmas
 pub mod Faults
-pub mod FieldLemmas
 pub mod Fields
 pub mod Gives
-pub mod HeadLemmas
 pub mod Heads
 pub mod Known
 pub mod Lifted
-pub mod LiftedLemmas
-pub mod StepLemmas
 pub mod Steps
+pub mod lemmas

@@ -1,7 +1,8 @@
 //! The head of a file, and its digest.
 
 ghost use Rattle.std.specs.Prelude.{◌≡◌, ◌+◌, ◌-◌, ◌≤◌, IfOk, drop, length};
-ghost use Rattle.file_headers.specs.Gives.{IsRead, IsReadAt};
+ghost use Rattle.file_headers.specs.Gives.{IsRead};
+ghost use Rattle.file_headers.specs.lemmas.GivesTerms.{IsReadAt};
 ghost use Rattle.file_headers.specs.Heads.{before_digest, count_before, magic_at, stated_length, stated_version, unsealed, version_at};
 ghost use Rattle.file_headers.specs.Known.{head_faults};
 

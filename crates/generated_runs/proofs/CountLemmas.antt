@@ -7,7 +7,7 @@ use Rattle.machine_model.specs.Machine.{Machine}
 use Rattle.machine_model.specs.Structures.{flag}
 use Rattle.tick_steps.specs.Machine.{IsCounted}
 use Rattle.generated_system.specs.Generated.{all_chans, chan_of, generated_conf, conf_with}
-use Rattle.generated_runs.specs.Short.{AreShort}
+use Rattle.generated_runs.specs.lemmas.Short.{AreShort}
 
 -- each partition's clock counted at most the ticks that were begun
 pub are_short : (g : Machine) → IsCounted g → AreShort g

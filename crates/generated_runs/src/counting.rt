@@ -2,7 +2,7 @@
 
 ghost use Rattle.std.specs.Prelude.{◌≡◌, ◌<◌, ◌≤◌, ℕ, length};
 ghost use Rattle.generated_system.specs.Reported.{exec_in, waiting_in};
-ghost use Rattle.generated_runs.specs.Short.{AreShort};
+ghost use Rattle.generated_runs.specs.lemmas.Short.{AreShort};
 ghost use Rattle.span_model.specs.Passes.{part_at};
 ghost use Rattle.xm_ports.specs.Channels.{HasQueue, content_at, messages_of};
 

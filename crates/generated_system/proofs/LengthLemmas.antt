@@ -8,10 +8,10 @@ use Rattle.std.proofs.lemmas.Bool.{and_parts}
 use Rattle.bin_config.specs.Xmc.{action, area_record, belongings, body, chan, end, head, identity, monitor, part_record, plan_record, port_record, region_record, slot_record, text_field, xmc}
 use Rattle.bin_config.specs.declared.version.Version.TheVariants.{Two}
 use Rattle.xm_base.specs.declared.limits.TheConstants.{FILE_BYTES}
-use Rattle.xm_conf.specs.NameLemmas.{Decides-nat_le}
+use Rattle.xm_conf.specs.lemmas.NameLemmas.{Decides-nat_le}
 use Rattle.xef_images.specs.Image.{Image, xef_length}
 use Rattle.xef_images.specs.Spelling.{xef_text}
-use Rattle.xef_images.specs.XefLemmas.{length-xef_text}
+use Rattle.xef_images.specs.lemmas.XefLemmas.{length-xef_text}
 use Rattle.xm_container.specs.Box.{box_length, entries_text, image_entry_text, fields_text, sized_text}
 use Rattle.generated_system.specs.Generated.{all_chans, all_images, all_parts, area_start, image_bytes, chan_of, generated_conf, conf_with, first_word, generated, generated_image, generated_part, generated_plan, port_name, program_of, receiving_code, sending_code, slot_drawn, generated_slots, generated_way}
 

@@ -4,7 +4,7 @@ use Rattle.std.specs.Prelude.{nat_le, Vec}
 use Rattle.bin_config.specs.declared.version.Version.TheVariants.{Two}
 use Rattle.xm_base.specs.declared.limits.TheConstants.{FILE_BYTES}
 use Rattle.xm_conf.specs.Configuration.{Conf}
-use Rattle.xm_conf.specs.NameLemmas.{Decides-nat_le}
+use Rattle.xm_conf.specs.lemmas.NameLemmas.{Decides-nat_le}
 use Rattle.loaded_system.specs.Inside.{first_outside, has_segment, is_inside}
 use Rattle.xm_container.specs.Box.{box_length, box_text, fields_text, sealed_text}
 use Rattle.xm_container.specs.Numbers.{extra, has_id, missing}
@@ -13,7 +13,7 @@ use Rattle.fault_messages.specs.declared.fault.PackFault.{PackFault}
 use Rattle.fault_messages.specs.declared.fault.PackFault.TheVariants as variant
 use Rattle.xm_container.specs.declared.image.Image.{Image}
 use Rattle.generated_system.specs.Generated.{all_images, all_parts, area_start, image_bytes, generated_conf, conf_with, first_word, generated, generated_image, generated_part, program_of, receiving_code, sending_code}
-use Rattle.generated_system.specs.Given.{all_given, generated_given}
+use Rattle.generated_system.specs.lemmas.Given.{all_given, generated_given}
 use Rattle.generated_system.proofs.LengthLemmas.{fields_short}
 
 -- there are sixteen partitions, and an image for each

@@ -1,3 +1,3 @@
 pub mod Generated
-pub mod Given
 pub mod Reported
+pub mod lemmas

@@ -3,7 +3,7 @@
 ghost use Rattle.std.specs.Prelude.{◌≡◌, ◌<◌, ◌++◌, IfOk, OnOk};
 ghost use Rattle.std.specs.Int.{to_be_bytes, w32};
 ghost use Rattle.generated_system.specs.Generated.{image_bytes, first_word, generated_image, program_of};
-ghost use Rattle.generated_system.specs.Given.{all_given};
+ghost use Rattle.generated_system.specs.lemmas.Given.{all_given};
 
 use crate::parts::{PARTS, area_start};
 use std::alloc::Global;
@@ -59,7 +59,7 @@ const RECEIVING: [u32; 21] = [
 ];
 
 /// The images of all partitions, each with the number of its own.
-#[tactic(auto, using(crate::proofs::NumberedLemmas::numbered_more), unfolding(crate::specs::Given::all_given, crate::specs::Given::generated_given))]
+#[tactic(auto, using(crate::proofs::NumberedLemmas::numbered_more), unfolding(crate::specs::lemmas::Given::all_given, crate::specs::lemmas::Given::generated_given))]
 pub(crate) fn images(alloc: Global) -> Result<Vec<Image>, Memory>
     ensures { IfOk result (λ images. images.items ≡ all_given) }
 {

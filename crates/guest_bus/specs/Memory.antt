@@ -3,7 +3,7 @@ use Rattle.std.specs.Prelude.{ℕ, zero, suc, ◌+◌, Bool, true, ◌&&◌, not
 use Rattle.std.specs.List.{list_any}
 use Rattle.std.specs.Ordering.{nat_cmp}
 use Rattle.std.specs.Coded.{Coded, coded_ℕ}
-use Rattle.std.specs.FinMap.{FinMap, get, insert, empty, code}
+use Rattle.std.specs.FinMap.{FinMap, get, insert, code}
 
 -- a range of addresses
 pub record Area : Type 0 where
@@ -24,10 +24,6 @@ pub record Others : Type 0 where
   pub number : ℕ
   pub areas : List (List Area)
   pub memories : List Memory
-
--- a guest without others
-abbrev pub no_others : Others
-no_others = record { number = 0; areas = []; memories = [] }
 
 -- the area holds the address
 abbrev pub holds_address : ℕ → Area → Bool
@@ -59,7 +55,3 @@ bytes_at memory address (suc count) = byte_at memory address ∷ bytes_at memory
 abbrev pub with_bytes : Memory → ℕ → List ℕ → Memory
 with_bytes memory address [] = memory
 with_bytes memory address (byte ∷ bytes) = with_bytes (insert memory address byte) (suc address) bytes
-
--- a memory of these bytes from an address on, and nothing else
-unfoldable pub memory_of_bytes : ℕ → List ℕ → Memory
-memory_of_bytes address bytes = with_bytes empty address bytes

@@ -6,14 +6,15 @@ use Rattle.std.specs.FinMap.{get}
 use Rattle.std.specs.Int.{w32, byte_len, from_be_bytes, to_be_bytes}
 use Rattle.std.proofs.lemmas.Bool.Decides.{nat_tests}
 use Rattle.guest_bus.specs.Access.{Stores, access_fault, after_store, fetched, loaded, memory_unless_refused, store_fault, unless_refused, width_of}
-use Rattle.guest_bus.specs.AccessLemmas.{length-bytes_high_first}
+use Rattle.guest_bus.specs.lemmas.AccessLemmas.{length-bytes_high_first}
 use Rattle.guest_bus.specs.Memory.{Area, Memory, bytes_at, is_readable, is_writable, all_from, with_bytes}
-use Rattle.guest_bus.specs.MemoryLemmas.{all_from-each, all_from-true}
+use Rattle.guest_bus.specs.lemmas.MemoryLemmas.{all_from-each, all_from-true}
 use Rattle.guest_bus.specs.declared.bus.BusFault.{BusFault}
 use Rattle.guest_bus.specs.declared.bus.BusFault.TheVariants.{Outside, Unaligned}
 use Rattle.guest_bus.specs.declared.bus.Size.{Size}
 use Rattle.guest_bus.specs.declared.bus.Size.TheVariants.{One, Two, Four, Eight}
-use Rattle.guest_memory.specs.Flat.{Accesses, Follow, StandsInArea, IsSpace, StandsInEntry, area_in, listed, memory_in}
+use Rattle.guest_memory.specs.lemmas.FlatTerms.{Accesses, StandsInArea, IsSpace, StandsInEntry}
+use Rattle.guest_memory.specs.Flat.{Follow, area_in, listed, memory_in}
 use Rattle.guest_memory.specs.Memories.{ArePlaced, IsPlaced, areas_size}
 use Rattle.guest_memory.specs.declared.entry.Entry.{Entry}
 use Rattle.guest_memory.specs.declared.entry.Place.{Place}

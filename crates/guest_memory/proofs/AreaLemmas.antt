@@ -5,8 +5,9 @@ use Rattle.std.specs.List.{position_from}
 use Rattle.std.proofs.lemmas.Bool.{cases_lt}
 use Rattle.std.proofs.lemmas.Bool.Decides.{nat_tests}
 use Rattle.guest_bus.specs.Memory.{Area, holds_address, is_readable, is_writable}
-use Rattle.guest_bus.specs.MemoryLemmas.{covers-within}
-use Rattle.guest_memory.specs.Flat.{area_in, listed, entry_holds}
+use Rattle.guest_bus.specs.lemmas.MemoryLemmas.{covers-within}
+use Rattle.guest_memory.specs.Flat.{area_in, listed}
+use Rattle.guest_memory.specs.lemmas.FlatTerms.{entry_holds}
 use Rattle.guest_memory.specs.Memories.{AreasApart, IsPlaced}
 use Rattle.guest_memory.specs.declared.entry.Entry.{Entry}
 

@@ -8,10 +8,11 @@ use Rattle.std.proofs.lemmas.Bool.{cases_lt}
 use Rattle.std.proofs.lemmas.List.{drop-drop, drop-take, length-take-le}
 use Rattle.std.proofs.lemmas.Option.{slice_get-get_or}
 use Rattle.std.proofs.lemmas.Slice.{drop-put_mid, take-put_mid_below}
-use Rattle.guest_bus.specs.Memory.{Area, Memory, holds_address, is_readable, bytes_at, memory_of_bytes, with_bytes}
-use Rattle.guest_bus.specs.MemoryLemmas.{bytes_at-memory_of, bytes_at-same, covers-within, get-memory_of, get-with_bytes_above, get-with_bytes_below, get-with_bytes_within, same_memory, with_bytes-put_mid}
+use Rattle.guest_bus.specs.Memory.{Area, Memory, holds_address, is_readable, bytes_at, with_bytes}
+use Rattle.guest_bus.specs.lemmas.MemoryFacts.{memory_of_bytes}
+use Rattle.guest_bus.specs.lemmas.MemoryLemmas.{bytes_at-memory_of, bytes_at-same, covers-within, get-memory_of, get-with_bytes_above, get-with_bytes_below, get-with_bytes_within, same_memory, with_bytes-put_mid}
 use Rattle.guest_bus.specs.Whole.{HoldsByte, IsMemoryOf}
-use Rattle.guest_bus.specs.WholeLemmas.{no_memory}
+use Rattle.guest_bus.specs.lemmas.WholeLemmas.{no_memory}
 use Rattle.guest_memory.specs.Flat.{AllBytes, memory_in}
 use Rattle.guest_memory.specs.Memories.{AreasApart, areas_size}
 use Rattle.guest_memory.proofs.AreaLemmas.{apart_first, apart_tail, beside, covers_at, not_both}

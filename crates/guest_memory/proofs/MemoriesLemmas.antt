@@ -8,7 +8,8 @@ use Rattle.std.proofs.lemmas.Slice.{take-put_mid_below}
 use Rattle.xm_conf.specs.Limits.{most_parts}
 use Rattle.guest_bus.specs.Memory.{Area, Memory, bytes_at}
 use Rattle.guest_bus.specs.Whole.{IsMemoryOf}
-use Rattle.guest_memory.specs.Flat.{AllBytes, AreFlat, AreTables, Follow, IsPartOf, IsSpace, IsMemoryTable, SameAround, Table, areas_of_tables, listed, maps_in, memories_in, memory_in, memory_of_part, bytes_of_part}
+use Rattle.guest_memory.specs.Flat.{AllBytes, AreFlat, AreTables, Follow, IsMemoryTable, Table, areas_of_tables, listed, maps_in, memories_in, memory_in}
+use Rattle.guest_memory.specs.lemmas.FlatTerms.{IsPartOf, IsSpace, SameAround, memory_of_part, bytes_of_part}
 use Rattle.guest_memory.specs.Memories.{AreasApart, AreMemories, ArePlaced, HasAreas, HasBytes, Memories, SameElsewhere, areas_at, map_at, others_of, place_at, areas_size, whole_size, with_map}
 use Rattle.guest_memory.specs.declared.entry.Entry.{Entry}
 use Rattle.guest_memory.proofs.FlatLemmas.{bytes-drop, bytes-take, bytes_at-memory_in, drop-put_after, ends_within, get-memory_in, slice_get-drop, slice_get-take, whole_in}

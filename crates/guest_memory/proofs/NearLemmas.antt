@@ -6,12 +6,14 @@ use Rattle.std.specs.Int.{w32, byte_len, from_be_bytes, to_be_bytes}
 use Rattle.std.proofs.lemmas.List.{drop-drop, length-map, length-take-le}
 use Rattle.std.proofs.lemmas.Slice.{drop-put_mid, take-put_mid_below}
 use Rattle.guest_bus.specs.Access.{fetched, loaded, store_fault, width_of}
-use Rattle.guest_bus.specs.AccessLemmas.{length-bytes_high_first}
+use Rattle.guest_bus.specs.lemmas.AccessLemmas.{length-bytes_high_first}
 use Rattle.guest_bus.specs.declared.bus.Size.{Size}
 use Rattle.guest_bus.specs.declared.bus.Size.TheVariants.{Four}
-use Rattle.guest_memory.specs.Flat.{StandsInArea, IsPartOf, StandsInEntry, Table, area_in, areas_of_tables, listed, memory_of_part, bytes_of_part}
+use Rattle.guest_memory.specs.lemmas.FlatTerms.{StandsInArea, IsPartOf, StandsInEntry, memory_of_part, bytes_of_part}
+use Rattle.guest_memory.specs.Flat.{Table, area_in, areas_of_tables, listed}
 use Rattle.guest_memory.specs.Memories.{areas_size}
-use Rattle.guest_memory.specs.Near.{AreNear, AreReady, AreSpots, AreWithin, FitsIn, IsSpotOf, IsNear, IsStored, area_there, near_of, spot_of}
+use Rattle.guest_memory.specs.Near.{AreNear, AreReady, near_of, spot_of}
+use Rattle.guest_memory.specs.lemmas.NearTerms.{AreSpots, AreWithin, FitsIn, IsSpotOf, IsNear, IsStored, area_there}
 use Rattle.guest_memory.specs.declared.entry.Entry.{Entry}
 use Rattle.guest_memory.specs.declared.entry.Place.{Place}
 use Rattle.guest_memory.specs.declared.near.Found.{Found}

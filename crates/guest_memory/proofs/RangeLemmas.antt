@@ -7,9 +7,11 @@ use Rattle.std.proofs.lemmas.List.{take_rest}
 use Rattle.std.proofs.lemmas.Slice.{take-put_mid}
 use Rattle.std.specs.FinMap.{insert}
 use Rattle.guest_bus.specs.Memory.{Area, Memory, holds_address, is_readable, all_from, bytes_at, with_bytes}
-use Rattle.guest_bus.specs.MemoryLemmas.{all_from-each, all_from-true, length-bytes_at}
-use Rattle.guest_memory.specs.Flat.{StandsInArea, IsSpace, StandsInEntry, area_in, listed, memory_in}
-use Rattle.guest_memory.specs.Memories.{ArePlaced, allows_byte, first_refused, refuses}
+use Rattle.guest_bus.specs.lemmas.MemoryLemmas.{all_from-each, all_from-true, length-bytes_at}
+use Rattle.guest_memory.specs.lemmas.FlatTerms.{StandsInArea, IsSpace, StandsInEntry}
+use Rattle.guest_memory.specs.Flat.{area_in, listed, memory_in}
+use Rattle.guest_memory.specs.Memories.{ArePlaced, first_refused}
+use Rattle.guest_memory.specs.lemmas.MemoriesTerms.{allows_byte, refuses}
 use Rattle.guest_memory.specs.declared.access.Access.{Access}
 use Rattle.guest_memory.specs.declared.access.Access.TheVariants.{Read, Write}
 use Rattle.guest_memory.specs.declared.entry.Entry.{Entry}

@@ -4,7 +4,7 @@ use Rattle.std.specs.Prelude.{Any}
 use Rattle.std.specs.List.{AllByRecursion}
 use Rattle.std.proofs.lemmas.List.Folds.{list_any-from_Any}
 use Rattle.guest_bus.specs.Memory.{Area, Memory, all_from, holds_address, is_readable, with_bytes}
-use Rattle.guest_bus.specs.MemoryLemmas.{all_from-true}
+use Rattle.guest_bus.specs.lemmas.MemoryLemmas.{all_from-true}
 use Rattle.xef_images.specs.Image.{Image, IsImage, IsSegment, Segment}
 use Rattle.guest_memory.specs.Loading.{HoldsSegment, LiesInAreas, with_segments}
 use Rattle.guest_memory.proofs.AreaLemmas.{covers_at}

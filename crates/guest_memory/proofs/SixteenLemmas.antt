@@ -6,13 +6,15 @@ use Rattle.std.specs.Prelude.{IfSome, slice_get, slice_index}
 use Rattle.std.specs.Int.{w32, w64, from_be_bytes, to_be_bytes}
 use Rattle.std.proofs.lemmas.List.{get_or-drop, get_or-take, take_more}
 use Rattle.std.proofs.lemmas.Slice.{take-put_mid}
-use Rattle.guest_bus.specs.AccessLemmas.{length-bytes_high_first, length-bytes_of}
+use Rattle.guest_bus.specs.lemmas.AccessLemmas.{length-bytes_high_first, length-bytes_of}
 use Rattle.guest_bus.specs.Memory.{Area, Memory, bytes_at, is_readable, is_writable, with_bytes}
-use Rattle.guest_bus.specs.MemoryLemmas.{all_from-true}
+use Rattle.guest_bus.specs.lemmas.MemoryLemmas.{all_from-true}
 use Rattle.guest_bus.specs.Words.{MayStand, allows, bytes_of, words_at}
-use Rattle.guest_memory.specs.Flat.{AllBytes, AreFlat, StandsInArea, IsPartOf, StandsInEntry, Table, area_in, areas_of_tables, listed, memories_in, memory_in, memory_of_part, bytes_of_part}
+use Rattle.guest_memory.specs.Flat.{AllBytes, AreFlat, Table, area_in, areas_of_tables, listed, memories_in, memory_in}
+use Rattle.guest_memory.specs.lemmas.FlatTerms.{StandsInArea, IsPartOf, StandsInEntry, memory_of_part, bytes_of_part}
 use Rattle.guest_memory.specs.Memories.{areas_at, map_at, others_of}
-use Rattle.guest_memory.specs.Near.{AreRead, AreWithin, AreWritten, FitsIn, HasPart, IsNearPart, near_of, spot_of}
+use Rattle.guest_memory.specs.lemmas.NearTerms.{AreRead, AreWithin, AreWritten, FitsIn, HasPart, IsNearPart}
+use Rattle.guest_memory.specs.Near.{near_of, spot_of}
 use Rattle.guest_memory.specs.declared.entry.Entry.{Entry}
 use Rattle.guest_memory.specs.declared.entry.Place.{Place}
 use Rattle.guest_memory.specs.declared.near.Found.{Found}

@@ -9,7 +9,7 @@ use Rattle.std.proofs.lemmas.List.{drop-replicate, get_or-replicate, length-repl
 use Rattle.std.proofs.lemmas.Option.{slice_get-get_or}
 use Rattle.xm_conf.specs.Limits.{most_parts}
 use Rattle.guest_bus.specs.Memory.{Area, Memory, holds_address, is_readable, with_bytes}
-use Rattle.guest_bus.specs.MemoryLemmas.{get-with_bytes_above, get-with_bytes_below, get-with_bytes_within, same_memory}
+use Rattle.guest_bus.specs.lemmas.MemoryLemmas.{get-with_bytes_above, get-with_bytes_below, get-with_bytes_within, same_memory}
 use Rattle.guest_memory.specs.Flat.{AllBytes, AreFlat, AreTables, Table, areas_of_tables, maps_in, memories_in, memory_in}
 use Rattle.guest_memory.specs.Loading.{with_zeros, zeros_in}
 use Rattle.guest_memory.specs.Memories.{ArePlaced, areas_size, whole_size}

@@ -1,11 +1,9 @@
 -- The memories of all partitions, and where an access to one of them is refused.
-use Rattle.std.specs.Prelude.{◌≡◌, ◌≢◌, ℕ, zero, suc, ◌+◌, ◌-◌, ◌%◌, ◌^◌, ◌<◌, ◌≤◌, ◌⊎◌, Bool, false, if◌then◌else◌, nat_lt, List, [], ◌∷◌, length, take, drop, slice_get, slice_index_or, slice_set, remove, All, AllPairs, Option, None, Some, Result, Ok, Err}
+use Rattle.std.specs.Prelude.{◌≡◌, ◌≢◌, ℕ, zero, suc, ◌+◌, ◌-◌, ◌%◌, ◌^◌, ◌<◌, ◌≤◌, ◌⊎◌, Bool, if◌then◌else◌, nat_lt, List, [], ◌∷◌, length, take, drop, slice_get, slice_index_or, slice_set, remove, All, AllPairs, Option, None, Some, Result, Ok, Err}
 use Rattle.std.specs.FinMap.{empty, get}
 use Rattle.xm_conf.specs.Limits.{most_parts}
-use Rattle.guest_bus.specs.Memory.{Area, Memory, Others, bytes_at, is_readable, is_writable}
+use Rattle.guest_bus.specs.Memory.{Area, Memory, Others, bytes_at}
 use Rattle.guest_bus.specs.Whole.{IsMemoryOf}
-use Rattle.guest_memory.specs.declared.access.Access.{Access}
-use Rattle.guest_memory.specs.declared.access.Access.TheVariants.{Read, Write}
 use Rattle.guest_memory.specs.declared.outside.Outside.{Outside}
 
 -- the memories of all partitions by the partitions' numbers: the areas and the bytes of each, and the one that is selected
@@ -90,16 +88,6 @@ abbrev pub HasAreas : Memories → List ℕ → Type 0
 HasAreas memories whole =
     (p k : ℕ) (area : Area) → slice_get (areas_at p memories) k ≡ Some area
     → bytes_at (map_at p memories) area.start area.size ≡ take area.size (drop (place_at p k memories) whole)
-
--- whether an access to the byte at an address is allowed
-abbrev pub allows_byte : Access → List Area → ℕ → Bool
-allows_byte Read areas = is_readable areas
-allows_byte Write areas = is_writable areas
-
--- whether an access is refused in an area that may only be read, or in one that may be written
-abbrev pub refuses : Access → Bool → Bool
-refuses Read read_only = false
-refuses Write read_only = read_only
 
 -- the first of this many addresses from one on that is not allowed
 abbrev pub first_refused : (ℕ → Bool) → ℕ → ℕ → Option ℕ

@@ -1,7 +1,7 @@
 //! What is done to a byte.
 
 ghost use Rattle.std.specs.Prelude.{◌≡◌};
-ghost use Rattle.guest_memory.specs.Memories.{refuses};
+ghost use Rattle.guest_memory.specs.lemmas.MemoriesTerms.{refuses};
 
 /// What is done to a byte.
 #[derive(Clone, Copy, Debug, PartialEq, Eq)]

@@ -1,7 +1,8 @@
 //! Where an area's bytes lie.
 
 ghost use Rattle.std.specs.Prelude.{◌≡◌, true};
-ghost use Rattle.guest_memory.specs.Flat.{StandsInEntry, area_in, entry_holds};
+ghost use Rattle.guest_memory.specs.lemmas.FlatTerms.{StandsInEntry, entry_holds};
+ghost use Rattle.guest_memory.specs.Flat.{area_in};
 ghost use Rattle.guest_memory.specs.Loading.{area_of};
 
 use xm_conf::Area;

@@ -3,7 +3,8 @@
 ghost use Rattle.std.specs.Prelude.{◌≡◌, ◌<◌, ◌↔◌, false, IfSome, IsNone, length, take};
 ghost use Rattle.std.specs.List.{position_from};
 ghost use Rattle.guest_bus.specs.Memory.{is_readable};
-ghost use Rattle.guest_memory.specs.Flat.{Follow, StandsInArea, entry_holds, listed};
+ghost use Rattle.guest_memory.specs.Flat.{Follow, listed};
+ghost use Rattle.guest_memory.specs.lemmas.FlatTerms.{StandsInArea, entry_holds};
 ghost use Rattle.guest_memory.specs.Memories.{areas_size};
 
 use crate::entry::{Entry, Place};

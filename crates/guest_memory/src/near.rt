@@ -3,8 +3,10 @@
 ghost use Rattle.std.specs.Prelude.{◌≡◌, ◌+◌, ◌<◌, ◌≤◌, ◌^◌, true, false, IfSome, Ok, slice_get};
 ghost use Rattle.std.specs.Bool.{OnTrue};
 ghost use Rattle.guest_bus.specs.Access.{fetched, loaded};
-ghost use Rattle.guest_memory.specs.Flat.{AllBytes, IsPartOf, Table as Placed, listed, memory_of_part};
-ghost use Rattle.guest_memory.specs.Near.{AreRead, AreSpots, AreWithin, AreWritten, HasPart, IsSpot, IsSpotOf, IsNear, IsNearPart, IsStored, near_in, near_of, spot_of};
+ghost use Rattle.guest_memory.specs.Flat.{AllBytes, Table as Placed, listed};
+ghost use Rattle.guest_memory.specs.lemmas.FlatTerms.{IsPartOf, memory_of_part};
+ghost use Rattle.guest_memory.specs.lemmas.NearTerms.{AreRead, AreSpots, AreWithin, AreWritten, HasPart, IsSpot, IsSpotOf, IsNear, IsNearPart, IsStored};
+ghost use Rattle.guest_memory.specs.Near.{near_in, near_of, spot_of};
 
 use crate::bytes::{get_words, put_value, put_words, value_at, word};
 use crate::entry::Entry;

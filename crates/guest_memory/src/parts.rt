@@ -3,7 +3,8 @@
 ghost use Rattle.std.specs.Prelude.{◌≡◌, ◌<◌, OnErr, OnOk, length};
 ghost use Rattle.guest_bus.specs.Access.{Stores, after_store, store_fault};
 ghost use Rattle.guest_bus.specs.Memory.{is_writable, with_bytes};
-ghost use Rattle.guest_memory.specs.Flat.{AllBytes, IsPartOf, SameAround, listed, memory_of_part};
+ghost use Rattle.guest_memory.specs.Flat.{AllBytes, listed};
+ghost use Rattle.guest_memory.specs.lemmas.FlatTerms.{IsPartOf, SameAround, memory_of_part};
 ghost use Rattle.guest_memory.specs.Loading.{LiesInAreas, areas_with_image};
 ghost use Rattle.guest_memory.specs.Memories.{answer_by, first_refused};
 ghost use Rattle.guest_memory.specs.Near.{near_of};

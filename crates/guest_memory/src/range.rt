@@ -3,9 +3,11 @@
 ghost use Rattle.std.specs.Prelude.{◌≡◌, ◌+◌, ◌<◌, ◌≤◌, ◌^◌, true, false, IfSome, IsNone, length, take};
 ghost use borrow.Rule.Slice.PartMut.{put_mid};
 ghost use Rattle.guest_bus.specs.Memory.{all_from, bytes_at, is_readable, with_bytes};
-ghost use Rattle.guest_memory.specs.Flat.{IsSpace, listed, memory_in};
+ghost use Rattle.guest_memory.specs.lemmas.FlatTerms.{IsSpace};
+ghost use Rattle.guest_memory.specs.Flat.{listed, memory_in};
 ghost use Rattle.guest_memory.specs.Loading.{LiesInAreas, areas_with_image};
-ghost use Rattle.guest_memory.specs.Memories.{ArePlaced, allows_byte, first_refused};
+ghost use Rattle.guest_memory.specs.Memories.{ArePlaced, first_refused};
+ghost use Rattle.guest_memory.specs.lemmas.MemoriesTerms.{allows_byte};
 
 use crate::access::Access;
 use crate::bytes::{clear, part, write_at};

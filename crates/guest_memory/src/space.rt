@@ -5,7 +5,8 @@ ghost use Rattle.std.specs.FinMap.{get};
 ghost use Rattle.std.specs.Int.{byte_len};
 ghost use Rattle.guest_bus.specs.Access.{Stores, after_store, fetched, loaded, store_fault, width_of};
 ghost use Rattle.guest_bus.specs.Memory.{bytes_at, is_readable, is_writable, with_bytes};
-ghost use Rattle.guest_memory.specs.Flat.{AllBytes, IsSpace, FindsPlace, listed, memory_in};
+ghost use Rattle.guest_memory.specs.Flat.{AllBytes, listed, memory_in};
+ghost use Rattle.guest_memory.specs.lemmas.FlatTerms.{IsSpace, FindsPlace};
 ghost use Rattle.guest_memory.specs.Memories.{ArePlaced, answer_by, first_refused};
 
 use crate::access::Access;

@@ -8,8 +8,8 @@ use Rattle.system_state.specs.State.{SysState, with_machine}
 use Rattle.system_state.specs.declared.served.Note.{Note}
 use Rattle.system_state.specs.declared.served.Note.TheVariants as note
 use Rattle.system_state.specs.declared.served.Served as code
-use Rattle.tick_steps.specs.PartLemmas.{part_put_back}
-use Rattle.machine_model.specs.ListLemmas.{each_counted as each_length}
+use Rattle.tick_steps.specs.lemmas.PartLemmas.{part_put_back}
+use Rattle.machine_model.specs.lemmas.ListLemmas.{each_counted as each_length}
 use Rattle.machine_model.specs.Caller.{Acts, Meets, Served, Upshot}
 use Rattle.machine_model.specs.Health.{Worked, quiet, self_ordered}
 use Rattle.machine_model.specs.Hypercalls.{served}
@@ -27,18 +27,19 @@ use Rattle.virt_traps.specs.Virtual.{raised}
 use Rattle.xm_report.specs.Report.{ReportLine}
 use Rattle.xm_traces.specs.Ring.{Kept, noted}
 use Rattle.xm_traces.specs.declared.entry.TraceEntry.{TraceEntry}
-use Rattle.tick_steps.specs.Work.{AsksAtMost, IsPartDone, IsNotedBy, ReachIsUponOne, IsTickWorked, EmitsAlone, act_beyond, console_emissions, trace_emissions}
+use Rattle.tick_steps.specs.Work.{AsksAtMost, IsPartDone, IsNotedBy, ReachIsUponOne, IsTickWorked, EmitsAlone, act_beyond, console_emissions}
+use Rattle.tick_steps.specs.lemmas.WorkTerms.{trace_emissions}
 use Rattle.tick_steps.specs.declared.beyond.Beyond.{Beyond}
 use Rattle.tick_steps.specs.declared.beyond.Beyond.TheVariants as beyond
 use Rattle.system_state.specs.declared.served.Act.TheVariants as act
 use Rattle.xm_base.specs.declared.partition.Order.{Order}
-use Rattle.tick_steps.specs.HealthLemmas.{silent}
-use Rattle.tick_steps.specs.InstructionLemmas.{handled_still}
+use Rattle.tick_steps.specs.lemmas.HealthLemmas.{silent}
+use Rattle.tick_steps.specs.lemmas.InstructionLemmas.{handled_still}
 use Rattle.hypercalls.proofs.MildLemmas.{Mild, served_mild}
 use Rattle.hypercalls.proofs.ServedLemmas.{kept_parts, served_keeps}
-use Rattle.tick_steps.specs.ReachLemmas.{no_traffic, one_before, reach_untraded}
-use Rattle.tick_steps.specs.WorkLemmas.{done_then, put_there}
-use Rattle.tick_steps.specs.ListLemmas.{at_each_set, set_each_set}
+use Rattle.tick_steps.specs.lemmas.ReachLemmas.{no_traffic, one_before, reach_untraded}
+use Rattle.tick_steps.specs.lemmas.WorkLemmas.{done_then, put_there}
+use Rattle.tick_steps.specs.lemmas.ListLemmas.{at_each_set, set_each_set}
 use Rattle.xm_conf.specs.Configuration.{Conf}
 
 -- an interrupt that becomes pending, and a tick that is counted

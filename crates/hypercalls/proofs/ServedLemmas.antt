@@ -18,12 +18,12 @@ use Rattle.xm_ports.specs.Ports.{created_over}
 use Rattle.xm_ports.specs.declared.ports.CreateFault.{CreateFault}
 use Rattle.xm_traces.specs.Ring.{Kept}
 use Rattle.machine_model.specs.Caller.{Acts, Caller, Served, Test, answering, b_of, invalid_parameter, no_action, not_available, room, tested, text, unknown_call, with_answer, with_written}
-use Rattle.machine_model.specs.CallLemmas.{every_effect}
+use Rattle.machine_model.specs.lemmas.CallLemmas.{every_effect}
 use Rattle.machine_model.specs.Effects.{ArmsTimer, CallEffect, ChangesOwn, CreatesPort, DoesToAll, EntersTrace, GivesAnswer, GivesOrder, GoesBack, MeetsEvent, OwnChange, PrintsBytes, PutsBytes, RequestsPlan, SendsSignal, SetsBase, SetsCodes, SetsMask, ShowsPort, ShowsSample, SpillsWindows, TakesMessage, UsesInput, Waits, Writing, comes_to, putting_bytes, queue_room, right_tests, with_change, with_writings}
 use Rattle.machine_model.specs.Hypercalls.{served}
 use Rattle.machine_model.specs.Partition.{PartitionState, areas_of}
-use Rattle.machine_model.specs.PortCalls.{MadePort, by_created, creating, destination_only, first_read, held_read, made_port, message_read, on_port, sample_read, shape_at, size_fits, source_only}
-use Rattle.machine_model.specs.ProcessorCalls.{by_flush, by_return, flushed, input_read}
+use Rattle.machine_model.specs.PortEffects.{MadePort, by_created, creating, destination_only, first_read, held_read, made_port, message_read, on_port, sample_read, shape_at, size_fits, source_only}
+use Rattle.machine_model.specs.OwnEffects.{by_flush, by_return, flushed, input_read}
 use Rattle.machine_model.specs.Emission.{Nothing}
 
 -- what a call keeps of its partition

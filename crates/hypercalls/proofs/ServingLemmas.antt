@@ -12,7 +12,7 @@ use Rattle.system_state.specs.Serving.{IsServed, caller_of}
 use Rattle.system_state.specs.State.{SysState}
 use Rattle.system_state.specs.declared.call_site.CallSite.{CallSite}
 use Rattle.system_state.specs.declared.served.Served as code
-use Rattle.system_state.specs.SightLemmas.{shown_for, sight_of_number}
+use Rattle.system_state.specs.lemmas.SightLemmas.{shown_for, sight_of_number}
 
 -- a call of this number observes nothing
 abbrev pub ObservesNothing : ℕ → Type 0

@@ -12,7 +12,8 @@ ghost use Rattle.machine_model.specs.Emission.{Upon, line_of};
 ghost use Rattle.machine_model.specs.View.{view_of};
 ghost use Rattle.span_model.specs.Passes.{part_at};
 ghost use Rattle.xm_ports.specs.Channels.{shapes_of};
-ghost use Rattle.tick_steps.specs.Work.{IsPartDone, IsNotedBy, ReachIsUponOne, IsTickWorked, EmitsAlone, act_beyond, note_in, reach_in, trace_emissions};
+ghost use Rattle.tick_steps.specs.Work.{IsPartDone, IsNotedBy, ReachIsUponOne, IsTickWorked, EmitsAlone, act_beyond, note_in, reach_in};
+ghost use Rattle.tick_steps.specs.lemmas.WorkTerms.{trace_emissions};
 
 use crate::serving::serve;
 use system_state::{Act, Note, Served, Sys, engine};

@@ -8,7 +8,7 @@ ghost use Rattle.span_model.specs.Passes.{part_at};
 ghost use Rattle.sparc_step.specs.Registers.{register_at};
 ghost use Rattle.xm_ports.specs.Channels.{shapes_of};
 ghost use Rattle.system_state.specs.Serving.{IsCaller, IsServed, caller_at, caller_of};
-ghost use Rattle.hypercalls.specs.Numbered.{IsNumbered};
+ghost use Rattle.hypercalls.specs.lemmas.Numbered.{IsNumbered};
 
 use control_calls::{
     clear_irqmask, flush_regwin, get_partition_status, get_plan_status, get_self,

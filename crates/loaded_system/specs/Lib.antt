@@ -1,4 +1,4 @@
 pub mod Bare
 pub mod Inside
-pub mod InsideLemmas
 pub mod System
+pub mod lemmas

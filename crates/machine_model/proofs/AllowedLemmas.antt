@@ -12,7 +12,7 @@ use Rattle.xm_conf.specs.View.{counts_seen, is_system, sees}
 use Rattle.xm_ports.specs.Channels.{Content, Shape, first_message}
 use Rattle.xm_traces.specs.Ring.{entry_at}
 use Rattle.machine_model.specs.Allowed.{AllowsTraffic, AnswersCalls, HearsWhatIsAllowed, IsAnswerTo, IsForEntry, TakesMore}
-use Rattle.machine_model.specs.EndLemmas.{its_channel_is, view_channel}
+use Rattle.machine_model.specs.lemmas.EndLemmas.{its_channel_is, view_channel}
 use Rattle.machine_model.specs.Facts.{IsComplete}
 use Rattle.machine_model.specs.Laws.{HasLength}
 use Rattle.machine_model.specs.Lists.{is_number}
@@ -24,7 +24,7 @@ use Rattle.machine_model.specs.Structures.{counts_bytes, health_bytes, partition
 use Rattle.machine_model.specs.Emission.{NotKept, Sight, Unseen, Words}
 use Rattle.machine_model.specs.Traffic.{Puts, Signals, Still, Takes, Traffic, content_if, heard_as, own_puts_at, own_signals_at, own_takes_at}
 use Rattle.machine_model.specs.View.{PartitionView, PortChannel, linked, name_of, view_of}
-use Rattle.machine_model.specs.NameLemmas.{name_is, name_named}
+use Rattle.machine_model.specs.lemmas.NameLemmas.{name_is, name_named}
 use Rattle.machine_model.proofs.ObservingLemmas.{asks_by_flag, asks_other, by_number, shows_its_size}
 use Rattle.machine_model.proofs.ShapeFactLemmas.{FitsChannels, copy_there, tick_traffic}
 use Rattle.machine_model.proofs.WorkTickLemmas.{have_loads}

@@ -1,6 +1,6 @@
 -- The rows on hypercalls: each is the run by its words.
 use Rattle.std.proofs.Common.{ℕ, List, [], ◌∷◌, Option, Some, refl}
-use Rattle.machine_model.specs.CallRows.{CountsWarm, HaltsAnother, IsRefusedAnother, KeepsLogsCold, OrdersNone, ResetsAnother, ResumesAnother, ResumesNothing, SeesAnother, ShutsDownAnother, SuspendsAnother}
+use Rattle.machine_model.specs.rows.CallRows.{CountsWarm, HaltsAnother, IsRefusedAnother, KeepsLogsCold, OrdersNone, ResetsAnother, ResumesAnother, ResumesNothing, SeesAnother, ShutsDownAnother, SuspendsAnother}
 use Rattle.machine_model.proofs.Computing.{computing}
 use Rattle.machine_model.proofs.WordLemmas.{leaves_words, prints_words}
 

@@ -4,7 +4,7 @@ use Rattle.std.specs.Prelude.{slice_get, slice_index_or, ◌==◌, ◌-◌, nat_
 use Rattle.std.proofs.lemmas.Bool.Decides.{nat_tests}
 use Rattle.std.proofs.lemmas.List.Elements.{All-head, All-tail}
 use Rattle.cyclic_plans.specs.PlanClock.{AsksPlan, CyclicClock, IsInFrame, ended, ends_frame, frame_from, in_maintenance, next_plan, started as clock_started}
-use Rattle.cyclic_plans.specs.PlanLemmas.{begins_in_frame}
+use Rattle.cyclic_plans.specs.lemmas.PlanLemmas.{begins_in_frame}
 use Rattle.cyclic_plans.specs.Slots.{frame_of}
 use Rattle.health_monitor.specs.Monitor.{action_in}
 use Rattle.xm_conf.specs.Along.{each_from}
@@ -17,7 +17,7 @@ use Rattle.xm_conf.specs.declared.health.Action.{Action}
 use Rattle.xm_conf.specs.declared.health.Action.TheVariants as action
 use Rattle.xm_conf.specs.declared.health.Event.{Event}
 use Rattle.xm_ports.specs.Channels.{Content}
-use Rattle.machine_model.specs.TickLemmas.{step_halted, step_runs}
+use Rattle.machine_model.specs.lemmas.TickLemmas.{step_halted, step_runs}
 use Rattle.machine_model.specs.Facts.{BootsClocked, IsClocked, KeepsClocked, RunsClocked}
 use Rattle.machine_model.specs.Machine.{Machine, SlotTurn, act_of, after, clock_after, copies, happened, happened_by, local, local_in, local_of, next_clock, run, sight_of_state, start, step, taken_by, turn_of}
 use Rattle.machine_model.specs.OwnActs.{IsWithinOwn}

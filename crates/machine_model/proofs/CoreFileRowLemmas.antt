@@ -1,7 +1,7 @@
 -- The rows on the core file: each is computed.
 use Rattle.std.proofs.Common.{refl}
 use Rattle.machine_model.specs.CoreFile.{core_file, processor_bytes, standing_bytes}
-use Rattle.machine_model.specs.CoreFileRows.{CoreFileRows}
+use Rattle.machine_model.specs.rows.CoreFileRows.{CoreFileRows}
 use Rattle.machine_model.proofs.Computing.{computing}
 
 pub core_file_rows : CoreFileRows

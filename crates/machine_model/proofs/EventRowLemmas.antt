@@ -1,6 +1,6 @@
 -- The rows on health events: each is computed.
 use Rattle.std.proofs.Common.{refl}
-use Rattle.machine_model.specs.EventRows.{ActionRows, DeliveryRows, EventsPassOver, RaisedRows, TrapsHaveEvents, UndoneRows}
+use Rattle.machine_model.specs.rows.EventRows.{ActionRows, DeliveryRows, EventsPassOver, RaisedRows, TrapsHaveEvents, UndoneRows}
 use Rattle.machine_model.proofs.Computing.{computing}
 
 pub traps_have_events : TrapsHaveEvents

@@ -5,16 +5,16 @@ use Rattle.std.specs.Int.{from_be_bytes, to_be_bytes, w32}
 use Rattle.std.proofs.lemmas.Nat.{from_be_bytes-to_be_bytes_4}
 use Rattle.guest_bus.specs.Access.{access_fault, fetched, unless_refused}
 use Rattle.guest_bus.specs.Memory.{Memory, bytes_at, is_readable, with_bytes}
-use Rattle.guest_bus.specs.MemoryLemmas.{bytes_at-with_bytes, bytes_at-with_bytes_apart}
+use Rattle.guest_bus.specs.lemmas.MemoryLemmas.{bytes_at-with_bytes, bytes_at-with_bytes_apart}
 use Rattle.xm_conf.specs.Configuration.{Part}
 use Rattle.guest_memory.specs.Loading.{area_of}
-use Rattle.machine_model.specs.Rows.{CanHold, Holds, HoldsAll, plain_part, with_words}
-use Rattle.machine_model.specs.CallRows.{caller}
-use Rattle.machine_model.specs.HealthRows.{part_with_action, raise_words, raising}
-use Rattle.machine_model.specs.SlotRows.{first_part, loop_words, planner, second_part}
-use Rattle.machine_model.specs.TrapRows.{saver, saves, stray_load}
-use Rattle.machine_model.specs.WholeRows.{other_caller}
-use Rattle.machine_model.specs.WordRows.{WordsCanBeHeld}
+use Rattle.machine_model.specs.rows.Rows.{CanHold, Holds, HoldsAll, plain_part, with_words}
+use Rattle.machine_model.specs.rows.CallRows.{caller}
+use Rattle.machine_model.specs.rows.HealthRows.{part_with_action, raise_words, raising}
+use Rattle.machine_model.specs.rows.SlotRows.{first_part, loop_words, planner, second_part}
+use Rattle.machine_model.specs.rows.TrapRows.{saver, saves, stray_load}
+use Rattle.machine_model.specs.rows.WholeRows.{other_caller}
+use Rattle.machine_model.specs.rows.WordRows.{WordsCanBeHeld}
 
 -- each of these is a word, and may be fetched at its address
 abbrev MayBeFetched : Part → ℕ → List ℕ → Type 0

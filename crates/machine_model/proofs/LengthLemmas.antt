@@ -5,7 +5,7 @@ use Rattle.guest_bus.specs.Memory.{all_from, is_writable}
 use Rattle.xm_conf.specs.Description.{described}
 use Rattle.xm_conf.specs.Fits.{Fits, IsChan}
 use Rattle.xm_ports.specs.Channels.{Shape}
-use Rattle.machine_model.specs.EndLemmas.{all_at, its_channel_is, view_channel}
+use Rattle.machine_model.specs.lemmas.EndLemmas.{all_at, its_channel_is, view_channel}
 use Rattle.machine_model.specs.Facts.{HasFacts}
 use Rattle.machine_model.specs.Laws.{HasLength}
 use Rattle.machine_model.specs.Lengths.{PutsAtMost, PutsFewBytes, ShowsAtMost, ShowsFewBytes}

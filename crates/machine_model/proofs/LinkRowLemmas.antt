@@ -1,7 +1,7 @@
 -- The rows on links.
 use Rattle.std.proofs.Common.{◌≡◌, ℕ, [], ◌∷◌, List, Option, Some, None, refl, sym, ap, ◌∙◌}
 use Rattle.machine_model.specs.Cue.{cue, cue_in}
-use Rattle.machine_model.specs.LinkRows.{ReceivesTraffic, LinkCallRows, LinkRows, SignalIsDelivered, SignalRows, SignalsHalted, SignalsNotBack, SignalsOther}
+use Rattle.machine_model.specs.rows.LinkRows.{ReceivesTraffic, LinkCallRows, LinkRows, SignalIsDelivered, SignalRows, SignalsHalted, SignalsNotBack, SignalsOther}
 use Rattle.machine_model.specs.Machine.{Machine}
 use Rattle.machine_model.specs.Emission.{OwnTraffic}
 use Rattle.machine_model.proofs.Computing.{computing}

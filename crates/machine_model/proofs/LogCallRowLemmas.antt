@@ -1,6 +1,6 @@
 -- The rows on calls 24 to 29: each is computed.
 use Rattle.std.proofs.Common.{refl}
-use Rattle.machine_model.specs.LogCallRows.{LogCallRows}
+use Rattle.machine_model.specs.rows.LogCallRows.{LogCallRows}
 use Rattle.machine_model.proofs.Computing.{computing}
 
 pub log_call_rows : LogCallRows

@@ -3,12 +3,12 @@ use Rattle.std.proofs.Common.{◌≡◌, ℕ, zero, suc, ◌≤◌, Bool, true, 
 use Rattle.std.specs.Prelude.{map}
 use Rattle.std.proofs.lemmas.List.{length-map}
 use Rattle.xm_ports.specs.Channels.{empty, shape_of, shapes_of}
-use Rattle.machine_model.specs.TickLemmas.{step_halted, step_runs}
+use Rattle.machine_model.specs.lemmas.TickLemmas.{step_halted, step_runs}
 use Rattle.machine_model.specs.Facts.{BootsComplete, BootsTimed, IsAsMany, IsComplete, IsTimed, KeepsNumbers, KeepsTimed, RunsComplete, RunsKeepNumbers, RunsTimed}
 use Rattle.machine_model.specs.Machine.{Machine, after, booted_part, channel_after, happened, part_after, run, start, step}
 use Rattle.machine_model.specs.View.{System}
 use Rattle.machine_model.specs.Whole.{AllHalted, AllReset, NoEvent, WholeEvent, ticks_after, time_after}
-use Rattle.machine_model.specs.ListLemmas.{each_counted, table_counted}
+use Rattle.machine_model.specs.lemmas.ListLemmas.{each_counted, table_counted}
 
 -- a tick on both clocks, a reset of the hardware clock, or none on either
 event_timed : (e : WholeEvent) (time ticks : ℕ) → time ≤ ticks → time_after e time ≤ ticks_after e ticks

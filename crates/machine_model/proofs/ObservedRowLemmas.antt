@@ -1,6 +1,6 @@
 -- The rows on observing calls: each is computed.
 use Rattle.std.proofs.Common.{[], ◌∷◌, Some, refl}
-use Rattle.machine_model.specs.ObservedRows.{AnswerRows, AskingRows, PlanStatusRows, RoomRows, SeesPlan, SilentRows}
+use Rattle.machine_model.specs.rows.ObservedRows.{AnswerRows, AskingRows, PlanStatusRows, RoomRows, SeesPlan, SilentRows}
 use Rattle.machine_model.proofs.Computing.{computing}
 use Rattle.machine_model.proofs.WordLemmas.{leaves_words}
 

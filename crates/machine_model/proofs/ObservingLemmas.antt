@@ -11,13 +11,15 @@ use Rattle.machine_model.specs.Caller.{Caller, Served, a_of, acting, b_of, c_of,
 use Rattle.machine_model.specs.Hypercalls.{call_numbered, served}
 use Rattle.machine_model.specs.Laws.{HasLength, HasLoads, IsObserving, ObservesAsTested, ShowsItsSize}
 use Rattle.machine_model.specs.Lists.{then_some}
-use Rattle.machine_model.specs.LogCalls.{counting, hm_read, hm_status, reading, trace_read, trace_status}
+use Rattle.machine_model.specs.lemmas.LogCallsTerms.{counting, reading}
+use Rattle.machine_model.specs.LogCalls.{hm_read, hm_status, trace_read, trace_status}
 use Rattle.machine_model.specs.Machine.{Machine, answer_to, shown_entry, shown_of}
 use Rattle.machine_model.specs.Observed.{CurrentPlan, HealthCounts, HealthEntryOf, Observation, PartitionStatus, PlanStatus, Question, SystemStatus, TraceCounts, TraceEntryOf, about_other, about_system, observing}
 use Rattle.machine_model.specs.Partition.{PartitionState}
 use Rattle.machine_model.specs.PartitionCalls.{get_partition_status, get_system_status}
 use Rattle.machine_model.specs.Structures.{counts_bytes, health_bytes, partition_status, plan_status, system_status, trace_bytes}
-use Rattle.machine_model.specs.TimeCalls.{get_plan_status, is_no_plan, switch_sched_plan}
+use Rattle.machine_model.specs.TimeCalls.{get_plan_status, switch_sched_plan}
+use Rattle.machine_model.specs.lemmas.TimeCallsTerms.{is_no_plan}
 use Rattle.machine_model.specs.Emission.{Act, Asked, Nothing, Plans, Words}
 use Rattle.machine_model.specs.View.{PartitionView}
 

@@ -1,6 +1,6 @@
 -- The rows on the calls that a partition makes for itself: each is the run by its words.
 use Rattle.std.proofs.Common.{ℕ, List, [], ◌∷◌, Option, Some, None, refl}
-use Rattle.machine_model.specs.OwnRows.{HaltsSystem, Idles, ReachesNotAll, ReadsInput, ReadsOwnLog, RefusesDeadline, ResetsSystemCold, ReturnsFromTrap, SeesSystem, SetsTimer, ShowsClocks, TracesInMask, TracesNotElse, UnknownCall}
+use Rattle.machine_model.specs.rows.OwnRows.{HaltsSystem, Idles, ReachesNotAll, ReadsInput, ReadsOwnLog, RefusesDeadline, ResetsSystemCold, ReturnsFromTrap, SeesSystem, SetsTimer, ShowsClocks, TracesInMask, TracesNotElse, UnknownCall}
 use Rattle.machine_model.proofs.Computing.{computing}
 use Rattle.machine_model.proofs.WordLemmas.{leaves_words, prints_words}
 

@@ -1,6 +1,6 @@
 -- The rows on calls 1 to 11: each is computed.
 use Rattle.std.proofs.Common.{refl}
-use Rattle.machine_model.specs.PartitionCallRows.{PartitionCallRows}
+use Rattle.machine_model.specs.rows.PartitionCallRows.{PartitionCallRows}
 use Rattle.machine_model.proofs.Computing.{computing}
 
 pub partition_call_rows : PartitionCallRows

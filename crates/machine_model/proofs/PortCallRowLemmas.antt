@@ -2,14 +2,14 @@
 use Rattle.std.proofs.Common.{◌≡◌, ℕ, zero, suc, Bool, List, [], ◌∷◌, ◌++◌, length, Option, None, Some, refl, ap, ◌∙◌}
 use Rattle.std.specs.Prelude.{if◌then◌else◌, not, ◌==◌, replicate}
 use Rattle.guest_bus.specs.Memory.{Memory, byte_at, bytes_at, is_readable, with_bytes}
-use Rattle.guest_bus.specs.MemoryLemmas.{bytes_at-with_bytes}
+use Rattle.guest_bus.specs.lemmas.MemoryLemmas.{bytes_at-with_bytes}
 use Rattle.xm_base.specs.Options.{on}
 use Rattle.xm_conf.specs.declared.port.Kind.{Kind}
 use Rattle.xm_conf.specs.declared.port.Kind.TheVariants as kind
 use Rattle.machine_model.specs.Caller.{Caller, Served, a_of}
 use Rattle.machine_model.specs.Hypercalls.{served}
 use Rattle.machine_model.specs.Partition.{areas_of}
-use Rattle.machine_model.specs.PortCallRows.{NamedComesTo, PortCallRows}
+use Rattle.machine_model.specs.rows.PortCallRows.{NamedComesTo, PortCallRows}
 use Rattle.machine_model.specs.PortEffects.{creating, name_at}
 use Rattle.machine_model.proofs.Computing.{computing}
 

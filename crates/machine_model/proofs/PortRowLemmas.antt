@@ -1,6 +1,6 @@
 -- The rows on ports and channels: each is the run by its words.
 use Rattle.std.proofs.Common.{ℕ, List, [], ◌∷◌, Option, Some, refl}
-use Rattle.machine_model.specs.PortRows.{EmptyQueueRefuses, FullQueueRefuses, NoRoomKeepsMessage, OldestIsReceived, QueueTakesMessage, SampleInterrupts, UnmadePortIsSilent}
+use Rattle.machine_model.specs.rows.PortRows.{EmptyQueueRefuses, FullQueueRefuses, NoRoomKeepsMessage, OldestIsReceived, QueueTakesMessage, SampleInterrupts, UnmadePortIsSilent}
 use Rattle.machine_model.proofs.Computing.{computing}
 use Rattle.machine_model.proofs.WordLemmas.{leaves_words}
 

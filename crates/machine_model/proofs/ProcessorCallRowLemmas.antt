@@ -1,6 +1,6 @@
 -- The rows on calls 30 to 37: each is computed.
 use Rattle.std.proofs.Common.{refl}
-use Rattle.machine_model.specs.ProcessorCallRows.{ProcessorCallRows}
+use Rattle.machine_model.specs.rows.ProcessorCallRows.{ProcessorCallRows}
 use Rattle.machine_model.proofs.Computing.{computing}
 
 pub processor_call_rows : ProcessorCallRows

@@ -3,7 +3,7 @@ use Rattle.std.proofs.Common.{◌≡◌, ℕ, zero, suc, Bool, true, false, [], 
 use Rattle.std.specs.Prelude.{slice_get}
 use Rattle.std.proofs.lemmas.Option.{same_Some}
 use Rattle.xm_base.specs.Options.{on}
-use Rattle.machine_model.specs.TickLemmas.{step_halted, step_runs}
+use Rattle.machine_model.specs.lemmas.TickLemmas.{step_halted, step_runs}
 use Rattle.machine_model.specs.Alone.{alone_from, alone_lines, alone_said, alone_step, alone_step_lines, alone_step_said}
 use Rattle.machine_model.specs.Cue.{cue, script, script_unless}
 use Rattle.machine_model.specs.Laws.{AllTicks, LastCue, NoScript, OneTick, RunsAlone, part, alone_part_at}
@@ -12,7 +12,7 @@ use Rattle.machine_model.specs.Machine.{Machine, after, happened, part_after, ru
 use Rattle.machine_model.specs.Partition.{PartitionState}
 use Rattle.machine_model.specs.View.{view_of}
 use Rattle.machine_model.proofs.LineLemmas.{own_append, own_nil, tick_lines, tick_said}
-use Rattle.machine_model.specs.ListLemmas.{get_each}
+use Rattle.machine_model.specs.lemmas.ListLemmas.{get_each}
 use Rattle.machine_model.proofs.StepLemmas.{tick_state}
 
 pub one_tick : OneTick

@@ -20,9 +20,9 @@ use Rattle.xm_conf.specs.declared.port.Kind.{Kind}
 use Rattle.xm_conf.specs.declared.port.Port.{Port}
 use Rattle.xm_conf.specs.declared.port.Way.TheVariants as way
 use Rattle.xm_ports.specs.Channels.{Content, IsMessage, IsQueue, Queuing, Sampling, Shape, Suits, SuitsKind, cleared, empty, empty_of, first_message, put, shape_of, shapes_of, first_taken}
-use Rattle.machine_model.specs.TickLemmas.{step_halted, step_runs}
+use Rattle.machine_model.specs.lemmas.TickLemmas.{step_halted, step_runs}
 use Rattle.machine_model.specs.Allowed.{TakesMore}
-use Rattle.machine_model.specs.EndLemmas.{all_at, any_end, end_is, found_from, IsItsChannel, its_channel_is, part_port, table_some, view_channel}
+use Rattle.machine_model.specs.lemmas.EndLemmas.{all_at, any_end, end_is, found_from, IsItsChannel, its_channel_is, part_port, table_some, view_channel}
 use Rattle.machine_model.specs.Facts.{BootsWithShapes, HasShapes, KeepsShapes, PortsHaveKinds, RunsWithShapes}
 use Rattle.machine_model.specs.Lists.{each}
 use Rattle.machine_model.specs.Machine.{Machine, SlotTurn, act_of, after, channel_after, copies, happened, happened_by, local, local_in, local_of, run, sight_of_state, start, step, system_traffic, taken_by, turn_of}
@@ -34,8 +34,8 @@ use Rattle.machine_model.specs.Traffic.{Puts, Signals, Still, Takes, Traffic, af
 use Rattle.machine_model.specs.View.{PortChannel, System, name_of, named, part_of, view_of}
 use Rattle.machine_model.specs.Whole.{AllHalted, AllReset, NoEvent, WholeEvent, content_after}
 use Rattle.machine_model.proofs.WithinLemmas.{are_names, local_within, named_so}
-use Rattle.machine_model.specs.ListLemmas.{each_counted, get_each, get_map}
-use Rattle.machine_model.specs.NameLemmas.{has_name_named}
+use Rattle.machine_model.specs.lemmas.ListLemmas.{each_counted, get_each, get_map}
+use Rattle.machine_model.specs.lemmas.NameLemmas.{has_name_named}
 use Rattle.machine_model.proofs.RunLemmas.{step_system}
 use Rattle.machine_model.proofs.TrafficLemmas.{same_channel, view_has}
 

@@ -1,6 +1,6 @@
 -- The rows on slots: each is the run by its words.
 use Rattle.std.proofs.Common.{[], ◌∷◌, Some, None, refl}
-use Rattle.machine_model.specs.SlotRows.{AskedInLastTick, ExecutionTimerRows, IsDueInAnothersSlot, LastAskedStarts, RestRows, RunInTheirSlots, WaitsOn, WakesByInterrupt, WakesInItsSlot}
+use Rattle.machine_model.specs.rows.SlotRows.{AskedInLastTick, ExecutionTimerRows, IsDueInAnothersSlot, LastAskedStarts, RestRows, RunInTheirSlots, WaitsOn, WakesByInterrupt, WakesInItsSlot}
 use Rattle.machine_model.proofs.Computing.{computing}
 use Rattle.machine_model.proofs.WordLemmas.{leaves_words, prints_words}
 

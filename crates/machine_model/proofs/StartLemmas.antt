@@ -14,7 +14,7 @@ use Rattle.machine_model.specs.Machine.{booted_part, copies, run, start}
 use Rattle.machine_model.specs.Partition.{PartitionState, booted}
 use Rattle.machine_model.specs.Traffic.{content_if, copies_of}
 use Rattle.machine_model.specs.View.{System, if_named, name_of, named, part_of, port_channel, view_of, with_its_name, with_name}
-use Rattle.machine_model.specs.ListLemmas.{each_table, get_map, get_table, same_tables}
+use Rattle.machine_model.specs.lemmas.ListLemmas.{each_table, get_map, get_table, same_tables}
 use Rattle.machine_model.proofs.RunLemmas.{all_ticks, part_there}
 
 -- an empty channel, with its shape

@@ -7,7 +7,7 @@ use Rattle.std.proofs.lemmas.Option.{unwrap_or-slice_get}
 use Rattle.std.specs.FinMap.{empty}
 use Rattle.guest_bus.specs.Access.{access_fault, fetched, unless_refused}
 use Rattle.guest_bus.specs.Memory.{Area, Memory, byte_at, bytes_at, is_readable, with_bytes}
-use Rattle.guest_bus.specs.MemoryLemmas.{get-with_bytes_within}
+use Rattle.guest_bus.specs.lemmas.MemoryLemmas.{get-with_bytes_within}
 use Rattle.xm_base.specs.declared.partition.State.TheVariants.{Halted}
 use Rattle.xm_report.specs.Report.{ReportLine, ConsoleLine, EndPart, EndWhole, MovedLine, SystemLine}
 use Rattle.xm_report.specs.declared.line.Move.TheVariants as move
@@ -15,8 +15,8 @@ use Rattle.machine_model.specs.Lines.{report}
 use Rattle.machine_model.specs.Machine.{Machine, start}
 use Rattle.guest_memory.specs.Loading.{area_of, with_zeros}
 use Rattle.machine_model.specs.Partition.{areas_of, booted}
-use Rattle.machine_model.specs.Rows.{Holds, Prints, at, plain_part}
-use Rattle.machine_model.specs.StartRows.{BeginsAtEntry, BeginsWithInputs, HaltsAfterHi, ReportsHi, ReportsTwo, StaysHalted, hi, hi_bytes}
+use Rattle.machine_model.specs.rows.Rows.{Holds, Prints, at, plain_part}
+use Rattle.machine_model.specs.rows.StartRows.{BeginsAtEntry, BeginsWithInputs, HaltsAfterHi, ReportsHi, ReportsTwo, StaysHalted, hi, hi_bytes}
 use Rattle.machine_model.specs.View.{view_of}
 use Rattle.machine_model.proofs.Computing.{computing}
 use Rattle.machine_model.proofs.WordLemmas.{FetchAll, prints_words, run_by, step_by}

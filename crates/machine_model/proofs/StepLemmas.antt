@@ -5,7 +5,7 @@ use Rattle.std.proofs.lemmas.Bool.{eqb-true}
 use Rattle.std.proofs.lemmas.Option.{same_Some}
 use Rattle.xm_base.specs.Options.{on}
 use Rattle.xm_ports.specs.Channels.{Content}
-use Rattle.machine_model.specs.TickLemmas.{step_runs}
+use Rattle.machine_model.specs.lemmas.TickLemmas.{step_runs}
 use Rattle.machine_model.specs.Alone.{Alone, alone_after, alone_local, alone_local_in, alone_step, alone_traffic}
 use Rattle.machine_model.specs.Cue.{Away, Mine, cue, cue_in, slot_of, unless_own}
 use Rattle.machine_model.specs.Laws.{part, alone_part_at}
@@ -16,7 +16,7 @@ use Rattle.machine_model.specs.Emission.{Act, Sight}
 use Rattle.machine_model.specs.Traffic.{copies_after, copies_of, heard_as, heard_of_own, traffic_of}
 use Rattle.machine_model.specs.View.{part_of, view_of}
 use Rattle.machine_model.specs.Whole.{content_after, ticks_after, time_after}
-use Rattle.machine_model.specs.ListLemmas.{get_each}
+use Rattle.machine_model.specs.lemmas.ListLemmas.{get_each}
 use Rattle.machine_model.proofs.TrafficLemmas.{copies_same, own_traffic}
 
 -- what partition p is shown in its slot

@@ -1,6 +1,6 @@
 -- The rows on calls 12 to 15: each is computed.
 use Rattle.std.proofs.Common.{refl}
-use Rattle.machine_model.specs.TimeCallRows.{TimeCallRows}
+use Rattle.machine_model.specs.rows.TimeCallRows.{TimeCallRows}
 use Rattle.machine_model.proofs.Computing.{computing}
 
 pub time_call_rows : TimeCallRows

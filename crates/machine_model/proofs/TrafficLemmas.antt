@@ -6,7 +6,7 @@ use Rattle.std.proofs.lemmas.Option.{same_Some}
 use Rattle.xm_base.specs.Options.{on}
 use Rattle.xm_conf.specs.Configuration.{Conf}
 use Rattle.xm_ports.specs.Channels.{Content, put, first_taken}
-use Rattle.machine_model.specs.LinkLemmas.{own_signal}
+use Rattle.machine_model.specs.lemmas.LinkLemmas.{own_signal}
 use Rattle.machine_model.specs.Lists.{each, is_number}
 use Rattle.machine_model.specs.LocalTick.{bounded, has_name}
 use Rattle.machine_model.specs.Emission as emission
@@ -14,8 +14,8 @@ use Rattle.machine_model.specs.Emission.{Act, OwnPuts, OwnSignals, OwnStill, Own
 use Rattle.machine_model.specs.Traffic.{Puts, Signals, Still, Takes, Traffic, after_own, after_traffic, content_if, copies_after, copies_of, heard_as, heard_of_own, own_puts_at, own_signals_at, own_takes_at, traffic_as, traffic_of}
 use Rattle.machine_model.specs.View.{System, has_number, linked, name_of, named, part_of, port_channel, view_of}
 use Rattle.machine_model.specs.Whole.{WholeEvent, content_after}
-use Rattle.machine_model.specs.ListLemmas.{each_table, get_each, map_table, same_tables, table_or_none}
-use Rattle.machine_model.specs.NameLemmas.{has_name_named, name_is, named_is}
+use Rattle.machine_model.specs.lemmas.ListLemmas.{each_table, get_each, map_table, same_tables, table_or_none}
+use Rattle.machine_model.specs.lemmas.NameLemmas.{has_name_named, name_is, named_is}
 
 -- two channels that a partition calls the same are one
 pub same_channel : (conf : Conf) (p q c d : ℕ) → name_of conf p c ≡ Some q → name_of conf p d ≡ Some q → c ≡ d

@@ -1,6 +1,6 @@
 -- The rows on traps: each is the run by its words.
 use Rattle.std.proofs.Common.{ℕ, [], ◌∷◌, Option, Some, None, refl}
-use Rattle.machine_model.specs.TrapRows.{HaltsAtSpill, HaltsAtStrayLoad, TakesTrap, TimerIsDelivered, TimerWaitsForSlot, WaitsWhileDisabled}
+use Rattle.machine_model.specs.rows.TrapRows.{HaltsAtSpill, HaltsAtStrayLoad, TakesTrap, TimerIsDelivered, TimerWaitsForSlot, WaitsWhileDisabled}
 use Rattle.machine_model.proofs.Computing.{computing}
 use Rattle.machine_model.proofs.WordLemmas.{leaves_words, prints_words}
 

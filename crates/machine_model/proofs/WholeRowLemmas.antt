@@ -2,7 +2,7 @@
 use Rattle.std.proofs.Common.{ℕ, List, [], ◌∷◌, ◌++◌, Some, refl, sym, ap, ◌∙◌}
 use Rattle.machine_model.specs.Lines.{local_said}
 use Rattle.machine_model.specs.Machine.{Happened, tick_of}
-use Rattle.machine_model.specs.WholeRows.{CounterRows, HearingRows, OrderRows, ResetRows, WritesToItsConsole, consoles, other_consoles, tracing_alone}
+use Rattle.machine_model.specs.rows.WholeRows.{CounterRows, HearingRows, OrderRows, ResetRows, WritesToItsConsole, consoles, other_consoles, tracing_alone}
 use Rattle.machine_model.proofs.Computing.{computing}
 use Rattle.machine_model.proofs.WordLemmas.{happened_same, leaves_words, prints_words}
 

@@ -2,7 +2,7 @@
 use Rattle.std.proofs.Common.{◌≡◌, ℕ, zero, suc, ◌+◌, Bool, true, false, List, [], ◌∷◌, length, Option, None, Some, Result, Ok, Err, inl, inr, refl, sym, ap, ◌∙◌, arith, subst}
 use Rattle.std.specs.Prelude.{◌++◌, slice_get, slice_index_or, if◌then◌else◌, ◌==◌, ◌||◌, ◌≤◌, nat_lt, not, IsSome}
 use Rattle.std.proofs.lemmas.Bool.Decides.{nat_tests}
-use Rattle.guest_bus.specs.MemoryLemmas.{length-bytes_at}
+use Rattle.guest_bus.specs.lemmas.MemoryLemmas.{length-bytes_at}
 use Rattle.health_monitor.specs.Monitor.{action_in, effect_of, event_of_type}
 use Rattle.sparc_step.specs.declared.outcome.Turn.{Turn}
 use Rattle.sparc_step.specs.declared.outcome.Turn.TheVariants.{Went, Trap, Call}
@@ -29,9 +29,9 @@ use Rattle.xm_conf.specs.declared.port.Way.TheVariants as way
 use Rattle.xm_ports.specs.Channels.{Content, HeldSample, IsMessage, Shape, first_message, sample_of}
 use Rattle.xm_ports.specs.Ports.{created_over, are_same_kind, is_made}
 use Rattle.xm_ports.specs.declared.ports.CreateFault.{CreateFault}
-use Rattle.machine_model.specs.ListLemmas.{table_at}
+use Rattle.machine_model.specs.lemmas.ListLemmas.{table_at}
 use Rattle.machine_model.specs.Caller.{Acts, Caller, Meets, Served, Test, Upshot, a_of, acting, b_of, caller_bytes, c_of, invalid_parameter, no_permission, not_allowed, not_available, refused_if, room, system_only, target, tested, text, with_written}
-use Rattle.machine_model.specs.CallLemmas.{every_effect}
+use Rattle.machine_model.specs.lemmas.CallLemmas.{every_effect}
 use Rattle.machine_model.specs.Effects.{CallEffect, ChangesOwn, CreatesPort, DoesToAll, EntersTrace, GivesAnswer, GivesOrder, GoesBack, MeetsEvent, PrintsBytes, PutsBytes, RequestsPlan, SendsSignal, ShowsPort, ShowsSample, SpillsWindows, TakesMessage, UsesInput, comes_to, is_plan_missing, putting_bytes, queue_room, right_tests}
 use Rattle.machine_model.specs.Health.{answered_by, by_interrupt, done_to_all, event_handled, interrupt_delivered, quiet, self_ordered, undelivered}
 use Rattle.machine_model.specs.Hypercalls.{served}
@@ -45,7 +45,7 @@ use Rattle.machine_model.specs.OwnEffects.{by_flush, by_return, flushed, input_r
 use Rattle.machine_model.specs.Emission as emission
 use Rattle.machine_model.specs.Emission.{Act, OwnPuts, OwnSignals, OwnStill, OwnTakes, Sight}
 use Rattle.machine_model.specs.View.{PartitionView, PortChannel, System, has_number, name_of, part_of, port_channel, view_of, with_its_name, with_name}
-use Rattle.machine_model.specs.NameLemmas.{name_is, of_name_below, same_number}
+use Rattle.machine_model.specs.lemmas.NameLemmas.{name_is, of_name_below, same_number}
 
 -- a name in a list of channels is that of the channel there
 abbrev pub IsName : List (Option PortChannel) → ℕ → Type 0

@@ -17,7 +17,7 @@ use Rattle.machine_model.specs.LocalTick.{LocalTick, by_turn, clocked, delivered
 use Rattle.machine_model.specs.Machine.{Happened, Machine, SlotTurn, after, copies, happened, happened_by, local, local_in, local_of, run, sight_for, sight_of_state, step, step_unless, taken_by, turn_of}
 use Rattle.machine_model.specs.Observed.{Observation, asked_by, asks, if_call, unless_delivered}
 use Rattle.machine_model.specs.Partition.{PartitionState, areas_of, execution_looked_at, hardware_looked_at, takes_turns}
-use Rattle.machine_model.specs.Rows.{Leaves, Prints}
+use Rattle.machine_model.specs.rows.Rows.{Leaves, Prints}
 use Rattle.machine_model.specs.Emission.{Sight, Unseen}
 use Rattle.machine_model.specs.View.{PartitionView, view_of}
 

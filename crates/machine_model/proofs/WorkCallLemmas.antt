@@ -2,7 +2,7 @@
 use Rattle.std.proofs.Common.{length, ◌++◌, ◌≡◌, ◌⊎◌, inl, inr, ℕ, zero, suc, ◌≤◌, ◌+◌, Bool, true, false, List, [], ◌∷◌, Option, None, Some, Result, Ok, Err, refl, sym, ap, arith, subst}
 use Rattle.std.specs.Prelude.{◌-◌, drop, slice_get, slice_index_or, ◌&&◌, IsSome}
 use Rattle.std.proofs.lemmas.List.Elements.{All-append, All-cons, All-drop, All-nil}
-use Rattle.guest_bus.specs.MemoryLemmas.{length-bytes_at}
+use Rattle.guest_bus.specs.lemmas.MemoryLemmas.{length-bytes_at}
 use Rattle.health_monitor.specs.declared.entry.HealthEntry.{HealthEntry}
 use Rattle.virt_clocks.specs.Clocks.{with_timer}
 use Rattle.virt_clocks.specs.declared.timer.Clock.{Clock}
@@ -23,14 +23,13 @@ use Rattle.xm_ports.specs.declared.ports.CreateFault.{CreateFault}
 use Rattle.xm_traces.specs.Ring.{Kept, RING_ENTRIES, noted}
 use Rattle.xm_traces.specs.declared.entry.TraceEntry.{TraceEntry}
 use Rattle.machine_model.specs.Caller.{Acts, Caller, Served, Test, a_of, answering, b_of, invalid_parameter, room, tested, text, unknown_call, with_answer, with_written}
-use Rattle.machine_model.specs.CallLemmas.{every_effect}
+use Rattle.machine_model.specs.lemmas.CallLemmas.{every_effect}
 use Rattle.machine_model.specs.Effects.{ArmsTimer, CallEffect, ChangesOwn, CreatesPort, DoesToAll, EntersTrace, GivesAnswer, GivesOrder, GoesBack, MeetsEvent, OwnChange, PrintsBytes, PutsBytes, RequestsPlan, SendsSignal, SetsBase, SetsCodes, SetsMask, ShowsPort, ShowsSample, SpillsWindows, TakesMessage, UsesInput, Waits, Writing, comes_to, putting_bytes, queue_room, right_tests, with_change, with_writings}
 use Rattle.machine_model.specs.Facts.{AreEnds, AreLast, HaveEight, IsChannelEnd}
 use Rattle.machine_model.specs.Hypercalls.{served}
-use Rattle.machine_model.specs.OwnEffects.{trace_entry, tracing}
+use Rattle.machine_model.specs.OwnEffects.{trace_entry, tracing, by_flush, by_return, flushed, input_read}
 use Rattle.machine_model.specs.Partition.{PartitionState, areas_of}
 use Rattle.machine_model.specs.PortEffects.{MadePort, by_created, creating, destination_only, first_read, held_read, made_port, on_port, shape_at, size_fits, source_only}
-use Rattle.machine_model.specs.OwnEffects.{by_flush, by_return, flushed, input_read}
 use Rattle.machine_model.specs.Emission as emission
 use Rattle.machine_model.specs.View.{PartitionView, PortChannel}
 

@@ -29,7 +29,7 @@ use Rattle.xm_ports.specs.Channels.{Content}
 use Rattle.xm_ports.specs.Ports.{is_made, no_ports}
 use Rattle.xm_traces.specs.Ring.{Kept, entry_at, first_kept, noted, nothing_kept}
 use Rattle.xm_traces.specs.declared.entry.TraceEntry.{TraceEntry}
-use Rattle.machine_model.specs.TickLemmas.{step_halted, step_runs}
+use Rattle.machine_model.specs.lemmas.TickLemmas.{step_halted, step_runs}
 use Rattle.machine_model.specs.Caller.{Acts, Caller, Meets, Upshot}
 use Rattle.machine_model.specs.Alone.{Alone, alone_after, alone_local, alone_local_in, alone_step}
 use Rattle.machine_model.specs.Cue.{Away, Cue, Mine, CueSlot}
@@ -48,7 +48,7 @@ use Rattle.machine_model.specs.Traffic.{after_message, heard_as, heard_from, hea
 use Rattle.machine_model.specs.View.{PartitionView, System, view_of}
 use Rattle.machine_model.specs.Whole.{AllHalted, AllReset, NoEvent, WholeEvent, after_event, event_of, ticks_after}
 use Rattle.machine_model.proofs.WorkCallLemmas.{Goes, same_goes, served_goes, served_untraced}
-use Rattle.machine_model.specs.ListLemmas.{get_each}
+use Rattle.machine_model.specs.lemmas.ListLemmas.{get_each}
 use Rattle.machine_model.proofs.ObservingLemmas.{shows_its_size}
 use Rattle.machine_model.proofs.RunLemmas.{step_system}
 

@@ -26,11 +26,6 @@ abbrev pub then_some : {X : Type 0} → Bool → X → Option X
 then_some true x = Some x
 then_some false x = None
 
--- a list of one element where a test holds
-abbrev pub then_one : {X : Type 0} → Bool → X → List X
-then_one true x = x ∷ []
-then_one false x = []
-
 -- what follows a value that is there
 abbrev pub and_then : {X Y : Type 0} → Option X → (X → Option Y) → Option Y
 and_then None f = None

@@ -35,10 +35,6 @@ goes_on Halted first interrupt = false
 unfoldable pub clocked : PartitionState → PartitionState
 clocked ps = record ps { clocks = record ps.clocks { execution = ps.clocks.execution + 1 } }
 
--- the part of a tick with the tick on the execution clock
-abbrev pub with_clock : Worked → Worked
-with_clock w = record w { after = clocked w.after }
-
 -- an act on oneself is carried out at once; another one reaches beyond the partition
 abbrev pub by_act : Act → PartitionView → PartitionState → Worked
 by_act Nothing view ps = quiet ps

@@ -1,23 +1,11 @@
 -- The calls on traces and on the health log: numbers 24 to 29.
-use Rattle.std.specs.Prelude.{ℕ, List}
-use Rattle.xm_traces.specs.Ring.{Kept}
 use Rattle.machine_model.specs.Caller.{Caller, Served}
-use Rattle.machine_model.specs.Calls.{HmRead, HmStatus, RaiseEvent, TraceEvent, TraceRead, TraceStatus, counts_read, effect_of_call, entry_read}
+use Rattle.machine_model.specs.Calls.{HmRead, HmStatus, RaiseEvent, TraceEvent, TraceRead, TraceStatus, effect_of_call}
 use Rattle.machine_model.specs.Effects.{performed}
-pub use Rattle.machine_model.specs.OwnEffects.{trace_entry, tracing}
-pub use Rattle.machine_model.specs.Readings.{bytes_of_entry, entry_seen, is_missing, is_own, log_counts}
 
 -- call 24, XM_trace_event(a, b): entered where a bit of a is in the partition's trace mask
 unfoldable pub trace_event : Caller → Served
 trace_event caller = performed (effect_of_call TraceEvent caller) caller
-
--- an entry of this many bytes is read to c
-abbrev pub reading : {T : Type 0} → ℕ → (T → List ℕ) → Kept T → Caller → Served
-reading size bytes kept caller = performed (entry_read size bytes kept caller) caller
-
--- the counts of a log are read to b
-abbrev pub counting : {T : Type 0} → Kept T → Caller → Served
-counting kept caller = performed (counts_read kept caller) caller
 
 -- call 25, XM_trace_read(a, b, c): entry number b of partition a's traces, at c
 unfoldable pub trace_read : Caller → Served

@@ -68,11 +68,6 @@ abbrev pub is_turn_of : Option SlotTurn → ℕ → Bool
 is_turn_of None p = false
 is_turn_of (Some turn) p = turn.part == p
 
--- whether the tick is the first of its slot
-abbrev pub is_first : Option SlotTurn → Bool
-is_first None = false
-is_first (Some turn) = turn.first
-
 -- what an observing call is shown of a log: an entry's bytes, or that it is not kept
 abbrev pub shown_entry : {T : Type 0} → (T → List ℕ) → Option T → Sight
 shown_entry bytes None = NotKept

@@ -3,7 +3,6 @@ use Rattle.xm_base.specs.declared.partition.Order.{Order}
 use Rattle.machine_model.specs.Caller.{Caller, Served, a_of}
 use Rattle.machine_model.specs.Calls.{GetPartitionStatus, GetSelf, GetSystemStatus, HaltPartition, HaltSystem, IdleSelf, ResetPartition, ResetSystem, ResumePartition, ShutdownPartition, SuspendPartition, effect_of_call}
 use Rattle.machine_model.specs.Effects.{GivesOrder, comes_to, performed}
-pub use Rattle.machine_model.specs.Readings.{status_seen}
 
 -- call 1, XM_get_self: the caller's number
 unfoldable pub get_self : Caller → Served

@@ -1,17 +1,11 @@
 -- The calls on sampling and queuing ports: numbers 16 to 23.
-use Rattle.machine_model.specs.Caller.{Caller, Served, b_of, c_of}
+use Rattle.machine_model.specs.Caller.{Caller, Served}
 use Rattle.machine_model.specs.Calls.{CreateQueuingPort, CreateSamplingPort, GetQueuingPortStatus, GetSamplingPortStatus, ReadSamplingMessage, ReceiveQueuingMessage, SendQueuingMessage, WriteSamplingMessage, effect_of_call}
-use Rattle.machine_model.specs.Effects.{performed, putting_bytes}
-pub use Rattle.machine_model.specs.PortEffects.{MadePort, by_created, create_refusal, creating, destination_only, first_read, held_read, is_full, is_source, message_read, name_at, name_given, on_port, port_with_content, reading_from, sample_read, shape_at, size_fits, source_only, writing_status, with_channel}
-unfoldable pub use Rattle.machine_model.specs.PortEffects.{made_port}
+use Rattle.machine_model.specs.Effects.{performed}
 
 -- call 16, XM_create_sampling_port(a, b, c): the name at a, messages of b bytes, the way c
 unfoldable pub create_sampling_port : Caller → Served
 create_sampling_port caller = performed (effect_of_call CreateSamplingPort caller) caller
-
--- a message of c bytes at b is put into the port's channel
-abbrev pub putting : Caller → MadePort → Served
-putting caller port = putting_bytes (b_of caller) (c_of caller) caller port
 
 -- call 17, XM_write_sampling_message(a, b, c): c bytes at b
 unfoldable pub write_sampling_message : Caller → Served

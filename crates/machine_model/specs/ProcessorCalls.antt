@@ -2,7 +2,6 @@
 use Rattle.machine_model.specs.Caller.{Caller, Served}
 use Rattle.machine_model.specs.Calls.{ClearIrqmask, FlushRegwin, Iret, ReadInput, SetIrqmask, SetPsr, SetTbr, WriteConsole, effect_of_call}
 use Rattle.machine_model.specs.Effects.{performed}
-pub use Rattle.machine_model.specs.OwnEffects.{by_flush, by_return, flushed, flushed_after, input_read, printed, undone, with_mask}
 
 -- call 30, XM_set_irqmask(a): the interrupts of a are masked
 unfoldable pub set_irqmask : Caller → Served

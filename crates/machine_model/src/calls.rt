@@ -1,15 +1,15 @@
 //! Rows worked by hand on each hypercall: its result, its effect, and each of its tests at its edge; and on each health event.
 
-ghost use Rattle.machine_model.specs.CoreFileRows.{CoreFileRows};
-ghost use Rattle.machine_model.specs.EventRows.{ActionRows, DeliveryRows, EventsPassOver, RaisedRows, TrapsHaveEvents, UndoneRows};
-ghost use Rattle.machine_model.specs.LinkRows.{LinkCallRows, LinkRows, SignalIsDelivered, SignalRows, SignalsHalted, SignalsNotBack, SignalsOther};
-ghost use Rattle.machine_model.specs.LogCallRows.{LogCallRows};
-ghost use Rattle.machine_model.specs.ObservedRows.{AnswerRows, AskingRows, PlanStatusRows, RoomRows, SeesPlan, SilentRows};
-ghost use Rattle.machine_model.specs.PartitionCallRows.{PartitionCallRows};
-ghost use Rattle.machine_model.specs.PortCallRows.{PortCallRows};
-ghost use Rattle.machine_model.specs.ProcessorCallRows.{ProcessorCallRows};
-ghost use Rattle.machine_model.specs.TimeCallRows.{TimeCallRows};
-ghost use Rattle.machine_model.specs.WholeRows.{CounterRows, HearingRows, OrderRows, ResetRows, WritesToItsConsole};
+ghost use Rattle.machine_model.specs.rows.CoreFileRows.{CoreFileRows};
+ghost use Rattle.machine_model.specs.rows.EventRows.{ActionRows, DeliveryRows, EventsPassOver, RaisedRows, TrapsHaveEvents, UndoneRows};
+ghost use Rattle.machine_model.specs.rows.LinkRows.{LinkCallRows, LinkRows, SignalIsDelivered, SignalRows, SignalsHalted, SignalsNotBack, SignalsOther};
+ghost use Rattle.machine_model.specs.rows.LogCallRows.{LogCallRows};
+ghost use Rattle.machine_model.specs.rows.ObservedRows.{AnswerRows, AskingRows, PlanStatusRows, RoomRows, SeesPlan, SilentRows};
+ghost use Rattle.machine_model.specs.rows.PartitionCallRows.{PartitionCallRows};
+ghost use Rattle.machine_model.specs.rows.PortCallRows.{PortCallRows};
+ghost use Rattle.machine_model.specs.rows.ProcessorCallRows.{ProcessorCallRows};
+ghost use Rattle.machine_model.specs.rows.TimeCallRows.{TimeCallRows};
+ghost use Rattle.machine_model.specs.rows.WholeRows.{CounterRows, HearingRows, OrderRows, ResetRows, WritesToItsConsole};
 
 /// Calls 1 to 11, on partitions and on the whole system.
 pub fn partition_calls()

@@ -7,7 +7,7 @@ mod numbers;
 mod rows;
 
 pub use calls::{
-    core_files, health_events, log_calls, observing_calls, partition_calls, port_calls,
+    core_files, health_events, link_calls, log_calls, observing_calls, partition_calls, port_calls,
     processor_calls, reaching_others, time_calls,
 };
 pub use law::{

@@ -1,13 +1,13 @@
 //! Rows worked by hand: small systems, and the outcome of runs of them.
 
-ghost use Rattle.machine_model.specs.CallRows.{CountsWarm, HaltsAnother, IsRefusedAnother, KeepsLogsCold, OrdersNone, ResetsAnother, ResumesAnother, ResumesNothing, SeesAnother, ShutsDownAnother, SuspendsAnother};
-ghost use Rattle.machine_model.specs.HealthRows.{HaltsAll, HaltsAtIllegal, HaltsInLastTick, IgnoresIllegal, PropagatesToHalt, ResetsAllByCall, ResetsAllWarm, RestsInHaltingTick, SwitchesInMidFrame};
-ghost use Rattle.machine_model.specs.OwnRows.{HaltsSystem, Idles, ReachesNotAll, ReadsInput, ReadsOwnLog, RefusesDeadline, ResetsSystemCold, ReturnsFromTrap, SeesSystem, SetsTimer, ShowsClocks, TracesInMask, TracesNotElse, UnknownCall};
-ghost use Rattle.machine_model.specs.PortRows.{EmptyQueueRefuses, FullQueueRefuses, NoRoomKeepsMessage, OldestIsReceived, QueueTakesMessage, SampleInterrupts, UnmadePortIsSilent};
-ghost use Rattle.machine_model.specs.SlotRows.{AskedInLastTick, ExecutionTimerRows, IsDueInAnothersSlot, LastAskedStarts, RestRows, RunInTheirSlots, WaitsOn, WakesByInterrupt, WakesInItsSlot};
-ghost use Rattle.machine_model.specs.StartRows.{BeginsAtEntry, BeginsWithInputs, HaltsAfterHi, ReportsHi, ReportsTwo, StaysHalted};
-ghost use Rattle.machine_model.specs.TrapRows.{HaltsAtSpill, HaltsAtStrayLoad, TakesTrap, TimerIsDelivered, TimerWaitsForSlot, WaitsWhileDisabled};
-ghost use Rattle.machine_model.specs.WordRows.{WordsCanBeHeld};
+ghost use Rattle.machine_model.specs.rows.CallRows.{CountsWarm, HaltsAnother, IsRefusedAnother, KeepsLogsCold, OrdersNone, ResetsAnother, ResumesAnother, ResumesNothing, SeesAnother, ShutsDownAnother, SuspendsAnother};
+ghost use Rattle.machine_model.specs.rows.HealthRows.{HaltsAll, HaltsAtIllegal, HaltsInLastTick, IgnoresIllegal, PropagatesToHalt, ResetsAllByCall, ResetsAllWarm, RestsInHaltingTick, SwitchesInMidFrame};
+ghost use Rattle.machine_model.specs.rows.OwnRows.{HaltsSystem, Idles, ReachesNotAll, ReadsInput, ReadsOwnLog, RefusesDeadline, ResetsSystemCold, ReturnsFromTrap, SeesSystem, SetsTimer, ShowsClocks, TracesInMask, TracesNotElse, UnknownCall};
+ghost use Rattle.machine_model.specs.rows.PortRows.{EmptyQueueRefuses, FullQueueRefuses, NoRoomKeepsMessage, OldestIsReceived, QueueTakesMessage, SampleInterrupts, UnmadePortIsSilent};
+ghost use Rattle.machine_model.specs.rows.SlotRows.{AskedInLastTick, ExecutionTimerRows, IsDueInAnothersSlot, LastAskedStarts, RestRows, RunInTheirSlots, WaitsOn, WakesByInterrupt, WakesInItsSlot};
+ghost use Rattle.machine_model.specs.rows.StartRows.{BeginsAtEntry, BeginsWithInputs, HaltsAfterHi, ReportsHi, ReportsTwo, StaysHalted};
+ghost use Rattle.machine_model.specs.rows.TrapRows.{HaltsAtSpill, HaltsAtStrayLoad, TakesTrap, TimerIsDelivered, TimerWaitsForSlot, WaitsWhileDisabled};
+ghost use Rattle.machine_model.specs.rows.WordRows.{WordsCanBeHeld};
 
 /// A system of one partition that writes `hi` to its console and halts, from its start on.
 pub fn says_hi()

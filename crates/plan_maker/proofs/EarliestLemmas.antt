@@ -4,7 +4,7 @@ use Rattle.std.specs.Prelude.{nat_lt, IfSome}
 use Rattle.std.specs.Option.{option_map}
 use Rattle.std.proofs.lemmas.Bool.Decides.{nat_tests}
 use Rattle.plan_maker.specs.Course.{earliest, sooner}
-use Rattle.plan_maker.specs.Turns.{job_due_first, sooner_due, spent, due_of}
+use Rattle.plan_maker.specs.lemmas.Turns.{job_due_first, sooner_due, spent, due_of}
 use Rattle.plan_maker.specs.declared.jobs.Job.{Job}
 use Rattle.plan_maker.specs.declared.jobs.Due.{Due}
 use Rattle.plan_maker.proofs.EachLemmas.{Each}

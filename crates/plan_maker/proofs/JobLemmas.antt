@@ -4,9 +4,9 @@ use Rattle.std.proofs.lemmas.Bool.Decides.{nat_tests}
 use Rattle.std.proofs.Math.Nat.{zero-div}
 use Rattle.xm_conf.specs.declared.plan.Slot.{Slot}
 use Rattle.plan_maker.specs.Course.{Course, course_after_tick, at_rest, job_at, jobs_at, run_slot, slots_so_far, window_start}
-use Rattle.plan_maker.specs.Needed.{ArePossible}
+use Rattle.plan_maker.specs.lemmas.NeededTerms.{ArePossible}
 use Rattle.plan_maker.specs.Served.{gives, runs_in, ticks_where, time_in}
-use Rattle.plan_maker.specs.Turns.{first_job, renewed, spent}
+use Rattle.plan_maker.specs.lemmas.Turns.{first_job, renewed, spent}
 use Rattle.plan_maker.specs.declared.jobs.Job.{Job}
 use Rattle.plan_maker.specs.declared.jobs.Requirement.{Requirement}
 use Rattle.plan_maker.proofs.CourseLemmas.{Laid, runs_after, runs_no_more}

@@ -7,7 +7,7 @@ use Rattle.std.proofs.lemmas.List.Sums.{sum_by-cons}
 use Rattle.std.proofs.lemmas.Nat.{div-mul-add, div-add-mod', le-div}
 use Rattle.plan_maker.specs.Course.{earliest}
 use Rattle.plan_maker.specs.Needed.{demand, demanded}
-use Rattle.plan_maker.specs.Turns.{first_job, renewed, spent}
+use Rattle.plan_maker.specs.lemmas.Turns.{first_job, renewed, spent}
 use Rattle.plan_maker.specs.declared.jobs.Job.{Job}
 use Rattle.plan_maker.specs.declared.jobs.Requirement.{Requirement}
 use Rattle.plan_maker.proofs.EachLemmas.{Each, each_then}

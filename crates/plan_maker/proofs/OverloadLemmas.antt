@@ -6,7 +6,8 @@ use Rattle.std.proofs.lemmas.Bool.Decides.{nat_tests}
 use Rattle.std.proofs.lemmas.List.Sums.{sum_by-cons}
 use Rattle.std.proofs.lemmas.Nat.{div-add-mod'}
 use Rattle.xm_conf.specs.declared.plan.Slot.{Slot}
-use Rattle.plan_maker.specs.Needed.{ArePossible, demand, demanded}
+use Rattle.plan_maker.specs.lemmas.NeededTerms.{ArePossible}
+use Rattle.plan_maker.specs.Needed.{demand, demanded}
 use Rattle.plan_maker.specs.Served.{gives, runs_in, ticks_where, time_in, window_time}
 use Rattle.plan_maker.specs.declared.jobs.Requirement.{Requirement}
 use Rattle.plan_maker.proofs.CourseLemmas.{Laid}

@@ -12,7 +12,8 @@ use Rattle.xm_conf.specs.Configuration.{Conf, Part}
 use Rattle.xm_conf.specs.Description.{described}
 use Rattle.xm_conf.specs.Fits.{Fits, IsNeed}
 use Rattle.xm_conf.specs.declared.part.Need.{Need}
-use Rattle.plan_maker.specs.Needed.{ArePossible, IsPossible, common_from, demanded, first_divided, least_multiple, longest_common, required, required_by, requirements}
+use Rattle.plan_maker.specs.lemmas.NeededTerms.{ArePossible, IsPossible}
+use Rattle.plan_maker.specs.Needed.{common_from, demanded, first_divided, least_multiple, longest_common, required, required_by, requirements}
 use Rattle.plan_maker.specs.declared.jobs.Requirement.{Requirement}
 use Rattle.plan_maker.proofs.EachLemmas.{Each, each_from_all}
 use Rattle.plan_maker.proofs.LoadLemmas.{IsWhole}

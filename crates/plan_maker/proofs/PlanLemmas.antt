@@ -6,7 +6,8 @@ use Rattle.xm_conf.specs.Configuration.{Plan}
 use Rattle.xm_conf.specs.Fits.{InFrame, InTurn, IsTime}
 use Rattle.xm_conf.specs.Rules.{longest}
 use Rattle.xm_conf.specs.declared.plan.Slot.{Slot}
-use Rattle.plan_maker.specs.Needed.{ArePossible, common_period, demand, longest_common}
+use Rattle.plan_maker.specs.lemmas.NeededTerms.{ArePossible}
+use Rattle.plan_maker.specs.Needed.{common_period, demand, longest_common}
 use Rattle.plan_maker.specs.Planned.{GivesPlan, AreNeverMet, IsHopeless, IsMet, IsPlanRefused, IsRequirementServed, KeepsRules, frame_slots, most_slots, need_of, plan_in, plan_over, plan_with, planned}
 use Rattle.plan_maker.specs.Served.{window_time}
 use Rattle.fault_messages.specs.declared.fault.PlanFault.{PlanFault}

@@ -4,9 +4,10 @@ use Rattle.std.proofs.lemmas.Bool.Decides.{nat_tests}
 use Rattle.std.proofs.lemmas.Simd.{map-map}
 use Rattle.xm_conf.specs.declared.plan.Slot.{Slot}
 use Rattle.plan_maker.specs.Course.{Course, course_after_tick, course_of, earliest, job_at, jobs_at, slots_so_far, tick_done, window_start}
-use Rattle.plan_maker.specs.Needed.{ArePossible, IsPossible, demand}
+use Rattle.plan_maker.specs.lemmas.NeededTerms.{ArePossible, IsPossible}
+use Rattle.plan_maker.specs.Needed.{demand}
 use Rattle.plan_maker.specs.Served.{time_in, window_time}
-use Rattle.plan_maker.specs.Turns.{first_job, renewed}
+use Rattle.plan_maker.specs.lemmas.Turns.{first_job, renewed}
 use Rattle.plan_maker.specs.declared.jobs.Job.{Job}
 use Rattle.plan_maker.specs.declared.jobs.Requirement.{Requirement}
 use Rattle.plan_maker.proofs.CourseLemmas.{Laid, laid_after, laid_later}

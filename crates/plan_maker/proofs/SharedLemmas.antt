@@ -10,7 +10,8 @@ use Rattle.xm_conf.specs.Fits.{InFrame, InTurn}
 use Rattle.xm_conf.specs.Configuration.{Plan}
 use Rattle.xm_conf.specs.declared.part.Need.{Need}
 use Rattle.plan_maker.specs.Planned.{IsEnough, IsMet, IsMissed}
-use Rattle.plan_maker.specs.Served.{gives, runs_in, shared, ticks_where, time_in, window_time}
+use Rattle.plan_maker.specs.Served.{gives, runs_in, ticks_where, time_in, window_time}
+use Rattle.plan_maker.specs.lemmas.ServedTerms.{shared}
 use Rattle.plan_maker.proofs.CourseLemmas.{Laid}
 
 -- no tick passes a test that fails at each

@@ -1,7 +1,7 @@
 -- What jobs are after a partition had ticks.
 use Rattle.std.proofs.Common.{◌≡◌, ℕ, zero, suc, ◌+◌, ◌-◌, ◌^◌, ◌<◌, ◌≤◌, ◌==◌, Bool, true, false, cond, min, List, [], ◌∷◌, ◌++◌, length, map, get_or, set, take, drop, ap, sym, ◌∙◌, subst, refl, arith}
 use Rattle.std.proofs.lemmas.Bool.Decides.{nat_tests}
-use Rattle.plan_maker.specs.Turns.{HaveWindowRoom, next_end, spent, spent_first}
+use Rattle.plan_maker.specs.lemmas.Turns.{HaveWindowRoom, next_end, spent, spent_first}
 use Rattle.plan_maker.specs.declared.jobs.Job.{Job}
 use Rattle.plan_maker.proofs.EachLemmas.{Each, all_from_each, each_from_all}
 use Rattle.plan_maker.proofs.EarliestLemmas.{Rising, spent_end}

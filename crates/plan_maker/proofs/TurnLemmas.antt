@@ -6,9 +6,9 @@ use Rattle.std.proofs.lemmas.Bool.Decides.{nat_tests}
 use Rattle.xm_conf.specs.declared.plan.Slot.{Slot}
 use Rattle.xm_conf.specs.Rules.{longest}
 use Rattle.plan_maker.specs.Course.{Course, course_after_tick, continues, course_of, earliest, job_at, jobs_at, run_after, run_slot, slots_so_far, tick_done, window_start, with_run}
-use Rattle.plan_maker.specs.Needed.{ArePossible, IsPossible}
+use Rattle.plan_maker.specs.lemmas.NeededTerms.{ArePossible, IsPossible}
 use Rattle.plan_maker.specs.Planned.{frame_slots}
-use Rattle.plan_maker.specs.Turns.{HaveWindowRoom, IsGoing, IsMoment, Moment, first_moment, come, given, next_end, window_passed, moment_after_run, ran_until, renewed, ticks_running, spent, spent_first, due_of, next_moment}
+use Rattle.plan_maker.specs.lemmas.Turns.{HaveWindowRoom, IsGoing, IsMoment, Moment, first_moment, come, given, next_end, window_passed, moment_after_run, ran_until, renewed, ticks_running, spent, spent_first, due_of, next_moment}
 use Rattle.plan_maker.specs.declared.jobs.Job.{Job}
 use Rattle.plan_maker.specs.declared.jobs.Requirement.{Requirement}
 use Rattle.plan_maker.specs.declared.jobs.Due.{Due}

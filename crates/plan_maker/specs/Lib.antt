@@ -1,6 +1,6 @@
 pub mod Course
 pub mod Needed
 pub mod Planned
-pub mod Rows
 pub mod Served
-pub mod Turns
+pub mod lemmas
+pub mod rows

@@ -1,8 +1,7 @@
 -- What the partitions of a configuration require, the period that is common to all, and what they demand of it.
-use Rattle.std.specs.Prelude.{ℕ, zero, suc, ◌+◌, ◌-◌, ◌*◌, ◌/◌, ◌%◌, ◌==◌, ◌<◌, ◌≤◌, ⊤, if◌then◌else◌, nat_lt, min, max, List, [], ◌∷◌, sum_by, Option, Some, None, Result, Ok, Err}
+use Rattle.std.specs.Prelude.{ℕ, zero, suc, ◌+◌, ◌-◌, ◌*◌, ◌/◌, ◌%◌, ◌==◌, if◌then◌else◌, nat_lt, min, max, List, [], ◌∷◌, sum_by, Option, Some, None, Result, Ok, Err}
 use Rattle.xm_conf.specs.Along.{added_by_each}
 use Rattle.xm_conf.specs.Configuration.{Conf, Part}
-use Rattle.xm_conf.specs.Rules.{longest}
 use Rattle.xm_conf.specs.declared.part.Need.{Need}
 use Rattle.plan_maker.specs.declared.jobs.Requirement.{Requirement}
 
@@ -51,14 +50,3 @@ demanded period requirement = period / requirement.period * requirement.duration
 -- the ticks of a common period that all requirements demand
 unfoldable pub demand : ℕ → List Requirement → ℕ
 demand period requirements = sum_by (demanded period) requirements
-
--- a requirement is a time in a period
-pub record IsPossible (requirement : Requirement) : Type 0 where
-  pub some : 0 < requirement.duration
-  pub inside : requirement.duration ≤ requirement.period
-  pub most : requirement.period ≤ longest
-
--- the requirements are of partitions from a number on, each at most once, in the order of their numbers
-abbrev pub ArePossible : ℕ → List Requirement → Type 0
-ArePossible low [] = ⊤
-ArePossible low (first ∷ rest) = (low ≤ first.part) × IsPossible first × ArePossible (first.part + 1) rest

@@ -1,5 +1,5 @@
 -- The time that slots give a partition, and what it means that a requirement is served.
-use Rattle.std.specs.Prelude.{ℕ, zero, suc, ◌+◌, ◌-◌, ◌*◌, ◌==◌, ◌&&◌, if◌then◌else◌, min, max, Bool, List}
+use Rattle.std.specs.Prelude.{ℕ, zero, suc, ◌+◌, ◌*◌, ◌==◌, ◌&&◌, if◌then◌else◌, Bool, List}
 use Rattle.std.specs.List.{list_any}
 use Rattle.xm_conf.specs.declared.plan.Slot.{Slot}
 use Rattle.cyclic_plans.specs.Slots.{covers}
@@ -24,7 +24,3 @@ time_in part slots start count = ticks_where (runs_in part slots) start count
 -- the time that slots give a partition in the window of a number
 abbrev pub window_time : ℕ → List Slot → ℕ → ℕ → ℕ
 window_time part slots period window = time_in part slots (window * period) period
-
--- the ticks from one on up to an end that a slot gives a partition
-abbrev pub shared : ℕ → ℕ → ℕ → Slot → ℕ
-shared part start end slot = if slot.part == part then min (slot.start + slot.duration) end - max slot.start start else 0

@@ -1,7 +1,7 @@
 //! Requirements, and what is left of each in its current window.
 
 ghost use Rattle.std.specs.Prelude.{◌≡◌, ◌+◌, ◌^◌, ◌<◌, All, map, fold, min};
-ghost use Rattle.plan_maker.specs.Turns.{job_due_first, next_end, renewed, sooner_due, spent_first, due_of};
+ghost use Rattle.plan_maker.specs.lemmas.Turns.{job_due_first, next_end, renewed, sooner_due, spent_first, due_of};
 
 /// What a partition requires: this many ticks in each period.
 #[derive(Clone, Copy, Debug, PartialEq, Eq)]
@@ -37,7 +37,7 @@ pub struct Due {
 }
 
 /// What is due to the job that goes first, or `None` where no job has ticks to get.
-#[tactic(auto, unfolding(crate::specs::Turns::job_due_first))]
+#[tactic(auto, unfolding(crate::specs::lemmas::Turns::job_due_first))]
 pub(crate) fn first_due(jobs: &[Job]) -> Option<Due>
     ensures { result ≡ job_due_first jobs.now }
 {

@@ -5,7 +5,8 @@ ghost use Rattle.xm_conf.specs.Limits.{most_parts};
 ghost use Rattle.xm_conf.specs.Along.{added_by_each};
 ghost use Rattle.xm_conf.specs.Description.{described};
 ghost use Rattle.xm_conf.specs.Fits.{Fits};
-ghost use Rattle.plan_maker.specs.Needed.{ArePossible, common_period, required, required_by, requirements};
+ghost use Rattle.plan_maker.specs.lemmas.NeededTerms.{ArePossible};
+ghost use Rattle.plan_maker.specs.Needed.{common_period, required, required_by, requirements};
 ghost use Rattle.plan_maker.specs.Planned.{GivesPlan, IsHopeless, IsPlanRefused, IsRequirementServed, KeepsRules, frame_slots, plan_in, plan_with, planned};
 
 use crate::jobs::Requirement;

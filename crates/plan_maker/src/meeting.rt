@@ -3,7 +3,8 @@
 ghost use Rattle.std.specs.Prelude.{◌≡◌, ℕ, ◌+◌, ◌-◌, ◌*◌, ◌/◌, ◌^◌, ◌<◌, ◌≤◌, All, IfSome, IsNone, Some, nat_lt, sum_by};
 ghost use Rattle.xm_conf.specs.Fits.{InFrame, InTurn, IsNeed, IsTime};
 ghost use Rattle.plan_maker.specs.Planned.{IsAnswer, IsEnough};
-ghost use Rattle.plan_maker.specs.Served.{shared, window_time};
+ghost use Rattle.plan_maker.specs.lemmas.ServedTerms.{shared};
+ghost use Rattle.plan_maker.specs.Served.{window_time};
 
 use crate::answer::Met;
 use xm_base::PartId;

@@ -1,7 +1,7 @@
 //! A plan that is being made, from one change to the next.
 
 ghost use Rattle.std.specs.Prelude.{◌≡◌, ◌+◌, ◌^◌, ◌<◌, ◌≤◌, IfOk, IfSome, OnOk, map};
-ghost use Rattle.plan_maker.specs.Turns.{HasMomentRoom, HaveWindowRoom, IsGoing, first_moment, come, first_job, given, window_passed, moment_after_run, ticks_running, next_moment};
+ghost use Rattle.plan_maker.specs.lemmas.Turns.{HasMomentRoom, HaveWindowRoom, IsGoing, first_moment, come, first_job, given, window_passed, moment_after_run, ticks_running, next_moment};
 
 use crate::course::Course;
 use crate::jobs::{Due, Job, Requirement, first_due, next_end, renew, spend};
@@ -20,7 +20,7 @@ pub struct Moment {
 }
 
 impl Model for Moment {
-    ghost use Rattle.plan_maker.specs.Turns as plain;
+    ghost use Rattle.plan_maker.specs.lemmas.Turns as plain;
 
     ghost Value = { plain.Moment };
 
@@ -67,7 +67,7 @@ impl Moment {
     }
 
     /// Goes on to the next change: a job has had its ticks, or a window or the frame ends.
-    #[tactic(auto, unfolding(crate::specs::Turns::next_moment))]
+    #[tactic(auto, unfolding(crate::specs::lemmas::Turns::next_moment))]
     pub(crate) fn turn(&mut self, frame: u32) -> Result<(), Memory>
         requires { IsGoing self.old }
         ensures { OnOk result (self.new ≡ next_moment frame self.old) }

@@ -2,7 +2,8 @@
 
 ghost use Rattle.xm_conf.specs.Limits.{most_parts};
 ghost use Rattle.std.specs.Prelude.{◌≡◌, ◌+◌, ◌-◌, ◌<◌, ◌≤◌, All, length};
-ghost use Rattle.plan_maker.specs.Needed.{IsPossible, common_period, demand, demanded, first_divided, least_multiple, longest_common};
+ghost use Rattle.plan_maker.specs.lemmas.NeededTerms.{IsPossible};
+ghost use Rattle.plan_maker.specs.Needed.{common_period, demand, demanded, first_divided, least_multiple, longest_common};
 
 use crate::jobs::Requirement;
 

@@ -4,7 +4,7 @@ use Rattle.machine_model.specs.Lists.{each}
 use Rattle.machine_model.specs.Machine.{Machine}
 use Rattle.machine_model.specs.Partition.{PartitionState}
 use Rattle.system_state.specs.State.{SysState, part_at, with_machine, with_part}
-use Rattle.port_calls.specs.Traffic.{heard_at, notified}
+use Rattle.port_calls.specs.lemmas.Traffic.{heard_at, notified}
 
 -- the first elements by f of their numbers and themselves, and the others as they are
 abbrev pub each_below : {X : Type 0} → (ℕ → X → X) → ℕ → List X → List X

@@ -13,12 +13,12 @@ use Rattle.xm_conf.specs.View.{is_link_of, link_of}
 use Rattle.xm_conf.specs.declared.link.Link.{Link}
 use Rattle.machine_model.specs.Caller.{Caller, Served, a_of, acting, answering, invalid_parameter, refused_if, tested, with_answer}
 use Rattle.machine_model.specs.LinkCalls.{raise_ipvi}
-use Rattle.machine_model.specs.LinkLemmas.{has_link}
+use Rattle.machine_model.specs.lemmas.LinkLemmas.{has_link}
 use Rattle.machine_model.specs.Emission.{OwnSignals, Trades, Unseen}
 use Rattle.machine_model.specs.Traffic.{Signals, hearing}
 use Rattle.machine_model.specs.View.{has_number, linked, unless_itself, view_of}
 use Rattle.span_model.specs.Passes.{with_traffic}
-use Rattle.port_calls.specs.Links.{GoesTo}
+use Rattle.port_calls.specs.lemmas.Links.{GoesTo}
 use Rattle.port_calls.proofs.TradeLemmas.{signal_trades}
 use Rattle.system_state.specs.Serving.{IsServed, caller_of}
 use Rattle.system_state.specs.State.{SysState, part_at, with_machine, with_part}

@@ -14,16 +14,17 @@ use Rattle.xm_conf.specs.declared.port.Port.{Port}
 use Rattle.xm_conf.specs.declared.port.Way.{Way}
 use Rattle.xm_ports.specs.Channels.{ChannelTable, Content, IsTable, Queuing, content_at, shape_of, shapes_of}
 use Rattle.xm_ports.specs.Ports.{are_same_kind, is_made}
-use Rattle.machine_model.specs.ListLemmas.{table_at}
-use Rattle.machine_model.specs.NameLemmas.{number_is, same_number}
+use Rattle.machine_model.specs.lemmas.ListLemmas.{table_at}
+use Rattle.machine_model.specs.lemmas.NameLemmas.{number_is, same_number}
 use Rattle.machine_model.specs.Caller.{Caller, a_of}
 use Rattle.machine_model.specs.Facts.{PortsHaveKinds}
 use Rattle.machine_model.specs.Lists.{and_then, is_number, table, then_some}
 use Rattle.machine_model.specs.Machine.{copies}
-use Rattle.machine_model.specs.PortCalls.{MadePort, made_port, with_channel}
+use Rattle.machine_model.specs.PortEffects.{MadePort, made_port, with_channel}
 use Rattle.machine_model.specs.Traffic.{content_if, copies_of}
 use Rattle.machine_model.specs.View.{PortChannel, System, if_named, name_from, name_of, named, part_of, port_channel, view_of, with_its_name, with_name}
-use Rattle.port_calls.specs.MadePorts.{HasKind, IsMade, found_end, found_in, found_port, found_with, port_in, table_in}
+use Rattle.port_calls.specs.lemmas.MadePortsTerms.{HasKind, IsMade, found_end, found_in, found_port, found_with, port_in}
+use Rattle.port_calls.specs.MadePorts.{table_in}
 use Rattle.system_state.specs.Serving.{caller_of}
 use Rattle.system_state.specs.State.{SysState}
 use Rattle.system_state.specs.declared.call_site.CallSite.{CallSite}

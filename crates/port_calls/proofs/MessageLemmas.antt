@@ -6,7 +6,8 @@ use Rattle.std.proofs.lemmas.Option.{get_or_from_slice_get, same_Some, slice_get
 use Rattle.guest_bus.specs.Memory.{all_from, is_readable}
 use Rattle.machine_model.specs.Caller.{Caller, Served, Test, answering, b_of, caller_bytes, c_of, invalid_parameter, not_allowed, not_available, refused_if, tested, text, with_answer}
 use Rattle.machine_model.specs.Partition.{areas_of}
-use Rattle.machine_model.specs.PortCalls.{MadePort, is_full, is_source, made_port, on_port, putting, size_fits, source_only}
+use Rattle.machine_model.specs.PortEffects.{MadePort, is_full, is_source, made_port, on_port, size_fits, source_only}
+use Rattle.machine_model.specs.lemmas.PortCallsTerms.{putting}
 use Rattle.machine_model.specs.Emission.{Unseen}
 use Rattle.machine_model.specs.Traffic.{Puts, puts_at}
 use Rattle.machine_model.specs.View.{named, view_of}
@@ -16,9 +17,10 @@ use Rattle.xm_conf.specs.declared.port.Kind.TheVariants as kind
 use Rattle.xm_conf.specs.declared.channel.ChanKind.{ChanKind}
 use Rattle.xm_conf.specs.declared.channel.ChanKind.TheVariants as chan_kind
 use Rattle.xm_ports.specs.Channels.{ChannelTable, IsQueuing, IsSampling, IsTable, Shape, content_at, messages_of, most_of}
-use Rattle.port_calls.specs.MadePorts.{IsMade, port_in, table_in}
-use Rattle.port_calls.specs.Messages.{HasRoomFor, first_refusal, put_tests}
-use Rattle.port_calls.specs.OnPorts.{done_on, is_filled, tests_on}
+use Rattle.port_calls.specs.lemmas.MadePortsTerms.{IsMade, port_in}
+use Rattle.port_calls.specs.MadePorts.{table_in}
+use Rattle.port_calls.specs.lemmas.Messages.{HasRoomFor, first_refusal, put_tests}
+use Rattle.port_calls.specs.lemmas.OnPortsTerms.{done_on, is_filled, tests_on}
 use Rattle.port_calls.specs.declared.on_ports.PortWork.TheVariants as work
 use Rattle.system_state.specs.Serving.{IsServed, MayRead, caller_of}
 use Rattle.system_state.specs.State.{SysState, with_machine, with_part}

@@ -1,10 +1,12 @@
 -- The calls on made ports, by whether the port is made.
 use Rattle.std.proofs.Common.{◌≡◌, None, Some, refl, ◌∙◌}
 use Rattle.machine_model.specs.Caller.{Caller, answering, invalid_parameter}
-use Rattle.machine_model.specs.PortCalls.{MadePort, get_queuing_port_status, get_sampling_port_status, made_port, on_port, read_sampling_message, receive_queuing_message, send_queuing_message, write_sampling_message}
+use Rattle.machine_model.specs.PortEffects.{MadePort, made_port, on_port}
+use Rattle.machine_model.specs.PortCalls.{get_queuing_port_status, get_sampling_port_status, read_sampling_message, receive_queuing_message, send_queuing_message, write_sampling_message}
 use Rattle.xm_conf.specs.declared.port.Kind.{Kind}
 use Rattle.xm_conf.specs.declared.port.Kind.TheVariants as kind
-use Rattle.port_calls.specs.OnPorts.{call_on, done_on}
+use Rattle.port_calls.specs.OnPorts.{call_on}
+use Rattle.port_calls.specs.lemmas.OnPortsTerms.{done_on}
 use Rattle.port_calls.specs.declared.on_ports.PortWork.{PortWork}
 use Rattle.port_calls.specs.declared.on_ports.PortWork.TheVariants as work
 use Rattle.port_calls.proofs.MessageLemmas.{on_made, on_unmade}

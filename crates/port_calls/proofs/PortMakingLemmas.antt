@@ -13,10 +13,10 @@ use Rattle.xm_ports.specs.Channels.{Shape, shape_of}
 use Rattle.xm_ports.specs.Ports.{agrees_end, chan_at, created, created_over, granted, is_called, is_way_of, port_with, ports_of, shape_of_port, unless_differs, unless_missing}
 use Rattle.machine_model.specs.Caller.{Caller, a_of, caller_bytes}
 use Rattle.machine_model.specs.Partition.{areas_of}
-use Rattle.machine_model.specs.PortCalls.{name_at, name_given, shape_at}
+use Rattle.machine_model.specs.PortEffects.{name_at, name_given, shape_at}
 use Rattle.machine_model.specs.View.{System, name_of, no_part, part_of, view_of, with_its_name, with_name}
 use Rattle.span_model.specs.Passes.{part_at}
-use Rattle.port_calls.specs.PortNames.{AreReadable, name_in}
+use Rattle.port_calls.specs.lemmas.PortNamesTerms.{AreReadable, name_in}
 use Rattle.system_state.specs.Serving.{caller_of}
 use Rattle.system_state.specs.State.{SysState}
 use Rattle.system_state.specs.declared.call_site.CallSite.{CallSite}

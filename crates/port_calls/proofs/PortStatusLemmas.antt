@@ -1,9 +1,9 @@
 -- The status of a made port is written.
 use Rattle.std.proofs.Common.{◌≡◌, ℕ, List, [], ◌∷◌, ap, sym, ◌∙◌}
 use Rattle.machine_model.specs.Caller.{Caller, Served, Test, answering, b_of, room, tested, with_written}
-use Rattle.machine_model.specs.PortCalls.{MadePort}
+use Rattle.machine_model.specs.PortEffects.{MadePort}
 use Rattle.xm_conf.specs.declared.port.Kind.{Kind}
-use Rattle.port_calls.specs.OnPorts.{done_on, status_bytes, status_in}
+use Rattle.port_calls.specs.lemmas.OnPortsTerms.{done_on, status_bytes, status_in}
 use Rattle.port_calls.specs.declared.on_ports.PortWork.TheVariants as work
 
 -- bytes that are the status of a port are written to b, where the test of the room lets them

@@ -5,14 +5,14 @@ use Rattle.std.proofs.lemmas.List.{get_or-set_same, set-set}
 use Rattle.guest_bus.specs.Memory.{all_from, is_writable}
 use Rattle.machine_model.specs.Caller.{Caller, acting, answering, b_of, c_of, d_of, invalid_parameter, is_room, refused_if, with_answer, with_written}
 use Rattle.machine_model.specs.Partition.{PartitionState, areas_of}
-use Rattle.machine_model.specs.PortCalls.{message_read, sample_read}
+use Rattle.machine_model.specs.PortEffects.{message_read, sample_read}
 use Rattle.machine_model.specs.Structures.{flag, is_valid, refresh_of, word}
 use Rattle.machine_model.specs.Emission.{OwnTakes, Trades, Unseen}
 use Rattle.machine_model.specs.Traffic.{Takes, takes_at}
 use Rattle.machine_model.specs.View.{named, view_of}
 use Rattle.span_model.specs.Passes.{with_traffic}
-use Rattle.port_calls.specs.MadePorts.{port_in}
-use Rattle.port_calls.specs.Messages.{first_refusal, message_tests, sample_tests}
+use Rattle.port_calls.specs.lemmas.MadePortsTerms.{port_in}
+use Rattle.port_calls.specs.lemmas.Messages.{first_refusal, message_tests, sample_tests}
 use Rattle.system_state.specs.Serving.{IsServed, caller_of}
 use Rattle.system_state.specs.State.{SysState, part_at, with_machine, with_part}
 use Rattle.system_state.specs.declared.call_site.CallSite.{CallSite}
@@ -21,7 +21,7 @@ use Rattle.system_state.specs.declared.served.Act.TheVariants as act
 use Rattle.system_state.specs.declared.served.Note.TheVariants as note
 use Rattle.system_state.specs.declared.served.Served as code
 use Rattle.port_calls.proofs.MessageLemmas.{tested_passed}
-use Rattle.system_state.specs.ServedLemmas.{served_as, served_changed}
+use Rattle.system_state.specs.lemmas.ServedLemmas.{served_as, served_changed}
 
 -- a partition's state that is set, and then changed
 pub set_changed : (old mid new : SysState) (p : ℕ) (ps : PartitionState) (f : PartitionState → PartitionState) → p < length old.machine.parts → mid ≡ with_machine (with_part p ps old.machine) old

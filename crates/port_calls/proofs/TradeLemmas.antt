@@ -11,7 +11,7 @@ use Rattle.xm_conf.specs.declared.channel.ChanKind.{ChanKind}
 use Rattle.xm_conf.specs.declared.channel.ChanKind.TheVariants as chan_kind
 use Rattle.xm_ports.specs.Channels.{ChannelTable, Content, HasQueue, HasSampling, IsQueuing, IsSampling, Queuing, Shape, changed, content_at, first_message, put, shape_of, shapes_of, first_taken, with_content}
 use Rattle.xm_ports.specs.Ports.{is_made}
-use Rattle.machine_model.specs.NameLemmas.{name_is}
+use Rattle.machine_model.specs.lemmas.NameLemmas.{name_is}
 use Rattle.machine_model.specs.Lists.{each, is_number, table, then_some}
 use Rattle.machine_model.specs.Machine.{Machine, booted_part}
 use Rattle.machine_model.specs.Partition.{PartitionState, link_signal}
@@ -21,7 +21,7 @@ use Rattle.machine_model.specs.View.{PortChannel, linked, name_from, name_of, pa
 use Rattle.span_model.specs.Passes.{with_traffic}
 use Rattle.port_calls.specs.MadePorts.{table_in}
 use Rattle.system_state.specs.State.{SysState, part_at, with_machine, with_part}
-use Rattle.port_calls.specs.Traffic.{Brings, heard_at, hears_from, hears_in, is_on, notified}
+use Rattle.port_calls.specs.lemmas.Traffic.{Brings, heard_at, hears_from, hears_in, is_on, notified}
 
 -- two passes that do the same to each element
 each_alike : {X : Type 0} (f g : ℕ → X → X) (xs : List X) → ((k : ℕ) (x : X) → f k x ≡ g k x) → each f xs ≡ each g xs

@@ -5,7 +5,7 @@ ghost use Rattle.machine_model.specs.Caller.{a_of};
 ghost use Rattle.machine_model.specs.LinkCalls.{raise_ipvi};
 ghost use Rattle.machine_model.specs.Emission.{Unseen};
 ghost use Rattle.xm_conf.specs.View.{link_of};
-ghost use Rattle.port_calls.specs.Links.{GoesTo};
+ghost use Rattle.port_calls.specs.lemmas.Links.{GoesTo};
 ghost use Rattle.system_state.specs.Serving.{IsCaller, IsServed, caller_of};
 
 use crate::message_calls::set_result;

@@ -2,7 +2,7 @@
 
 ghost use Rattle.std.specs.Prelude.{◌≡◌, ◌<◌, IfSome, length, slice_get};
 ghost use Rattle.machine_model.specs.Caller.{a_of};
-ghost use Rattle.machine_model.specs.PortCalls.{made_port};
+ghost use Rattle.machine_model.specs.PortEffects.{made_port};
 ghost use Rattle.machine_model.specs.Lists.{then_some};
 ghost use Rattle.machine_model.specs.Structures.{refresh_of};
 ghost use Rattle.machine_model.specs.View.{part_of};
@@ -12,7 +12,7 @@ ghost use Rattle.xm_conf.specs.View.{channel_of};
 ghost use Rattle.xm_ports.specs.Channels.{IsTable, most_of, shapes_of};
 ghost use Rattle.xm_ports.specs.Ports.{are_same_kind, is_made};
 ghost use Rattle.xm_base.specs.Options.{on};
-ghost use Rattle.port_calls.specs.MadePorts.{HasKind, IsMade, found_end, found_in, port_in};
+ghost use Rattle.port_calls.specs.lemmas.MadePortsTerms.{HasKind, IsMade, found_end, found_in, port_in};
 ghost use Rattle.system_state.specs.Serving.{IsCaller, caller_of};
 
 use machine_model::keeps_shapes;
@@ -33,7 +33,7 @@ pub(crate) struct MadePort {
 }
 
 /// The made port of a kind that the call names by its first argument.
-#[tactic(auto, unfolding(machine_model::specs::PortCalls::made_port))]
+#[tactic(auto, unfolding(machine_model::specs::PortEffects::made_port))]
 pub(crate) fn made_port(sys: &Sys, site: CallSite, kind: Kind) -> Option<MadePort>
     requires caller { IsCaller site sys.now }
     requires shapes { sys.now.shapes ≡ shapes_of sys.now.machine.system.conf }
@@ -72,7 +72,7 @@ fn is_made(sys: &Sys, site: CallSite, port: u8) -> bool
 }
 
 /// A port of a partition with its channel, where it is of a kind and the end of a channel.
-#[tactic(auto, unfolding(crate::specs::MadePorts::found_in, machine_model::specs::View::part_of))]
+#[tactic(auto, unfolding(crate::specs::lemmas::MadePortsTerms::found_in, machine_model::specs::View::part_of))]
 fn found_in(conf: &Conf, p: PartId, port: u8, kind: Kind) -> Option<MadePort>
     requires { p < length conf.now.parts }
     ensures value { result ≡ found_in conf.now p port kind }

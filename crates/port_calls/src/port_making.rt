@@ -5,9 +5,10 @@ ghost use Rattle.std.specs.List.{prefix_len};
 ghost use Rattle.guest_bus.specs.Memory.{all_from, is_readable};
 ghost use Rattle.machine_model.specs.Caller.{a_of};
 ghost use Rattle.machine_model.specs.Partition.{areas_of};
-ghost use Rattle.machine_model.specs.PortCalls.{create_refusal, creating, name_given};
+ghost use Rattle.machine_model.specs.PortEffects.{create_refusal, creating, name_given};
 ghost use Rattle.machine_model.specs.Emission.{Unseen};
-ghost use Rattle.port_calls.specs.PortNames.{AreReadable, creation_on, name_in};
+ghost use Rattle.port_calls.specs.lemmas.PortNamesTerms.{AreReadable, name_in};
+ghost use Rattle.port_calls.specs.PortNames.{creation_on};
 ghost use Rattle.system_state.specs.Serving.{IsCaller, IsServed, caller_of};
 
 use system_state::answering::{

@@ -5,8 +5,9 @@ ghost use Rattle.xm_ports.specs.Channels.{content_at};
 ghost use Rattle.machine_model.specs.Structures.{queuing_status, sampling_status};
 ghost use Rattle.machine_model.specs.Emission.{Unseen};
 ghost use Rattle.xm_conf.specs.declared.port.Kind.TheVariants as the_kind;
-ghost use Rattle.port_calls.specs.MadePorts.{IsMade, port_in, table_in};
-ghost use Rattle.port_calls.specs.OnPorts.{done_on, status_bytes, status_in};
+ghost use Rattle.port_calls.specs.lemmas.MadePortsTerms.{IsMade, port_in};
+ghost use Rattle.port_calls.specs.MadePorts.{table_in};
+ghost use Rattle.port_calls.specs.lemmas.OnPortsTerms.{done_on, status_bytes, status_in};
 ghost use Rattle.port_calls.specs.declared.on_ports.PortWork.TheVariants as work;
 ghost use Rattle.system_state.specs.Serving.{IsCaller, IsServed, caller_of};
 

@@ -8,7 +8,7 @@ ghost use Rattle.machine_model.specs.Traffic.{Puts, Takes, hearing, interrupted,
 ghost use Rattle.machine_model.specs.View.{part_of, view_of};
 ghost use Rattle.port_calls.specs.MadePorts.{table_in};
 ghost use Rattle.system_state.specs.State.{part_at, with_machine, with_part};
-ghost use Rattle.port_calls.specs.Traffic.{heard_at, hears_from, hears_in, is_on, notified};
+ghost use Rattle.port_calls.specs.lemmas.Traffic.{heard_at, hears_from, hears_in, is_on, notified};
 
 use system_state::Sys;
 use system_state::interrupts::{LINK_SIGNAL, QUEUING_MESSAGE, SAMPLING_MESSAGE};
@@ -103,7 +103,7 @@ fn raise_at(sys: &mut Sys, q: PartId, interrupt: u8)
 }
 
 /// Whether a partition hears what is put into a channel.
-#[tactic(auto, unfolding(crate::specs::Traffic::hears_in))]
+#[tactic(auto, unfolding(crate::specs::lemmas::Traffic::hears_in))]
 fn hears(sys: &Sys, q: PartId, chan: u8) -> bool
     requires { q < length sys.now.machine.parts }
     ensures { result ≡ hears_in sys.now.machine.system.conf q chan (part_at q sys.now.machine) }
@@ -147,7 +147,7 @@ fn is_destination(way: Way) -> bool
 }
 
 /// Whether a partition's port is made, and on a channel.
-#[tactic(auto, unfolding(crate::specs::Traffic::is_on))]
+#[tactic(auto, unfolding(crate::specs::lemmas::Traffic::is_on))]
 fn is_on(sys: &Sys, q: PartId, chan: u8, port: u8) -> bool
     requires { q < length sys.now.machine.parts }
     ensures { result ≡ is_on sys.now.machine.system.conf q chan (part_at q sys.now.machine).made port }

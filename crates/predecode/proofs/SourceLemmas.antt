@@ -1,6 +1,6 @@
 -- The row of an instruction that is in range.
 use Rattle.std.proofs.Common.{ℕ, sym, subst}
-use Rattle.sparc_code.specs.DecodedLemmas.{decoded-spells}
+use Rattle.sparc_code.specs.lemmas.DecodedLemmas.{decoded-spells}
 use Rattle.sparc_code.specs.Spells.{Spells}
 use Rattle.sparc_code.specs.declared.instruction.Instr.{Instr}
 use Rattle.predecode.specs.Rows.{AreRegisterNumbers, IsRowOf, as_done}

@@ -1,7 +1,5 @@
 -- What a row does, as a number: the frequent ones first, so that few compares distinguish them.
-use Rattle.std.specs.Prelude.{ℕ, Bool, true, false, ◌==◌, if◌then◌else◌}
-use Rattle.guest_bus.specs.declared.bus.Size.{Size}
-use Rattle.guest_bus.specs.declared.bus.Size.TheVariants.{One, Two, Four, Eight}
+use Rattle.std.specs.Prelude.{ℕ, Bool, ◌==◌, if◌then◌else◌}
 use Rattle.sparc_code.specs.declared.instruction.Arith.{Arith}
 use Rattle.sparc_code.specs.declared.instruction.Arith.TheVariants.{Add, And, Or, Xor, Sub, AndN, OrN, XNor, AddX, UMul, SMul, SubX, UDiv, SDiv, AddCc, AndCc, OrCc, XorCc, SubCc, AndNCc, OrNCc, XNorCc, AddXCc, UMulCc, SMulCc, SubXCc, UDivCc, SDivCc, TAddCc, TSubCc, TAddCcTv, TSubCcTv, MulSCc, Sll, Srl, Sra}
 use Rattle.sparc_code.specs.declared.instruction.MemOp.{MemOp}
@@ -76,32 +74,3 @@ kind_of_branch annul = if annul then 36 else 2
 -- a trap, which is taken always or is any other's
 abbrev pub kind_of_trap : ℕ → ℕ
 kind_of_trap condition = if condition == 8 then 37 else other
-
--- the load or store of a kind
-unfoldable pub transfer_of : ℕ → MemOp
-transfer_of kind =
-    if kind == 13 then Ld
-    else if kind == 14 then LdUb
-    else if kind == 15 then LdUh
-    else if kind == 16 then LdSb
-    else if kind == 17 then LdSh
-    else if kind == 18 then LdD
-    else if kind == 19 then St
-    else if kind == 20 then StB
-    else if kind == 21 then StH
-    else StD
-
--- the load of a size, which may extend the sign of less than a word, and the store
-abbrev pub load_by_size : Bool → Size → MemOp
-load_by_size true One = LdSb
-load_by_size true Two = LdSh
-load_by_size false One = LdUb
-load_by_size false Two = LdUh
-load_by_size signed Four = Ld
-load_by_size signed Eight = LdD
-
-abbrev pub store_by_size : Size → MemOp
-store_by_size One = StB
-store_by_size Two = StH
-store_by_size Four = St
-store_by_size Eight = StD

@@ -1,5 +1,4 @@
 pub mod Kinds
 pub mod Rows
-pub mod Sources
 pub mod Kept
-pub mod KeptLemmas
+pub mod lemmas

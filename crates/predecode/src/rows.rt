@@ -4,8 +4,9 @@ ghost use Rattle.std.specs.Prelude.{◌≡◌, ◌*◌, ◌≢◌, ◌^◌, ◌<
 ghost use Rattle.sparc_code.specs.Ranges.{InRange};
 ghost use Rattle.sparc_step.specs.Words.{residue};
 ghost use Rattle.predecode.specs.Kinds.{row_kind_of, kind_of_branch, kind_of_transfer, kind_of_trap};
-ghost use Rattle.predecode.specs.Rows.{AreRegisterNumbers, IsRowOf, IsSethiRow, IsWorkRow, RowDoes, as_done, is_dropped};
-ghost use Rattle.predecode.specs.Sources.{IsRegisterIn};
+ghost use Rattle.predecode.specs.Rows.{AreRegisterNumbers, IsRowOf, RowDoes, as_done, is_dropped};
+ghost use Rattle.predecode.specs.lemmas.RowsLemmas.{IsSethiRow, IsWorkRow};
+ghost use Rattle.predecode.specs.lemmas.Sources.{IsRegisterIn};
 
 use crate::kinds;
 use sparc_code::{Arith, Instr, MemOp, Src};

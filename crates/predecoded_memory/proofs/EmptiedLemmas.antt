@@ -3,7 +3,7 @@ use Rattle.std.proofs.Common.{◌≡◌, ◌≢◌, ◌⊎◌, ℕ, zero, suc, �
 use Rattle.std.specs.Prelude.{slice_get}
 use Rattle.std.proofs.lemmas.Bool.{cases_eq, cases_lt}
 use Rattle.std.proofs.lemmas.Option.{same_Some, slice_get-get_or}
-use Rattle.predecoded_memory.specs.Shares.{AreEmptied, WasEmptied, emptied, row_of_zeros, with_empty}
+use Rattle.predecoded_memory.specs.lemmas.SharesTerms.{AreEmptied, WasEmptied, emptied, row_of_zeros, with_empty}
 use Rattle.predecode.specs.declared.rows.Row.{Row}
 
 -- what stands at a place that was set, and at another

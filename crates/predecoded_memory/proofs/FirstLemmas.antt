@@ -7,9 +7,10 @@ use Rattle.xm_conf.specs.Configuration.{Part}
 use Rattle.guest_bus.specs.Memory.{Area}
 use Rattle.guest_memory.specs.Loading.{memory_areas}
 use Rattle.guest_memory.specs.Memories.{AreMemories, Memories, areas_at, map_at}
-use Rattle.predecoded_memory.specs.Shares.{AreEmpty, AreKept, AreParts, ArePartRows, empty_row, first_address, share_for}
+use Rattle.predecoded_memory.specs.lemmas.SharesTerms.{AreEmpty, empty_row}
+use Rattle.predecoded_memory.specs.Shares.{AreKept, AreParts, ArePartRows, first_address, share_for}
 use Rattle.predecoded_memory.specs.declared.share.PartRows.{PartRows}
-use Rattle.predecode.specs.KeptLemmas.{empty_kept}
+use Rattle.predecode.specs.lemmas.KeptLemmas.{empty_kept}
 use Rattle.predecode.specs.Rows.{AreRegisterNumbers}
 use Rattle.predecode.specs.declared.rows.Row.{Row}
 

@@ -8,16 +8,17 @@ use Rattle.std.proofs.lemmas.Bool.{cases_eq, cases_lt}
 use Rattle.std.proofs.lemmas.List.{get_or-set_other, get_or-set_same}
 use Rattle.std.proofs.lemmas.Option.{slice_get_read}
 use Rattle.guest_bus.specs.Access.{access_fault, after_store, memory_unless_refused, store_fault, width_of}
-use Rattle.guest_bus.specs.AccessLemmas.{length-bytes_high_first, length-bytes_of}
+use Rattle.guest_bus.specs.lemmas.AccessLemmas.{length-bytes_high_first, length-bytes_of}
 use Rattle.guest_bus.specs.Memory.{Area, Memory, is_writable, with_bytes}
 use Rattle.guest_bus.specs.Words.{MayStand, bytes_of}
 use Rattle.guest_bus.specs.declared.bus.BusFault.{BusFault}
 use Rattle.guest_bus.specs.declared.bus.Size.{Size}
 use Rattle.guest_memory.specs.Memories.{AreMemories, ArePlaced, IsPlaced, Memories, areas_at, map_at, with_map, with_selected}
-use Rattle.predecoded_memory.specs.Shares.{AreEmptied, AreKept, ArePartRows, AreReached, AreUnmade, IsReached, WasEmptied, emptied, first_address, lowest, word_after, words_written}
+use Rattle.predecoded_memory.specs.lemmas.SharesTerms.{AreEmptied, AreReached, IsReached, WasEmptied, emptied, word_after, words_written}
+use Rattle.predecoded_memory.specs.Shares.{AreKept, ArePartRows, AreUnmade, first_address, lowest}
 use Rattle.predecode.specs.Kept.{AreKeptRows, IsKeptRow}
 use Rattle.predecode.specs.Kinds.{unmade}
-use Rattle.predecode.specs.KeptLemmas.{empty_kept, kept_apart}
+use Rattle.predecode.specs.lemmas.KeptLemmas.{empty_kept, kept_apart}
 use Rattle.predecode.specs.Rows.{AreRegisterNumbers}
 use Rattle.predecode.specs.declared.rows.Row.{Row}
 use Rattle.predecoded_memory.specs.declared.share.PartRows.{PartRows}

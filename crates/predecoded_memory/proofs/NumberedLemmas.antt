@@ -12,7 +12,7 @@ use Rattle.guest_memory.specs.Memories.{AreMemories, Memories, areas_at, map_at,
 use Rattle.predecoded_memory.specs.Shares.{AreKept, LieNumbered, base_of, first_address, share_for, share_of}
 use Rattle.predecoded_memory.specs.declared.share.PartRows.{PartRows}
 use Rattle.predecode.specs.Kept.{IsKeptRow, IsRowFor}
-use Rattle.predecode.specs.KeptLemmas.{made_kept}
+use Rattle.predecode.specs.lemmas.KeptLemmas.{made_kept}
 use Rattle.predecode.specs.declared.rows.Row.{Row}
 use Rattle.predecoded_memory.proofs.EmptiedLemmas.{get_set_other, get_set_same}
 

@@ -8,8 +8,9 @@ use Rattle.guest_bus.specs.Memory.{Memory, is_writable, with_bytes}
 use Rattle.guest_bus.specs.Words.{MayStand, bytes_of}
 use Rattle.guest_bus.specs.declared.bus.Size.{Size}
 use Rattle.guest_memory.specs.Memories.{AreMemories, Memories, areas_at, map_at, others_of, with_map}
-use Rattle.guest_memory.specs.SelectedLemmas.{changed_selected}
-use Rattle.predecoded_memory.specs.Shares.{AreEmptied, AreKept, AreReached, AreUnmade, first_address, word_after, words_written}
+use Rattle.guest_memory.specs.lemmas.SelectedLemmas.{changed_selected}
+use Rattle.predecoded_memory.specs.lemmas.SharesTerms.{AreEmptied, AreReached, word_after, words_written}
+use Rattle.predecoded_memory.specs.Shares.{AreKept, AreUnmade, first_address}
 use Rattle.predecode.specs.Kept.{AreKeptRows}
 use Rattle.predecode.specs.declared.rows.Row.{Row}
 use Rattle.predecoded_memory.specs.declared.share.PartRows.{PartRows}

@@ -6,7 +6,8 @@ use Rattle.std.specs.Int.{byte_len}
 use Rattle.guest_bus.specs.Access.{width_of}
 use Rattle.guest_bus.specs.declared.bus.Size.{Size}
 use Rattle.guest_bus.specs.declared.bus.Size.TheVariants.{One, Two, Four, Eight}
-use Rattle.predecoded_memory.specs.Shares.{IsReached, share_for, word_after, words_written}
+use Rattle.predecoded_memory.specs.lemmas.SharesTerms.{IsReached, word_after, words_written}
+use Rattle.predecoded_memory.specs.Shares.{share_for}
 
 -- all shares together are no more than all rows
 pub shares_fit : (count : ℕ) → count * share_for count ≤ 1048576

@@ -1,7 +1,7 @@
 //! Rows that are emptied.
 
 ghost use Rattle.std.specs.Prelude.{◌≡◌, ◌+◌, ◌^◌, ◌≤◌, ◌<◌, ℕ, length};
-ghost use Rattle.predecoded_memory.specs.Shares.{AreEmptied, AreReached, IsReached, with_empty, words_written};
+ghost use Rattle.predecoded_memory.specs.lemmas.SharesTerms.{AreEmptied, AreReached, IsReached, with_empty, words_written};
 
 use guest_bus::Size;
 use predecode::{Row, kinds};
@@ -11,7 +11,7 @@ const WORDS: usize = 0x4000_0000;
 
 // Empties the row of a number.
 #[inline(always)]
-#[tactic(auto, unfolding(crate::specs::Shares::with_empty))]
+#[tactic(auto, unfolding(crate::specs::lemmas::SharesTerms::with_empty))]
 fn empty_row(rows: &mut [Row], number: usize)
     requires { number < length rows.old }
     ensures { rows.new ≡ with_empty number rows.old }

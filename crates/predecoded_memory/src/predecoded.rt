@@ -5,7 +5,8 @@ ghost use Rattle.guest_bus.specs.Access.{fetched};
 ghost use Rattle.guest_bus.specs.Memory.{all_from, bytes_at, is_readable, is_writable, with_bytes};
 ghost use Rattle.guest_memory.specs.Loading.{LiesInAreas, area_of, areas_with_image, memory_areas, zeros_in};
 ghost use Rattle.guest_memory.specs.Memories.{AreMemories, ArePlaced, SameElsewhere, answer_by, areas_at, first_refused, map_at, others_of, with_map, with_selected};
-ghost use Rattle.predecoded_memory.specs.Shares.{AreEmpty, AreParts, ArePartRows, LieNumbered, first_address, lowest};
+ghost use Rattle.predecoded_memory.specs.lemmas.SharesTerms.{AreEmpty};
+ghost use Rattle.predecoded_memory.specs.Shares.{AreParts, ArePartRows, LieNumbered, first_address, lowest};
 
 use crate::emptied::{empty_stored, empty_words};
 use crate::share::{PartRows, ROWS, numbered, share_for, word_after};

@@ -31,15 +31,15 @@ use Rattle.xm_ports.specs.declared.ports.CreateFault.TheVariants.{Already, Diffe
 use Rattle.xm_traces.specs.Ring.{Kept, entry_at, first_kept, noted}
 use Rattle.xm_traces.specs.declared.entry.TraceEntry.{TraceEntry}
 use Rattle.machine_model.specs.Caller.{Acts, Caller, Meets, Served, Test, Upshot, a_of, acting, answering, b_of, c_of, caller_bytes, d_of, invalid_mode, invalid_parameter, is_not_system, no_action, no_permission, not_allowed, not_available, refused_if, room, shown, system_only, target, tested, text, unknown_call, with_answer, with_written}
-use Rattle.machine_model.specs.CallLemmas.{every_call}
+use Rattle.machine_model.specs.lemmas.CallLemmas.{every_call}
 use Rattle.machine_model.specs.Calls.{Call, GetSelf, HaltPartition, ResetPartition, SuspendPartition, ResumePartition, ShutdownPartition, IdleSelf, GetPartitionStatus, HaltSystem, ResetSystem, GetSystemStatus, GetTime, SetTimer, SwitchSchedPlan, GetPlanStatus, CreateSamplingPort, WriteSamplingMessage, ReadSamplingMessage, GetSamplingPortStatus, CreateQueuingPort, SendQueuingMessage, ReceiveQueuingMessage, GetQueuingPortStatus, TraceEvent, TraceRead, TraceStatus, RaiseEvent, HmRead, HmStatus, SetIrqmask, ClearIrqmask, WriteConsole, ReadInput, Iret, SetPsr, SetTbr, FlushRegwin, RaiseIpvi, effect_of_call}
 use Rattle.machine_model.specs.Effects.{ArmsTimer, CallEffect, ChangesOwn, CreatesPort, DoesToAll, EntersTrace, GivesAnswer, GivesOrder, GoesBack, MeetsEvent, OwnChange, PrintsBytes, PutsBytes, RequestsPlan, SendsSignal, SetsBase, SetsCodes, SetsMask, ShowsPort, ShowsSample, SpillsWindows, TakesMessage, TestedEffect, UsesInput, Waits, Writing, comes_to, performed, putting_bytes, queue_room, right_tests, with_change, with_writings}
 use Rattle.machine_model.specs.Hypercalls.{served}
 use Rattle.machine_model.specs.Lists.{and_then}
-use Rattle.machine_model.specs.LogCalls.{bytes_of_entry, is_own, trace_entry, tracing}
+use Rattle.machine_model.specs.Readings.{bytes_of_entry, is_own}
+use Rattle.machine_model.specs.OwnEffects.{trace_entry, tracing, by_flush, by_return, flushed, flushed_after, input_read, undone}
 use Rattle.machine_model.specs.Partition.{PartitionState, areas_of}
-use Rattle.machine_model.specs.PortCalls.{MadePort, by_created, create_refusal, creating, destination_only, first_read, held_read, is_full, made_port, message_read, on_port, port_with_content, sample_read, shape_at, size_fits, source_only, with_channel}
-use Rattle.machine_model.specs.ProcessorCalls.{by_flush, by_return, flushed, flushed_after, input_read, undone}
+use Rattle.machine_model.specs.PortEffects.{MadePort, by_created, create_refusal, creating, destination_only, first_read, held_read, is_full, made_port, message_read, on_port, port_with_content, sample_read, shape_at, size_fits, source_only, with_channel}
 use Rattle.machine_model.specs.Structures.{counts_bytes, double, health_bytes, partition_status, queuing_status, sample_status, sampling_status, state_number, trace_bytes, validity, word}
 use Rattle.machine_model.specs.Emission as emission
 use Rattle.machine_model.specs.Emission.{Act, NotKept, OwnPuts, OwnSignals, OwnTakes, Sight, Unseen, Words}

@@ -23,19 +23,18 @@ use Rattle.xm_traces.specs.Ring.{entry_at}
 use Rattle.xm_traces.specs.declared.entry.TraceEntry.{TraceEntry}
 use Rattle.machine_model.specs.Cue.{cue, cue_in, script, script_unless, unless_own}
 use Rattle.machine_model.specs.Facts.{BootsComplete, IsAsMany, IsComplete, KeepsNumbers}
-use Rattle.machine_model.specs.ListLemmas.{get_each}
-use Rattle.machine_model.specs.Lists.{each, table}
+use Rattle.machine_model.specs.lemmas.ListLemmas.{get_each}
+use Rattle.machine_model.specs.Lists.{each, table, is_number}
 use Rattle.machine_model.specs.LocalTick.{LocalTick}
 use Rattle.machine_model.specs.Machine.{Happened, Machine, SlotTurn, act_of, after, after_tick, answer_to, booted_part, channel_after, copies, happened, happened_by, if_its_turn, is_turn_of, local, local_in, local_of, obeyed, order_upon, part_after, rested_unless, run, shown_entry, shown_of, sight, sight_for, sight_in, sight_of_state, start, step, system_traffic, taken_by, tick_of, turn_of, with_room, worked_in}
 use Rattle.machine_model.specs.Observed.{CurrentPlan, HealthCounts, HealthEntryOf, Observation, PartitionStatus, PlanStatus, Question, SystemStatus, TraceCounts, TraceEntryOf, asks}
 use Rattle.machine_model.specs.Partition.{PartitionState, areas_of, hardware_looked_at, is_halted, link_signal, rested, takes_turns}
 use Rattle.machine_model.specs.Structures.{counts_bytes, double, health_bytes, or_none, partition_status, plan_status, slot_number, system_status, trace_bytes, word}
-use Rattle.machine_model.specs.TickLemmas.{step_halted, step_runs}
+use Rattle.machine_model.specs.lemmas.TickLemmas.{step_halted, step_runs}
 use Rattle.machine_model.specs.Emission as emission
 use Rattle.machine_model.specs.Emission.{Act, NotKept, OwnPuts, OwnSignals, OwnStill, OwnTakes, OwnTraffic, Sight, Unseen, Words}
 use Rattle.machine_model.specs.Traffic.{Puts, Signals, Still, Takes, Traffic, after_message, after_traffic, content_if, copies_of, heard_as, heard_from, hearing, interrupted, own_puts_at, own_signals_at, own_takes_at, puts_at, takes_at, traffic_as, traffic_of}
 use Rattle.machine_model.specs.View.{PartitionView, System, linked, name_of, named, no_image, no_part, part_of, view_of}
-use Rattle.machine_model.specs.Lists.{is_number}
 use Rattle.machine_model.specs.Whole.{AllHalted, AllReset, NoEvent, WholeEvent, after_event, content_after}
 use Rattle.cue_scripts.specs.Script.{IsOrder}
 use Rattle.range_model.specs.Cues.{HasMessageBytes, HasNumbers, HasShownBytes}

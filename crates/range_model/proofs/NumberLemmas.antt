@@ -9,7 +9,7 @@ use Rattle.std.specs.FinMap.{empty, get-empty, insert}
 use Rattle.std.specs.Ordering.{nat_cmp}
 use Rattle.std.specs.Int.{Width, w32, w64, bit_not, byte_at as byte_of, bytes_high_first, cast_unsigned, from_be_bytes, int_shr, saturate_signed, to_be_bytes}
 use Rattle.guest_bus.specs.Memory.{Memory, byte_at, bytes_at, with_bytes}
-use Rattle.guest_bus.specs.MemoryLemmas.{get-insert_other, get-insert_same}
+use Rattle.guest_bus.specs.lemmas.MemoryLemmas.{get-insert_other, get-insert_same}
 use Rattle.guest_bus.specs.Words.{bytes_of, words_at}
 use Rattle.range_model.specs.Numbers.{AreBelow, IsByteMemory}
 

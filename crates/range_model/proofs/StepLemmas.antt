@@ -10,7 +10,7 @@ use Rattle.guest_bus.specs.declared.bus.BusFault.TheVariants.{Outside, Unaligned
 use Rattle.guest_bus.specs.declared.bus.Size.{Size}
 use Rattle.guest_bus.specs.declared.bus.Size.TheVariants.{One, Two, Four, Eight}
 use Rattle.sparc_code.specs.Decoded.{decoded}
-use Rattle.sparc_code.specs.DecodedLemmas.{spells-decoded}
+use Rattle.sparc_code.specs.lemmas.DecodedLemmas.{spells-decoded}
 use Rattle.sparc_code.specs.Fields.{imm22}
 use Rattle.sparc_code.specs.Spells.{Spells}
 use Rattle.sparc_code.specs.declared.instruction.Arith.{Arith}

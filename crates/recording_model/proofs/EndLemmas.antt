@@ -20,8 +20,8 @@ use Rattle.xm_conf.specs.declared.port.Port.{Port}
 use Rattle.xm_conf.specs.declared.port.Way.{Way}
 use Rattle.xm_conf.specs.declared.port.Way.TheVariants as way
 use Rattle.xm_ports.specs.Channels.{Content, IsMessage as IsMessageOf, Shape, shape_of}
-use Rattle.machine_model.specs.NameLemmas.{number_is, named_is}
-use Rattle.machine_model.specs.EndLemmas.{all_at, any_end, end_is, found_from, its_channel_is, view_channel, view_port}
+use Rattle.machine_model.specs.lemmas.NameLemmas.{number_is, named_is}
+use Rattle.machine_model.specs.lemmas.EndLemmas.{all_at, any_end, end_is, found_from, its_channel_is, view_channel, view_port}
 use Rattle.machine_model.specs.Lists.{is_number}
 use Rattle.machine_model.specs.OwnActs.{HasPortOn, IsPutting, IsTaking}
 use Rattle.machine_model.specs.View.{System, name_from, name_of, named, no_part, part_of, view_of}

@@ -7,8 +7,8 @@ use Rattle.xm_base.specs.Options.{on}
 use Rattle.xm_conf.specs.Configuration.{Chan, Conf}
 use Rattle.xm_conf.specs.View.{channel_of}
 use Rattle.xm_ports.specs.Channels.{Content, cleared, put, first_taken}
-use Rattle.machine_model.specs.ListLemmas.{get_each, get_map, same_tables, each_table, map_table}
-use Rattle.machine_model.specs.NameLemmas.{number_is}
+use Rattle.machine_model.specs.lemmas.ListLemmas.{get_each, get_map, same_tables, each_table, map_table}
+use Rattle.machine_model.specs.lemmas.NameLemmas.{number_is}
 use Rattle.machine_model.specs.Lists.{each, is_number, table, then_some}
 use Rattle.machine_model.specs.Machine.{Machine}
 use Rattle.machine_model.specs.Emission.{OwnPuts, OwnSignals, OwnStill, OwnTakes, OwnTraffic}

@@ -5,13 +5,13 @@ use Rattle.std.proofs.lemmas.Bool.{cases_eq}
 use Rattle.std.proofs.lemmas.List.{length-map}
 use Rattle.std.proofs.lemmas.Option.{get_or_from_slice_get, same_Some}
 use Rattle.cyclic_plans.specs.PlanClock.{AsksPlan, CyclicClock, IsInFrame, ended, started}
-use Rattle.cyclic_plans.specs.PlanLemmas.{begins_in_frame}
+use Rattle.cyclic_plans.specs.lemmas.PlanLemmas.{begins_in_frame}
 use Rattle.xm_base.specs.Options.{on}
 use Rattle.xm_conf.specs.Configuration.{Conf}
 use Rattle.xm_conf.specs.Description.{described}
 use Rattle.xm_conf.specs.Fits.{Fits}
 use Rattle.xm_ports.specs.Channels.{cleared}
-use Rattle.machine_model.specs.ListLemmas.{get_each, each_counted as each_length}
+use Rattle.machine_model.specs.lemmas.ListLemmas.{get_each, each_counted as each_length}
 use Rattle.machine_model.specs.Cue.{Cue}
 use Rattle.machine_model.specs.Facts.{AreFacts, HasFacts, IsClocked, IsTimed, KeepsClocked}
 use Rattle.machine_model.specs.Health.{Worked}

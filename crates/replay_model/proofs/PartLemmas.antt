@@ -7,10 +7,10 @@ use Rattle.xm_base.specs.declared.partition.Order.{Order}
 use Rattle.xm_base.specs.declared.partition.State.{State}
 use Rattle.xm_conf.specs.Configuration.{Conf}
 use Rattle.xm_ports.specs.Channels.{Content, cleared}
-use Rattle.machine_model.specs.ListLemmas.{each_counted as each_length}
+use Rattle.machine_model.specs.lemmas.ListLemmas.{each_counted as each_length}
 use Rattle.machine_model.specs.Alone.{Alone}
 use Rattle.machine_model.specs.Laws.{part}
-use Rattle.machine_model.specs.LinkLemmas.{own_signal}
+use Rattle.machine_model.specs.lemmas.LinkLemmas.{own_signal}
 use Rattle.machine_model.specs.Lists.{each}
 use Rattle.machine_model.specs.Machine.{Machine, booted_part, copies, obeyed_emissions}
 use Rattle.machine_model.specs.Partition.{PartitionState, applies, is_halted, link_signal, order_emissions, ordered_emissions, reset}

@@ -15,8 +15,7 @@ use Rattle.machine_model.specs.Allowed.{AllowsTraffic, AnswersCalls, HearsWhatIs
 use Rattle.machine_model.specs.Alone.{Alone, alone_start, alone_step}
 use Rattle.machine_model.specs.Cue.{Away, Cue, Mine, cue, cue_in, script, script_unless, slot_of, unless_own}
 use Rattle.machine_model.specs.Facts.{BootsComplete, BootsWithFacts, BootsWithShapes, KeepsFacts, KeepsNumbers, KeepsShapes}
-use Rattle.machine_model.specs.Laws.{ActsWithinBounds, BootsAlone, OneTick, part}
-use Rattle.machine_model.specs.Laws.{alone_part_at as model_part_at}
+use Rattle.machine_model.specs.Laws.{ActsWithinBounds, BootsAlone, OneTick, part, alone_part_at as model_part_at}
 use Rattle.machine_model.specs.LocalTick.{LocalTick, bounded, local_tick, worked}
 use Rattle.machine_model.specs.Machine.{Machine, SlotTurn, act_of, answer_to, booted_part, copies, happened, happened_by, if_its_turn, is_turn_of, local, local_in, local_of, sight, sight_for, sight_in, sight_of_state, start, step, system_traffic, taken_by, tick_of, turn_of, with_room}
 use Rattle.machine_model.specs.Observed.{CurrentPlan, HealthCounts, HealthEntryOf, Observation, PartitionStatus, PlanStatus, Question, SystemStatus, TraceCounts, TraceEntryOf, asks}

@@ -7,7 +7,7 @@ use Rattle.machine_model.specs.Emission.{Act}
 use Rattle.machine_model.specs.View.{PortChannel}
 use Rattle.machine_model.specs.Whole.{WholeEvent, event_of}
 use Rattle.replay_model.specs.Taking.{is_empty_copy, is_full_copy, is_same_event, may_write}
-use Rattle.replay_model.specs.TakingRows.{AskedRows, EventRows, QueueRows, SightRows, queue_of_two, samples, status_call}
+use Rattle.replay_model.specs.rows.TakingRows.{AskedRows, EventRows, QueueRows, SightRows, queue_of_two, samples, status_call}
 
 -- a put, by the channel and what its copy holds
 put_by : (channel found : Option PortChannel) (copy held : Option Content) → channel ≡ found → copy ≡ held → not (is_full_copy channel copy) ≡ not (is_full_copy found held)

@@ -4,5 +4,5 @@ pub mod Passes
 pub mod Step
 pub mod Taking
 pub mod TakingLaws
-pub mod TakingRows
 pub mod ReceivingLaws
+pub mod rows

@@ -3,7 +3,7 @@
 ghost use Rattle.replay_model.specs.Kept.{PassesKeep};
 ghost use Rattle.replay_model.specs.Laws.{AwayTicks, RestingTicksAlone, WorkingTicks};
 ghost use Rattle.replay_model.specs.TakingLaws.{TakesAway, TakesResting, TakesWorking};
-ghost use Rattle.replay_model.specs.TakingRows.{AskedRows, EventRows, QueueRows, SightRows};
+ghost use Rattle.replay_model.specs.rows.TakingRows.{AskedRows, EventRows, QueueRows, SightRows};
 ghost use Rattle.replay_model.specs.ReceivingLaws.{BootedScriptIsTaken, ScriptIsTaken, ReceivedIsTaken};
 
 use machine_model::{

@@ -10,12 +10,12 @@ use Rattle.file_headers.specs.Heads.{unsealed}
 use Rattle.file_headers.specs.Steps.{unless}
 use Rattle.xm_conf.specs.Configuration.{Conf}
 use Rattle.xm_conf.specs.Description.{described}
-use Rattle.xm_conf.specs.FitLemmas.{fits_within}
+use Rattle.xm_conf.specs.lemmas.FitLemmas.{fits_within}
 use Rattle.xm_conf.specs.Fits.{Fits}
 use Rattle.xm_conf.specs.Laws.{IsBrokenUnlessFits}
 use Rattle.xm_conf.specs.Rules.{first_broken}
 use Rattle.xm_conf.specs.declared.item.Broken.{Broken}
-use Rattle.bin_config.specs.RangeLemmas.{parts_few}
+use Rattle.bin_config.specs.lemmas.RangeLemmas.{parts_few}
 use Rattle.bin_config.specs.Reading as bin
 use Rattle.bin_config.specs.Version.{parts_in_version}
 use Rattle.fault_messages.specs.declared.fault.XmcFault.{XmcFault}

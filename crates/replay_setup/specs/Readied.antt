@@ -1,14 +1,10 @@
 -- What is answered where a replay is made ready.
-use Rattle.std.specs.Prelude.{◌≡◌, ℕ, ◌<◌, ◌^◌, ⊤, Bool, true, false, List, length, Option, Some, None, Result, Ok, Err}
+use Rattle.std.specs.Prelude.{◌≡◌, ◌<◌, ⊤, Bool, true, false, List, length, Option, Some, None, Result, Ok, Err}
 use Rattle.std.specs.String.{string_bytes}
 use Rattle.cue_scripts.specs.Script.{IsScript}
-use Rattle.builders.specs.declared.unmade.Unmade.{Unmade}
-use Rattle.builders.specs.declared.unmade.Unmade.TheVariants as unmade
-use Rattle.loaded_system.specs.System.{System as Loaded}
 use Rattle.machine_model.specs.Cue.{Cue}
 use Rattle.xm_alone.specs.Replay.{IsSilentReplay, TakesAll}
 use Rattle.recording_model.specs.Lone.{Lone, booted_alone, own_view}
-use Rattle.xm_container.specs.Reading.{unpacked}
 use Rattle.builders.specs.Ready.{NoContainer, NoPartition, NoScript, OddInput, Replay, Unready}
 use Rattle.replay_setup.specs.declared.ready.Replay as code
 use Rattle.replay_setup.specs.declared.unready.Unready as why
@@ -22,20 +18,10 @@ unready_of (variant.NoScript text) = Some (NoScript (string_bytes text))
 unready_of (variant.OddInput found) = Some (OddInput found)
 unready_of variant.Memory = None
 
--- a reason of a kind, by the text by which nothing was made
-abbrev pub unready_for : (List ℕ → Unready) → Unmade → Option Unready
-unready_for kind (unmade.Refused text) = Some (kind (string_bytes text))
-unready_for kind unmade.Memory = None
-
 -- the reason is that of the definition, or memory ran out
 abbrev pub IsUnready : {X : Type 0} → Option Unready → Result X Unready → Type 0
 IsUnready None made = ⊤
 IsUnready (Some why) made = made ≡ Err why
-
--- what was made is that of the definition, and so is the reason why it was not
-abbrev pub GivesOr : {X Y : Type 0} → (X → Y) → Result X why.Unready → Result Y Unready → Type 0
-GivesOr view (Ok value) made = made ≡ Ok (view value)
-GivesOr view (Err reason) made = IsUnready (unready_of reason) made
 
 -- a partition as it boots; or, where its cues were seen to print nothing, as they left it
 abbrev pub IsBootedOrLeft : Bool → Lone → List Cue → Type 0
@@ -53,10 +39,3 @@ pub record IsReady (silent : Bool) (alone : Lone) (cues : List Cue) : Type 0 whe
 abbrev pub Readies : Result code.Replay why.Unready → Result Replay Unready → Type 0
 Readies (Ok replay) made = (made ≡ Ok (record { system = replay.alone.system; p = replay.alone.p; cues = replay.script })) × IsReady replay.silent replay.alone replay.script
 Readies (Err reason) made = IsUnready (unready_of reason) made
-
--- a container spells the system, which has the partition; the script is one for it, and its input words are not too many
-pub record IsScripted (container : List ℕ) (system : Loaded) (p : ℕ) (script : List Cue) (input : List ℕ) : Type 0 where
-  pub few : length input < 2 ^ 34
-  pub same : unpacked container ≡ Ok system
-  pub there : p < length system.conf.parts
-  pub received : IsScript system.conf p script

@@ -2,7 +2,7 @@
 
 ghost use Rattle.std.specs.Prelude.{◌<◌, ◌≡◌, ◌^◌, IfOk, length};
 ghost use Rattle.builders.specs.Ready.{inputs_given};
-ghost use Rattle.replay_setup.specs.Readied.{GivesOr};
+ghost use Rattle.replay_setup.specs.lemmas.ReadiedTerms.{GivesOr};
 
 use crate::unready::Unready;
 use std::alloc::Global;

@@ -9,7 +9,8 @@ ghost use Rattle.xm_alone.specs.Replay.{IsSilentReplay, TakesAll};
 ghost use Rattle.recording_model.specs.Lone.{booted_alone};
 ghost use Rattle.xm_container.specs.Reading.{unpacked};
 ghost use Rattle.builders.specs.Ready.{fitting, inputs_given, replay_of, with_input, with_script, with_system};
-ghost use Rattle.replay_setup.specs.Readied.{IsScripted, Readies};
+ghost use Rattle.replay_setup.specs.lemmas.ReadiedTerms.{IsScripted};
+ghost use Rattle.replay_setup.specs.Readied.{Readies};
 
 use crate::inputs::inputs_given;
 use crate::unready::{Unready, bad_container, bad_script};

@@ -2,7 +2,8 @@
 
 ghost use Rattle.std.specs.Prelude.{◌≡◌};
 ghost use Rattle.builders.specs.Ready.{NoContainer, NoScript};
-ghost use Rattle.replay_setup.specs.Readied.{unready_for, unready_of};
+ghost use Rattle.replay_setup.specs.lemmas.ReadiedTerms.{unready_for};
+ghost use Rattle.replay_setup.specs.Readied.{unready_of};
 
 use builders::Unmade;
 

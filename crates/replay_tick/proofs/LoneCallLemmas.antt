@@ -4,7 +4,7 @@ use Rattle.std.specs.Prelude.{◌^◌}
 use Rattle.std.proofs.lemmas.Option.{same_Some}
 use Rattle.system_state.specs.Serving.{caller_at, caller_of}
 use Rattle.system_state.specs.State.{SysState, with_machine}
-use Rattle.system_state.specs.StateLemmas.{part_set}
+use Rattle.system_state.specs.lemmas.StateLemmas.{part_set}
 use Rattle.system_state.specs.declared.call_site.CallSite.{CallSite}
 use Rattle.system_state.specs.declared.served.Note.TheVariants as note
 use Rattle.machine_model.specs.Caller.{Acts, Caller, Served, Upshot, with_answer, with_written}
@@ -22,8 +22,8 @@ use Rattle.machine_model.specs.View.{PartitionView, view_of}
 use Rattle.machine_model.specs.Whole.{event_of}
 use Rattle.span_model.specs.Passes.{part_at, traded, with_part}
 use Rattle.replay_model.specs.Taking.{asks_entry, takes_sight}
-use Rattle.tick_steps.specs.Span.{CanTake}
-use Rattle.replay_tick.specs.LoneWork.{IsLoneDone, IsLoneWork, IsWorkUndone, asked_of, shown_state, shows_this}
+use Rattle.tick_steps.specs.lemmas.SpanTerms.{CanTake}
+use Rattle.replay_tick.specs.lemmas.LoneWorkTerms.{IsLoneDone, IsLoneWork, IsWorkUndone, asked_of, shown_state, shows_this}
 use Rattle.tick_steps.specs.declared.beyond.Beyond.TheVariants as beyond
 use Rattle.replay_tick.specs.declared.call.Asked.{Asked}
 use Rattle.replay_tick.proofs.LoneWorkLemmas.{undone_same}

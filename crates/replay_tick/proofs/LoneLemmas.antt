@@ -31,10 +31,11 @@ use Rattle.replay_model.specs.Passes.{away_passed, event_met, part_in, rested_in
 use Rattle.replay_model.specs.Taking.{is_no_sight, is_same_event, takes_traffic}
 use Rattle.replay_model.specs.TakingLaws.{TakesAway, TakesResting}
 use Rattle.replay_model.specs.Step.{IsOfSystem}
-use Rattle.replay_tick.specs.LoneWork.{IsLoneTick, most_lines, traffic_done}
+use Rattle.replay_tick.specs.LoneWork.{IsLoneTick, most_lines}
+use Rattle.replay_tick.specs.lemmas.LoneWorkTerms.{traffic_done}
 use Rattle.tick_steps.specs.Machine.{IsMachine}
 use Rattle.replay_tick.proofs.PutLemmas.{is_received}
-use Rattle.tick_steps.specs.KeptLemmas.{facts_at}
+use Rattle.tick_steps.specs.lemmas.KeptLemmas.{facts_at}
 
 -- what a message of others is on is a channel that the partition has
 length_some : (most : Option ℕ) (count : ℕ) → is_length most count ≡ true → (m : ℕ) × (most ≡ Some m)

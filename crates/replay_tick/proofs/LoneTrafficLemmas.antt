@@ -11,8 +11,8 @@ use Rattle.xm_conf.specs.View.{channel_of}
 use Rattle.xm_conf.specs.declared.channel.ChanKind.{ChanKind}
 use Rattle.xm_conf.specs.declared.channel.ChanKind.TheVariants as kinds
 use Rattle.xm_ports.specs.Channels.{ChannelTable, Content, IsFull, IsMessage, IsQueuing, IsShape, IsTable, Queuing, Sampling, Shape, Suits, content_at, first_message, messages_of, most_of, shape_of, shapes_of}
-use Rattle.machine_model.specs.ListLemmas.{table_at}
-use Rattle.machine_model.specs.NameLemmas.{number_is, of_name_below}
+use Rattle.machine_model.specs.lemmas.ListLemmas.{table_at}
+use Rattle.machine_model.specs.lemmas.NameLemmas.{number_is, of_name_below}
 use Rattle.machine_model.specs.Lists.{is_number, table, then_some}
 use Rattle.machine_model.specs.Machine.{Machine, copies}
 use Rattle.machine_model.specs.Emission.{OwnPuts, OwnTakes}
@@ -20,7 +20,7 @@ use Rattle.machine_model.specs.Traffic.{content_if, copies_of, puts_at, takes_at
 use Rattle.machine_model.specs.View.{PortChannel, if_named, name_of, named, part_of, port_channel, view_of, with_its_name, with_name}
 use Rattle.span_model.specs.Passes.{traded}
 use Rattle.replay_model.specs.Taking.{is_empty_copy, is_queue_full, is_full_copy, takes_traffic}
-use Rattle.replay_tick.specs.LoneWork.{IsChannelFor, IsChannelOfKind, has_first, has_room, is_full_in, put_in, taken_in, traffic_done}
+use Rattle.replay_tick.specs.lemmas.LoneWorkTerms.{IsChannelFor, IsChannelOfKind, has_first, has_room, is_full_in, put_in, taken_in, traffic_done}
 
 -- the channel that a partition calls q: it is that of port q, and q is its name, a port's number
 pub record IsCalledSo (conf : Conf) (p q c : ℕ) : Type 0 where

@@ -15,7 +15,7 @@ use Rattle.xm_traces.specs.declared.entry.TraceEntry.{TraceEntry}
 use Rattle.cue_scripts.specs.Script.{HearsNothing, IsCue}
 use Rattle.cue_scripts.specs.Values.{slot_value}
 use Rattle.cue_scripts.specs.declared.cue.CueSlot.TheVariants as its
-use Rattle.tick_steps.specs.PartLemmas.{traded_memory}
+use Rattle.tick_steps.specs.lemmas.PartLemmas.{traded_memory}
 use Rattle.machine_model.specs.Alone.{Alone, alone_local, alone_local_in, alone_step_lines}
 use Rattle.machine_model.specs.Cue.{Cue, Mine, CueSlot}
 use Rattle.machine_model.specs.Facts.{AreEnds, AreFacts, AreLast, HaveEight, IsItsOwn, KeepsFactsAlone}
@@ -37,16 +37,17 @@ use Rattle.replay_model.specs.Passes.{event_met, part_in, tick_past, work_passed
 use Rattle.replay_model.specs.Step.{IsOfSystem}
 use Rattle.replay_model.specs.Taking.{is_same_event, is_same_mode, takes_cue, takes_sight}
 use Rattle.replay_model.specs.TakingLaws.{TakesWorking}
-use Rattle.replay_tick.specs.LoneWork.{IsLoneDone, IsLoneTick, IsUncounted, IsWorkUndone, most_lines}
+use Rattle.replay_tick.specs.lemmas.LoneWorkTerms.{IsLoneDone, IsUncounted, IsWorkUndone}
+use Rattle.replay_tick.specs.LoneWork.{IsLoneTick, most_lines}
 use Rattle.tick_steps.specs.CueValues.{cue_value}
 use Rattle.tick_steps.specs.Machine.{IsMachine}
-use Rattle.tick_steps.specs.Span.{CanTake}
+use Rattle.tick_steps.specs.lemmas.SpanTerms.{CanTake}
 use Rattle.tick_steps.specs.Work.{EmitsAlone, act_beyond, console_emissions}
 use Rattle.tick_steps.specs.declared.beyond.Beyond.{Beyond}
 use Rattle.tick_steps.specs.declared.cue.Cue as code
 use Rattle.replay_tick.specs.declared.work.LoneWork.{LoneWork}
 use Rattle.replay_tick.proofs.PutLemmas.{IsTraded, is_traded}
-use Rattle.tick_steps.specs.KeptLemmas.{facts_at, facts_with}
+use Rattle.tick_steps.specs.lemmas.KeptLemmas.{facts_at, facts_with}
 use Rattle.replay_tick.proofs.LoneLemmas.{alone_in, machine_kept, of_system}
 
 -- traffic leaves the memory of a partition that was put

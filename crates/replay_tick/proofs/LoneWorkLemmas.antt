@@ -15,11 +15,11 @@ use Rattle.xm_base.specs.declared.partition.State.TheVariants.{Ready, Idle, Susp
 use Rattle.xm_ports.specs.Channels.{Content}
 use Rattle.system_state.specs.Serving.{CanBeEmitted, caller_at, without_traffic}
 use Rattle.system_state.specs.State.{SysState, areas_in, memory_of, with_machine}
-use Rattle.system_state.specs.StateLemmas.{part_set}
+use Rattle.system_state.specs.lemmas.StateLemmas.{part_set}
 use Rattle.system_state.specs.declared.served.Note.{Note}
 use Rattle.system_state.specs.declared.served.Note.TheVariants as note
 use Rattle.xm_report.specs.Report.{ReportLine}
-use Rattle.tick_steps.specs.PartLemmas.{part_put_back}
+use Rattle.tick_steps.specs.lemmas.PartLemmas.{part_put_back}
 use Rattle.machine_model.specs.Caller.{Caller}
 use Rattle.machine_model.specs.Facts.{AreEnds}
 use Rattle.machine_model.specs.Health.{Worked, event_handled, interrupt_delivered, quiet}
@@ -34,8 +34,8 @@ use Rattle.machine_model.specs.Whole.{event_of}
 use Rattle.span_model.specs.Meeting.{awake}
 use Rattle.span_model.specs.Passes.{part_at, traded, traffic_in, with_part}
 use Rattle.replay_model.specs.Taking.{is_no_sight, takes_sight}
-use Rattle.replay_tick.specs.LoneWork.{IsLoneDone, IsLoneWork, IsUncounted, IsWorkUndone}
-use Rattle.tick_steps.specs.Span.{CanTake}
+use Rattle.replay_tick.specs.lemmas.LoneWorkTerms.{IsLoneDone, IsLoneWork, IsUncounted, IsWorkUndone}
+use Rattle.tick_steps.specs.lemmas.SpanTerms.{CanTake}
 use Rattle.tick_steps.specs.Work.{IsTickWorked, EmitsAlone, console_emissions}
 use Rattle.tick_steps.specs.declared.beyond.Beyond.{Beyond}
 use Rattle.tick_steps.specs.declared.beyond.Beyond.TheVariants as beyond

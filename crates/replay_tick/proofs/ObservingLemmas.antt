@@ -8,7 +8,9 @@ use Rattle.machine_model.specs.Caller.{Acts, Caller, Served, Test, a_of, answeri
 use Rattle.machine_model.specs.Hypercalls.{call_numbered, served}
 use Rattle.machine_model.specs.Laws.{ObservesAsTested}
 use Rattle.machine_model.specs.Lists.{then_some}
-use Rattle.machine_model.specs.LogCalls.{entry_seen, hm_read, hm_status, reading, trace_read, trace_status}
+use Rattle.machine_model.specs.Readings.{entry_seen}
+use Rattle.machine_model.specs.LogCalls.{hm_read, hm_status, trace_read, trace_status}
+use Rattle.machine_model.specs.lemmas.LogCallsTerms.{reading}
 use Rattle.machine_model.specs.Observed.{CurrentPlan, HealthCounts, HealthEntryOf, Observation, PartitionStatus, PlanStatus, Question, SystemStatus, TraceCounts, TraceEntryOf, about_other, about_system, observed_by, observing}
 use Rattle.machine_model.specs.Partition.{PartitionState}
 use Rattle.machine_model.specs.PartitionCalls.{get_partition_status, get_system_status}
@@ -17,7 +19,7 @@ use Rattle.machine_model.specs.Emission as emission
 use Rattle.machine_model.specs.Emission.{NotKept, Sight, Unseen, Words}
 use Rattle.machine_model.specs.View.{PartitionView}
 use Rattle.replay_model.specs.Taking.{asks_entry}
-use Rattle.replay_tick.specs.LoneWork.{asked_of, shown_state, shows_this}
+use Rattle.replay_tick.specs.lemmas.LoneWorkTerms.{asked_of, shown_state, shows_this}
 use Rattle.replay_tick.specs.declared.call.Asked.{Asked}
 
 -- it reports nothing, and does nothing beyond its caller or asks for a plan

@@ -2,8 +2,8 @@
 use Rattle.std.proofs.Common.{◌≡◌, ℕ, ◌<◌, List, length, refl, ap, ◌∙◌}
 use Rattle.std.proofs.lemmas.List.{length-set, set-set}
 use Rattle.system_state.specs.State.{SysState, with_machine}
-use Rattle.system_state.specs.StateLemmas.{part_set}
-use Rattle.machine_model.specs.ListLemmas.{each_counted as each_length}
+use Rattle.system_state.specs.lemmas.StateLemmas.{part_set}
+use Rattle.machine_model.specs.lemmas.ListLemmas.{each_counted as each_length}
 use Rattle.machine_model.specs.Machine.{Machine}
 use Rattle.machine_model.specs.Partition.{PartitionState}
 use Rattle.machine_model.specs.Emission.{OwnPuts, OwnSignals, OwnStill, OwnTakes, OwnTraffic}

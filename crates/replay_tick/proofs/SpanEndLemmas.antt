@@ -23,19 +23,20 @@ use Rattle.machine_model.specs.Whole.{event_lines, event_of}
 use Rattle.span_model.specs.Passes.{part_at, traded, traffic_in, with_part}
 use Rattle.system_state.specs.Serving.{caller_at}
 use Rattle.system_state.specs.State.{SysState, areas_in, memory_of, with_machine}
-use Rattle.system_state.specs.StateLemmas.{part_set}
+use Rattle.system_state.specs.lemmas.StateLemmas.{part_set}
 use Rattle.system_state.specs.declared.served.Note.{Note}
 use Rattle.replay_model.specs.Kept.{PassesKeep}
 use Rattle.replay_model.specs.Laws.{WorkingTicks}
 use Rattle.replay_model.specs.Passes.{event_met, tick_past}
 use Rattle.replay_model.specs.Taking.{is_same_event}
 use Rattle.replay_model.specs.TakingLaws.{TakesWorking}
-use Rattle.tick_steps.specs.Span.{CanTake}
+use Rattle.tick_steps.specs.lemmas.SpanTerms.{CanTake}
 use Rattle.tick_steps.specs.Work.{act_beyond}
-use Rattle.replay_tick.specs.LoneSpan.{CanEnd, HasTurnedAlone, HasWorked}
-use Rattle.replay_tick.specs.LoneWork.{IsLoneDone, IsLoneTickEnded, IsLoneWork, most_lines}
+use Rattle.replay_tick.specs.lemmas.LoneSpanTerms.{CanEnd, HasTurnedAlone, HasWorked}
+use Rattle.replay_tick.specs.lemmas.LoneWorkTerms.{IsLoneDone, IsLoneTickEnded, IsLoneWork}
+use Rattle.replay_tick.specs.LoneWork.{most_lines}
 use Rattle.replay_tick.specs.declared.work.LoneWork.{LoneWork}
-use Rattle.tick_steps.specs.GoesOnLemmas.{call_goes_on}
+use Rattle.tick_steps.specs.lemmas.GoesOnLemmas.{call_goes_on}
 use Rattle.replay_tick.proofs.LoneTurnLemmas.{IsTurn, can_take, frame_traded, not_seen, turn_machine, turn_noted, turn_system, undone_machine, undone_system}
 use Rattle.replay_tick.proofs.LoneWorkLemmas.{call_as, lone_as, observed_as, trap_as, turned_work, uncounted_takes}
 use Rattle.replay_tick.proofs.PutLemmas.{IsTraded, is_traded}

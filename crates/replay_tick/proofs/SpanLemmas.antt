@@ -28,17 +28,18 @@ use Rattle.span_model.specs.Meeting.{HasGone, NoDelivery, gone_on}
 use Rattle.span_model.specs.Passes.{part_at, with_part}
 use Rattle.span_model.specs.Rest.{RestsTwice}
 use Rattle.system_state.specs.State.{SysState, areas_in, memory_of, with_machine}
-use Rattle.system_state.specs.StateLemmas.{part_set}
+use Rattle.system_state.specs.lemmas.StateLemmas.{part_set}
 use Rattle.system_state.specs.Stepping.{IsGone, with_turned}
 use Rattle.system_state.specs.declared.served.Note.{Note}
 use Rattle.system_state.specs.declared.served.Note.TheVariants as note
 use Rattle.replay_model.specs.Passes.{part_in}
 use Rattle.replay_model.specs.Taking.{takes_cue}
-use Rattle.tick_steps.specs.KeptLemmas.{facts_at, facts_with}
+use Rattle.tick_steps.specs.lemmas.KeptLemmas.{facts_at, facts_with}
 use Rattle.tick_steps.specs.Machine.{IsMachine}
 use Rattle.tick_steps.specs.Span.{counted_on}
-use Rattle.replay_tick.specs.LoneSpan.{AreSilent, AreTaken, CanSpan, DoesSpan, HasTurnedAlone, NoneDueAfter, NoneDueIn, aged, ended_at}
-use Rattle.replay_tick.specs.LoneWork.{IsLoneTickEnded}
+use Rattle.replay_tick.specs.LoneSpan.{AreSilent, AreTaken}
+use Rattle.replay_tick.specs.lemmas.LoneSpanTerms.{CanSpan, DoesSpan, HasTurnedAlone, NoneDueAfter, NoneDueIn, aged, ended_at}
+use Rattle.replay_tick.specs.lemmas.LoneWorkTerms.{IsLoneTickEnded}
 use Rattle.replay_tick.proofs.PutLemmas.{put_then}
 use Rattle.replay_tick.proofs.StillLemmas.{AreStill, IsStill, away_still, going_meets, going_still, idle_still, meets_nothing, passed, rested_more, rested_to, rested_turns, resting_still, still_facts, stills, went_all}
 

@@ -32,7 +32,8 @@ use Rattle.machine_model.specs.Whole.{content_after, event_of, ticks_after}
 use Rattle.span_model.specs.Meeting.{HasGone, NoDelivery, gone_on}
 use Rattle.span_model.specs.Rest.{RestsTwice}
 use Rattle.replay_model.specs.Taking.{is_same_event, takes_cue, takes_event, takes_sight}
-use Rattle.replay_tick.specs.LoneSpan.{AreTaken, NoneDueAfter}
+use Rattle.replay_tick.specs.LoneSpan.{AreTaken}
+use Rattle.replay_tick.specs.lemmas.LoneSpanTerms.{NoneDueAfter}
 
 -- a partition with this state, a tick later
 abbrev pub passed : PartitionState → Alone → Alone

@@ -1,2 +1,3 @@
 pub mod LoneSpan
 pub mod LoneWork
+pub mod lemmas

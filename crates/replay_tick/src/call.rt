@@ -10,8 +10,8 @@ ghost use Rattle.sparc_step.specs.Registers.{register_at};
 ghost use Rattle.system_state.specs.Serving.{IsCaller, caller_at, caller_of};
 ghost use Rattle.system_state.specs.State.{with_machine};
 ghost use Rattle.tick_steps.specs.CueValues.{sight_value};
-ghost use Rattle.replay_tick.specs.LoneWork.{IsLoneWork, asked_of, shown_state, shows_this};
-ghost use Rattle.tick_steps.specs.Span.{CanTake};
+ghost use Rattle.replay_tick.specs.lemmas.LoneWorkTerms.{IsLoneWork, asked_of, shown_state, shows_this};
+ghost use Rattle.tick_steps.specs.lemmas.SpanTerms.{CanTake};
 
 use crate::work::{LoneWork, is_unseen, silent};
 use hypercalls::{Sys, call_reported};

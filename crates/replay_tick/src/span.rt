@@ -13,9 +13,11 @@ ghost use Rattle.system_state.specs.State.{SysState, with_machine};
 ghost use Rattle.replay_model.specs.Step.{IsOfSystem};
 ghost use Rattle.tick_steps.specs.CueValues.{cue_value};
 ghost use Rattle.tick_steps.specs.Machine.{IsMachine};
-ghost use Rattle.tick_steps.specs.Span.{CanTake, counted_on};
-ghost use Rattle.replay_tick.specs.LoneWork.{IsLoneTickEnded};
-ghost use Rattle.replay_tick.specs.LoneSpan.{CanEnd, CanSpan, DoesSpan, HasTurnedAlone, HasWorked, IsLoneSpan, NoneDueAfter, NoneDueIn, ended_at};
+ghost use Rattle.tick_steps.specs.lemmas.SpanTerms.{CanTake};
+ghost use Rattle.tick_steps.specs.Span.{counted_on};
+ghost use Rattle.replay_tick.specs.lemmas.LoneWorkTerms.{IsLoneTickEnded};
+ghost use Rattle.replay_tick.specs.lemmas.LoneSpanTerms.{CanEnd, CanSpan, DoesSpan, HasTurnedAlone, HasWorked, NoneDueAfter, NoneDueIn, ended_at};
+ghost use Rattle.replay_tick.specs.LoneSpan.{IsLoneSpan};
 
 use crate::alone::{end_turn, is_same_event, note_if, turn_in_slot};
 use crate::call::call_alone;

@@ -8,7 +8,7 @@ ghost use Rattle.machine_model.specs.View.{view_of};
 ghost use Rattle.system_state.specs.State.{with_machine};
 ghost use Rattle.xm_base.specs.Options.{on};
 ghost use Rattle.tick_steps.specs.CueValues.{traffic_value};
-ghost use Rattle.replay_tick.specs.LoneWork.{HasPut, IsChannelFor, IsChannelOfKind, has_first, taken_in, traffic_done};
+ghost use Rattle.replay_tick.specs.lemmas.LoneWorkTerms.{HasPut, IsChannelFor, IsChannelOfKind, has_first, taken_in, traffic_done};
 ghost use Rattle.replay_model.specs.Taking.{takes_traffic};
 ghost use Rattle.xm_ports.specs.Channels.{IsQueuing, IsSampling, shapes_of};
 

@@ -11,8 +11,8 @@ ghost use Rattle.machine_model.specs.View.{view_of};
 ghost use Rattle.span_model.specs.Passes.{part_at};
 ghost use Rattle.virt_traps.specs.Virtual.{due};
 ghost use Rattle.tick_steps.specs.CueValues.{sight_value};
-ghost use Rattle.replay_tick.specs.LoneWork.{IsLoneWork};
-ghost use Rattle.tick_steps.specs.Span.{CanTake};
+ghost use Rattle.replay_tick.specs.lemmas.LoneWorkTerms.{IsLoneWork};
+ghost use Rattle.tick_steps.specs.lemmas.SpanTerms.{CanTake};
 ghost use Rattle.replay_model.specs.Taking.{is_no_sight};
 
 use crate::call::call_alone;

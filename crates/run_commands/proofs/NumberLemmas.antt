@@ -12,11 +12,12 @@ use Rattle.file_commands.specs.Denial.{Denial}
 use Rattle.file_commands.specs.Ending.{Ending, Done, Usage, ReadFault, Refused, WriteFaultReport, WriteFaultFile, UartFault, NoMemory}
 use Rattle.file_commands.specs.Inputs.{inputs_for}
 use Rattle.file_commands.specs.Makes.{IsUnmadeOf}
-use Rattle.run_commands.specs.Numbers.{ReceivesNumbers, AllReceiveNumbers, HasScripts, ReceivesIn, ReceivesOf, ReceivesShort}
+use Rattle.run_commands.specs.Numbers.{ReceivesNumbers, AllReceiveNumbers, HasScripts, ReceivesIn, ReceivesOf}
+use Rattle.run_commands.specs.lemmas.NumbersTerms.{ReceivesShort}
 use Rattle.file_commands.specs.Outcome.{content, ticks_asked}
 use Rattle.file_commands.specs.Packing.{file_names}
 use Rattle.file_commands.specs.Work.{AreNotRead, Outside, ReadsFiles}
-use Rattle.run_commands.specs.ContentLemmas.{are_whole}
+use Rattle.run_commands.specs.lemmas.ContentLemmas.{are_whole}
 
 -- Endings.
 

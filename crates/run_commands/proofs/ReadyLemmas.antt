@@ -3,15 +3,16 @@ use Rattle.std.proofs.Common.{ℕ, List, Option, Result, refl, ap, sym, subst}
 use Rattle.uart_board.specs.Views.{BoardView}
 use Rattle.loaded_system.specs.System.{System}
 use Rattle.command_line.specs.Words.{PartFile, RunOption}
-use Rattle.file_commands.specs.CommandLemmas.{refused_comes}
+use Rattle.file_commands.specs.lemmas.CommandLemmas.{refused_comes}
 use Rattle.file_commands.specs.Denial.{Denial}
 use Rattle.file_commands.specs.Ending.{Ending, Done, Usage, ReadFault, Refused, WriteFaultReport, WriteFaultFile, UartFault, NoMemory}
 use Rattle.file_commands.specs.Outcome.{Outcome, Output, ran_scripted, ran_with}
-use Rattle.file_commands.specs.EndingValues.{IsDenied}
-use Rattle.file_commands.specs.Work.{Comes, Outside}
+use Rattle.file_commands.specs.lemmas.EndingValuesTerms.{IsDenied}
+use Rattle.file_commands.specs.lemmas.WorkTerms.{Comes}
+use Rattle.file_commands.specs.Work.{Outside}
 use Rattle.run_commands.specs.Boards.{LeavesBoard}
 use Rattle.run_commands.specs.Numbers.{HasScripts}
-use Rattle.run_commands.specs.ReadyRuns.{IsRefusing}
+use Rattle.run_commands.specs.lemmas.ReadyRuns.{IsRefusing}
 
 -- because of its input words
 pub inputs_refuse : (e : Ending) (file : List ℕ) (options : List RunOption) (system : System) (made : Result (List (List ℕ)) Denial) → IsDenied e made → IsRefusing e (ran_with file options system made)

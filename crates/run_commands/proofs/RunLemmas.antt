@@ -8,7 +8,7 @@ use Rattle.machine_model.specs.Facts.{RunsKeepNumbers}
 use Rattle.machine_model.specs.Machine.{Machine, after, happened, run, step, step_unless}
 use Rattle.machine_model.specs.Emission.{AllHalted, AllReset, NoEvent, WholeEvent}
 use Rattle.machine_model.specs.Whole.{ticks_after}
-use Rattle.span_model.specs.RunLemmas.{run_add}
+use Rattle.span_model.specs.lemmas.RunLemmas.{run_add}
 use Rattle.cue_scripts.specs.Written.{IsWritten, Written}
 use Rattle.recording_model.specs.Receiving.{HasNumbers}
 

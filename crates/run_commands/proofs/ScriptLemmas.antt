@@ -21,11 +21,12 @@ use Rattle.file_commands.specs.Makes.{IsUnmadeOf}
 use Rattle.file_commands.specs.Denial.{Denial}
 use Rattle.file_commands.specs.Ending.{Ending, Done, Usage, ReadFault, Refused, WriteFaultReport, WriteFaultFile, UartFault, NoMemory, ticks_text}
 use Rattle.file_commands.specs.Outcome.{Output, ran_for, ran_scripted, ran_within, command_refused, script_before, script_bytes, script_denial, script_output, scripts_for, ticks_asked, unless_denied}
-use Rattle.run_commands.specs.Scripts.{script_or}
-use Rattle.file_commands.specs.EndingValues.{AreSaved, IsDenied, ending_of}
+use Rattle.run_commands.specs.lemmas.Scripts.{script_or}
+use Rattle.file_commands.specs.EndingValues.{AreSaved, ending_of}
+use Rattle.file_commands.specs.lemmas.EndingValuesTerms.{IsDenied}
 use Rattle.file_commands.specs.declared.ending.Ending as code
 use Rattle.file_commands.specs.Work.{Outside, AreNotSaved, IsLostOf, SavesAll, after_store_call, with_files, wrote}
-use Rattle.run_commands.specs.CoreLemmas.{saves_after}
+use Rattle.run_commands.specs.lemmas.CoreLemmas.{saves_after}
 
 -- One script.
 

@@ -26,7 +26,7 @@ use Rattle.fault_messages.specs.Texts.{box_fault_text}
 use Rattle.fault_messages.specs.declared.fault.BoxFault.{BoxFault}
 use Rattle.command_line.specs.Words.{PartFile, RunOption, Bare}
 use Rattle.run_commands.specs.EndsAfter.{EndsAfter}
-use Rattle.run_commands.specs.EndsAfterLemmas.{outcome_and_after}
+use Rattle.run_commands.specs.lemmas.EndsAfterLemmas.{outcome_and_after}
 use Rattle.file_commands.specs.Ending.{Ending, WriteFaultReport, length_text}
 use Rattle.file_commands.specs.Outcome.{Output, bare_outcome, core_outputs, outcome_of, outcome_of_run, ran_with, command_refused, run_by, run_outcome}
 use Rattle.file_commands.specs.Inputs.{inputs_for, no_inputs}
@@ -34,9 +34,10 @@ use Rattle.builders.specs.Makes.{IsUnmade}
 use Rattle.file_commands.specs.Makes.{IsUnmadeOf}
 use Rattle.builders.specs.declared.unmade.Unmade.{Unmade}
 use Rattle.builders.specs.declared.unmade.Unmade.TheVariants as unmade
-use Rattle.file_commands.specs.Work.{Outside, Comes, outside, reported_all}
-use Rattle.file_commands.specs.CommandLemmas.{one-short, refused_comes}
-use Rattle.run_commands.specs.BoardLemmas.{reports_same}
+use Rattle.file_commands.specs.Work.{Outside, outside, reported_all}
+use Rattle.file_commands.specs.lemmas.WorkTerms.{Comes}
+use Rattle.file_commands.specs.lemmas.CommandLemmas.{one-short, refused_comes}
+use Rattle.run_commands.specs.lemmas.BoardLemmas.{reports_same}
 
 -- Runs.
 

@@ -1,14 +1,6 @@
-pub mod AccountLemmas
 pub mod Accounts
-pub mod BoardLemmas
 pub mod Boards
-pub mod ContentLemmas
 pub mod Contents
-pub mod CoreLemmas
-pub mod Cores
 pub mod EndsAfter
-pub mod EndsAfterLemmas
-pub mod InputLemmas
 pub mod Numbers
-pub mod ReadyRuns
-pub mod Scripts
+pub mod lemmas

@@ -1,5 +1,5 @@
 -- What partitions receive in a run that makes scripts of it.
-use Rattle.std.specs.Prelude.{◌≡◌, ℕ, List, [], ◌∷◌, length, drop, Option, Some, None, Ok}
+use Rattle.std.specs.Prelude.{◌≡◌, ℕ, List, [], ◌∷◌, length, drop, Option, Some, Ok}
 use Rattle.std.specs.List.{AllByRecursion}
 use Rattle.xm_outside.specs.Files.{Files}
 use Rattle.loaded_system.specs.System as loaded
@@ -9,11 +9,11 @@ use Rattle.machine_model.specs.View.{System}
 use Rattle.recording_model.specs.Receiving.{HasNumbers}
 use Rattle.system_state.specs.State.{with_inputs}
 use Rattle.xm_container.specs.Reading.{unpacked}
-use Rattle.command_line.specs.Words.{Command, PartFile, RunOption, Bare, Parse, Upgrade, BuildImage, ReadImage, Pack, ListContainer, CheckContainer, MakePlan, CheckPlan, ListGroups, Generate, Run, Replay, inputs_in, span_in, scripts_in}
+use Rattle.command_line.specs.Words.{PartFile, RunOption, inputs_in, span_in, scripts_in}
 use Rattle.run_commands.specs.Contents.{read_all}
 use Rattle.file_commands.specs.Ending.{Ending, Done, Usage, ReadFault, Refused, WriteFaultReport, WriteFaultFile, UartFault, NoMemory}
 use Rattle.file_commands.specs.Inputs.{inputs_for}
-use Rattle.file_commands.specs.Outcome.{content, first_long, ticks_asked}
+use Rattle.file_commands.specs.Outcome.{content, ticks_asked}
 use Rattle.file_commands.specs.Packing.{file_names}
 
 -- the numbers in what a partition receives in this many ticks are those of a memory and of a register: what is a byte is one, and the status of a reset
@@ -43,34 +43,7 @@ ReceivesIn options contents =
     (system : loaded.System) (inputs : List (List ℕ)) → unpacked (content 0 contents) ≡ Ok system → inputs_for (length system.conf.parts) options (drop 1 contents) ≡ Ok inputs
     → AllReceiveNumbers (with_inputs system inputs) (ticks_asked (span_in options) system.conf) (scripts_in options)
 
--- they are, and none of the files is too long
-pub record ReceivesShort (container : List ℕ) (options : List RunOption) (contents : List (List ℕ)) : Type 0 where
-  pub short : first_long (container ∷ file_names (inputs_in options)) contents ≡ None
-  pub received : ReceivesIn options contents
-
 -- they are, where the store's files are known
 abbrev pub ReceivesOf : List ℕ → List RunOption → Option Files → Type 0
 ReceivesOf container options known =
     (files : Files) → known ≡ Some files → (contents : List (List ℕ)) → read_all files (container ∷ file_names (inputs_in options)) ≡ Ok contents → ReceivesIn options contents
-
--- the same of a command; only a run of a container makes scripts
-abbrev pub CommandReceives : Command → Option Files → Type 0
-CommandReceives (Bare image ticks) known = Unit {0}
-CommandReceives (Parse description output) known = Unit {0}
-CommandReceives (Upgrade configuration output) known = Unit {0}
-CommandReceives (BuildImage program output) known = Unit {0}
-CommandReceives (ReadImage image) known = Unit {0}
-CommandReceives (Pack configuration output images) known = Unit {0}
-CommandReceives (ListContainer container) known = Unit {0}
-CommandReceives (CheckContainer container) known = Unit {0}
-CommandReceives (MakePlan description) known = Unit {0}
-CommandReceives (CheckPlan description) known = Unit {0}
-CommandReceives (ListGroups description) known = Unit {0}
-CommandReceives (Generate number) known = Unit {0}
-CommandReceives (Run container options) known = ReceivesOf container options known
-CommandReceives (Replay container part script further) known = Unit {0}
-
--- and of words
-abbrev pub WordsReceive : Option Command → Option Files → Type 0
-WordsReceive None known = Unit {0}
-WordsReceive (Some command) known = CommandReceives command known

@@ -3,10 +3,11 @@
 ghost use Rattle.std.specs.Prelude.{◌≡◌, ◌<◌, ◌≤◌, ℕ, List, IfOk, Option, length};
 ghost use Rattle.core_files.specs.Length.{core_length_of};
 ghost use Rattle.machine_model.specs.View.{view_of};
-ghost use Rattle.run_commands.specs.Cores.{AreForPartitions, FitInto};
+ghost use Rattle.run_commands.specs.lemmas.Cores.{AreForPartitions, FitInto};
 ghost use Rattle.file_commands.specs.Outcome.{core_output, core_outputs};
 ghost use Rattle.file_commands.specs.EndingValues.{AreSaved};
-ghost use Rattle.file_commands.specs.Work.{Saves, outside};
+ghost use Rattle.file_commands.specs.lemmas.WorkTerms.{Saves};
+ghost use Rattle.file_commands.specs.Work.{outside};
 ghost use Rattle.command_line.specs.Seen.{seen_file, seen_files};
 
 use command_line::{PartFile, PartFiles};

@@ -1,12 +1,14 @@
 //! The input words of partitions, by the files that a run is given for them.
 
 ghost use Rattle.std.specs.Prelude.{◌≡◌, ◌∷◌, ◌<◌, ◌^◌, [], IfErr, IfOk, None, Ok, OnOk, length, map};
-ghost use Rattle.run_commands.specs.Cores.{AreForPartitions};
+ghost use Rattle.run_commands.specs.lemmas.Cores.{AreForPartitions};
 ghost use Rattle.file_commands.specs.Inputs.{first_beyond, inputs_for, inputs_with, no_inputs, named_beyond};
 ghost use Rattle.file_commands.specs.Outcome.{first_long};
 ghost use Rattle.file_commands.specs.Packing.{file_names};
-ghost use Rattle.file_commands.specs.EndingValues.{IsDenied, MakesOr, vector_bytes, ending_of};
-ghost use Rattle.command_line.specs.Seen.{seen_file, seen_files, seen_option, seen_options, seen_part_file};
+ghost use Rattle.file_commands.specs.lemmas.EndingValuesTerms.{IsDenied, MakesOr};
+ghost use Rattle.file_commands.specs.EndingValues.{vector_bytes, ending_of};
+ghost use Rattle.command_line.specs.Seen.{seen_file, seen_files, seen_option, seen_options};
+ghost use Rattle.command_line.specs.lemmas.SeenTerms.{seen_part_file};
 ghost use Rattle.command_line.specs.Words.{cores_in, inputs_in, scripts_in};
 
 use command_line::{PartFile, PartFiles, RunOption, RunOptions};

@@ -3,9 +3,9 @@
 ghost use Rattle.std.specs.Prelude.{ℕ, List, ◌++◌, Option, length, map};
 ghost use Rattle.run_commands.specs.EndsAfter.{EndsAfter};
 ghost use Rattle.run_commands.specs.Boards.{EndsRun};
-ghost use Rattle.run_commands.specs.Cores.{AreForPartitions, FitInto};
+ghost use Rattle.run_commands.specs.lemmas.Cores.{AreForPartitions, FitInto};
 ghost use Rattle.file_commands.specs.Outcome.{Output, core_outputs};
-ghost use Rattle.run_commands.specs.Scripts.{made_output};
+ghost use Rattle.run_commands.specs.lemmas.Scripts.{made_output};
 ghost use Rattle.file_commands.specs.EndingValues.{AreSaved, ending_of};
 ghost use Rattle.file_commands.specs.Work.{Outside, outside};
 ghost use Rattle.command_line.specs.Seen.{seen_files};

@@ -4,10 +4,10 @@ ghost use Rattle.std.specs.Prelude.{◌≡◌, ◌≤◌, ℕ, IfOk, List, None,
 ghost use Rattle.xm_base.specs.declared.limits.TheConstants.{TICKS};
 ghost use Rattle.cyclic_plans.specs.Slots.{frame_of};
 ghost use Rattle.xm_container.specs.Reading.{unpacked};
-ghost use Rattle.run_commands.specs.Cores.{AreForPartitions};
+ghost use Rattle.run_commands.specs.lemmas.Cores.{AreForPartitions};
 ghost use Rattle.system_state.specs.State.{with_inputs};
 ghost use Rattle.run_commands.specs.Numbers.{AllReceiveNumbers};
-ghost use Rattle.run_commands.specs.ReadyRuns.{IsReadyFor};
+ghost use Rattle.run_commands.specs.lemmas.ReadyRuns.{IsReadyFor};
 ghost use Rattle.file_commands.specs.Inputs.{inputs_for};
 ghost use Rattle.file_commands.specs.Outcome.{content, first_long, ran_with, ran_within, ticks_asked};
 ghost use Rattle.file_commands.specs.Packing.{file_names};

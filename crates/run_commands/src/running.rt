@@ -7,11 +7,12 @@ ghost use Rattle.machine_model.specs.Machine.{start};
 ghost use Rattle.system_state.specs.State.{with_inputs};
 ghost use Rattle.run_commands.specs.Accounts.{HasAccount};
 ghost use Rattle.run_commands.specs.Boards.{LeavesBoard};
-ghost use Rattle.run_commands.specs.Cores.{AreForPartitions, FitInto};
+ghost use Rattle.run_commands.specs.lemmas.Cores.{AreForPartitions, FitInto};
 ghost use Rattle.file_commands.specs.Outcome.{outcome_of, outcome_of_run};
-ghost use Rattle.run_commands.specs.Scripts.{made_output};
+ghost use Rattle.run_commands.specs.lemmas.Scripts.{made_output};
 ghost use Rattle.file_commands.specs.EndingValues.{ending_of};
-ghost use Rattle.file_commands.specs.Work.{Comes, outside};
+ghost use Rattle.file_commands.specs.lemmas.WorkTerms.{Comes};
+ghost use Rattle.file_commands.specs.Work.{outside};
 ghost use Rattle.command_line.specs.Seen.{seen_files};
 ghost use Rattle.command_line.specs.Words.{Bare};
 

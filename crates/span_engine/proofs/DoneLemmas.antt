@@ -10,7 +10,7 @@ use Rattle.system_state.specs.State.{SysState, areas_in, memory_of, with_machine
 use Rattle.system_state.specs.declared.served.Note.{Note}
 use Rattle.system_state.specs.declared.served.Note.TheVariants as note
 use Rattle.xm_report.specs.Report.{ReportLine}
-use Rattle.tick_steps.specs.PartLemmas.{traded_memory}
+use Rattle.tick_steps.specs.lemmas.PartLemmas.{traded_memory}
 use Rattle.machine_model.specs.Facts.{IsAsMany, RunsKeepNumbers}
 use Rattle.machine_model.specs.Health.{Worked}
 use Rattle.machine_model.specs.Laws.{ActsWithinBounds}
@@ -34,15 +34,17 @@ use Rattle.span_model.specs.SpanLaws.{IsAwake, its_areas, met}
 use Rattle.span_model.specs.Undisturbed.{IsUndisturbed, UndisturbedNext, gone_parts, next_instruction}
 use Rattle.tick_steps.specs.Kept.{kept_by, kept_tick}
 use Rattle.tick_steps.specs.Quiet.{AreQuiet, ends_in}
-use Rattle.tick_steps.specs.Span.{AreDoneFrom, ends_so}
-use Rattle.tick_steps.specs.Work.{ReachIsUponOne, IsTickWorked, EmitsAlone, act_beyond, console_emissions, ended_by, ending_lines}
+use Rattle.tick_steps.specs.lemmas.SpanTerms.{AreDoneFrom}
+use Rattle.tick_steps.specs.Span.{ends_so}
+use Rattle.tick_steps.specs.Work.{ReachIsUponOne, IsTickWorked, EmitsAlone, act_beyond, console_emissions}
+use Rattle.tick_steps.specs.lemmas.WorkTerms.{ended_by, ending_lines}
 use Rattle.tick_steps.specs.declared.beyond.Beyond.{Beyond}
 use Rattle.tick_steps.specs.declared.beyond.Beyond.TheVariants as beyond
 use Rattle.span_engine.proofs.KeepingLemmas.{IsNoted, same_order, worked_kept}
 use Rattle.span_engine.proofs.QuietLemmas.{acts_so, quiet_gone, same_end}
-use Rattle.tick_steps.specs.SlotLemmas.{at_next, its_before, within_bounds}
+use Rattle.tick_steps.specs.lemmas.SlotLemmas.{at_next, its_before, within_bounds}
 use Rattle.span_engine.proofs.TickLemmas.{tick_lines, tick_state}
-use Rattle.tick_steps.specs.ListLemmas.{each_at}
+use Rattle.tick_steps.specs.lemmas.ListLemmas.{each_at}
 
 -- the rest of all others leaves the memory of a partition
 rest_memory : (p time : ℕ) (g : Machine) → memory_of p (rest_but (Some p) time g) ≡ memory_of p g

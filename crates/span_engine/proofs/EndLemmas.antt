@@ -19,8 +19,9 @@ use Rattle.machine_model.specs.Emission.{AllHalted, AllReset, Maintenance, Nothi
 use Rattle.machine_model.specs.Whole.{event_lines}
 use Rattle.span_model.specs.Passes.{part_at}
 use Rattle.span_model.specs.Spans.{plan_line}
-use Rattle.tick_steps.specs.Work.{IsPartDone, added_below, ending_lines, reset_lines}
-use Rattle.tick_steps.specs.ListLemmas.{none_emitted}
+use Rattle.tick_steps.specs.Work.{IsPartDone}
+use Rattle.tick_steps.specs.lemmas.WorkTerms.{added_below, ending_lines, reset_lines}
+use Rattle.tick_steps.specs.lemmas.ListLemmas.{none_emitted}
 
 -- the line of a plan that starts after tick n, where one does
 abbrev pub plan_emitted : ℕ → Option ℕ → List ReportLine

@@ -19,7 +19,7 @@ use Rattle.span_model.specs.Passes.{part_at}
 use Rattle.span_model.specs.SpanLaws.{IsNobodys}
 use Rattle.span_model.specs.Spans.{IsSlotOf}
 use Rattle.tick_steps.specs.Machine.{IsMachine}
-use Rattle.tick_steps.specs.Span.{CanTake}
+use Rattle.tick_steps.specs.lemmas.SpanTerms.{CanTake}
 
 -- the slots of a plan are those of partitions
 plan_owned : (conf : Conf) (plan : ℕ) → Fits (described conf) → plan < length conf.plans → All (λ slot. slot.part < length conf.parts) (slots_of conf plan)

@@ -2,7 +2,7 @@
 use Rattle.std.proofs.Common.{◌≡◌, ℕ, ◌+◌, ◌≤◌, Bool, List, length, Option, None, Some, refl, sym, ap, subst, ◌∙◌, arith}
 use Rattle.std.specs.Prelude.{◌-◌}
 use Rattle.guest_bus.specs.Memory.{Memory, bytes_at}
-use Rattle.guest_bus.specs.MemoryLemmas.{length-bytes_at}
+use Rattle.guest_bus.specs.lemmas.MemoryLemmas.{length-bytes_at}
 use Rattle.xm_base.specs.declared.limits.TheConstants.{TICKS}
 use Rattle.xm_report.specs.Report.{ReportLine}
 use Rattle.machine_model.specs.Facts.{KeepsClocked, KeepsFacts, KeepsNumbers, KeepsTimed}
@@ -12,12 +12,13 @@ use Rattle.system_state.specs.Serving.{sight_by, traffic_by}
 use Rattle.system_state.specs.State.{SysState, memory_of, with_machine}
 use Rattle.system_state.specs.declared.served.Note.{Note}
 use Rattle.system_state.specs.declared.served.Note.TheVariants as note
-use Rattle.tick_steps.specs.Kept.{KeptTick, bytes_noted, kept_by, kept_in, kept_tick, kept_with, shown_to}
+use Rattle.tick_steps.specs.Kept.{KeptTick, kept_by, kept_in, kept_tick, kept_with, shown_to}
+use Rattle.tick_steps.specs.lemmas.KeptTerms.{bytes_noted}
 use Rattle.tick_steps.specs.Machine.{IsMachine}
 use Rattle.span_engine.specs.Spans.{IsSpanDone}
 use Rattle.tick_steps.specs.declared.beyond.Beyond.{Beyond}
 use Rattle.tick_steps.specs.declared.span.Span.{Span}
-use Rattle.tick_steps.specs.KeptLemmas.{kept_ticks}
+use Rattle.tick_steps.specs.lemmas.KeptLemmas.{kept_ticks}
 
 -- what is kept of a tick names the bytes of its note
 with_bytes : (turn : Option SlotTurn) (worked : Bool) (a_note : Note) (reach : Beyond) (memory : Memory)

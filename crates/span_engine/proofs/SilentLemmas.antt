@@ -6,17 +6,19 @@ use Rattle.machine_model.specs.Lines.{lines}
 use Rattle.machine_model.specs.Machine.{Machine, SlotTurn, happened, happened_by, run, turn_here, turn_of}
 use Rattle.machine_model.specs.Emission.{line_of}
 use Rattle.span_model.specs.Calm.{turn_after}
-use Rattle.span_model.specs.RunLemmas.{lines_add, run_add}
+use Rattle.span_model.specs.lemmas.RunLemmas.{lines_add, run_add}
 use Rattle.system_state.specs.State.{SysState, memory_of, with_machine}
 use Rattle.system_state.specs.declared.served.Note.{Note}
 use Rattle.system_state.specs.declared.served.Note.TheVariants as note
 use Rattle.tick_steps.specs.Kept.{KeptTick, kept_by, kept_in, kept_tick}
-use Rattle.tick_steps.specs.KeptLemmas.{ticks_exact}
-use Rattle.span_engine.specs.LaterLemmas.{later_at}
-use Rattle.span_engine.specs.Place.{IsAt, place_after}
+use Rattle.tick_steps.specs.lemmas.KeptLemmas.{ticks_exact}
+use Rattle.span_engine.specs.lemmas.LaterLemmas.{later_at}
+use Rattle.span_engine.specs.Place.{IsAt}
+use Rattle.span_engine.specs.lemmas.PlaceTerms.{place_after}
 use Rattle.tick_steps.specs.Quiet.{ends_in}
-use Rattle.tick_steps.specs.QuietRunLemmas.{AllQuiet, all_quiet, quiet_on, quiet_runs}
-use Rattle.tick_steps.specs.Span.{AreDoneFrom, IsSilent, ends_so}
+use Rattle.tick_steps.specs.lemmas.QuietRunLemmas.{AllQuiet, all_quiet, quiet_on, quiet_runs}
+use Rattle.tick_steps.specs.lemmas.SpanTerms.{AreDoneFrom, IsSilent}
+use Rattle.tick_steps.specs.Span.{ends_so}
 use Rattle.span_engine.specs.Spans.{IsSpanDone}
 use Rattle.tick_steps.specs.Work.{console_emissions}
 use Rattle.span_engine.specs.declared.place.Place.{Place}

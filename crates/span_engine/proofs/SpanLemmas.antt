@@ -8,7 +8,7 @@ use Rattle.system_state.specs.State.{SysState, memory_of, with_machine}
 use Rattle.system_state.specs.declared.served.Note.{Note}
 use Rattle.system_state.specs.declared.served.Note.TheVariants as note
 use Rattle.xm_report.specs.Report.{ReportLine}
-use Rattle.machine_model.specs.ListLemmas.{each_counted as each_length}
+use Rattle.machine_model.specs.lemmas.ListLemmas.{each_counted as each_length}
 use Rattle.machine_model.specs.Facts.{AreEnds, IsAsMany, RunsKeepNumbers}
 use Rattle.machine_model.specs.Health.{Worked}
 use Rattle.machine_model.specs.Lines.{lines}
@@ -27,17 +27,17 @@ use Rattle.span_model.specs.Passes.{part_at, rest_but, traded, traffic_in, with_
 use Rattle.span_model.specs.SpanLaws.{IsNobodys, RestingTicks, all_rested, its_areas, met, others_rested}
 use Rattle.span_model.specs.Spans.{IsQuietSpan, IsSpan, IsStretch, after_span, plan_line}
 use Rattle.span_model.specs.Undisturbed.{IsUndisturbed, NoneFallsDue, UndisturbedIdle, UndisturbedNext, gone_parts, next_instruction}
-use Rattle.tick_steps.specs.Span.{AreDoneFrom, CanTakeAfter, IsIdle, machine_underway}
+use Rattle.tick_steps.specs.lemmas.SpanTerms.{AreDoneFrom, CanTakeAfter, IsIdle, machine_underway}
 use Rattle.tick_steps.specs.Work.{IsTickWorked}
 use Rattle.tick_steps.specs.declared.beyond.Beyond.{Beyond}
 use Rattle.tick_steps.specs.declared.beyond.Beyond.TheVariants as beyond
 use Rattle.tick_steps.specs.declared.span.Span.{Span}
-use Rattle.tick_steps.specs.ReachLemmas.{one_before}
-use Rattle.span_engine.specs.Ending.{CanEndTick}
+use Rattle.tick_steps.specs.lemmas.ReachLemmas.{one_before}
+use Rattle.span_engine.specs.lemmas.Ending.{CanEndTick}
 use Rattle.span_engine.proofs.KeepingLemmas.{calm_kept}
-use Rattle.tick_steps.specs.ListLemmas.{each_at}
+use Rattle.tick_steps.specs.lemmas.ListLemmas.{each_at}
 use Rattle.span_engine.proofs.QuietLemmas.{calm_goes, earlier_bound}
-use Rattle.tick_steps.specs.WorkLemmas.{put_there}
+use Rattle.tick_steps.specs.lemmas.WorkLemmas.{put_there}
 
 -- this many ticks of partition p in which no call reported anything
 abbrev pub quiet_span : ℕ → ℕ → Bool → Beyond → Span

@@ -25,13 +25,14 @@ use Rattle.span_model.specs.SpanLaws.{its_areas, met, others_rested}
 use Rattle.span_model.specs.Spans.{IsQuietSpan, after_span, plan_line}
 use Rattle.virt_traps.specs.Stepping.{stepped}
 use Rattle.span_model.specs.Undisturbed.{IsUndisturbed, NoneFallsDue, UndisturbedTicks}
-use Rattle.tick_steps.specs.Span.{AreDoneFrom, HasTurned, HasMetInterrupts, counted_on}
+use Rattle.tick_steps.specs.lemmas.SpanTerms.{AreDoneFrom, HasTurned, HasMetInterrupts}
+use Rattle.tick_steps.specs.Span.{counted_on}
 use Rattle.tick_steps.specs.declared.beyond.Beyond.TheVariants as beyond
 use Rattle.tick_steps.specs.declared.span.Span.{Span}
-use Rattle.tick_steps.specs.GoesOnLemmas.{call_goes_on}
+use Rattle.tick_steps.specs.lemmas.GoesOnLemmas.{call_goes_on}
 use Rattle.span_engine.proofs.QuietLemmas.{earlier_bound, earlier_gone}
 use Rattle.span_engine.proofs.SpanLemmas.{AreCalm, quiet_span, slot_done}
-use Rattle.tick_steps.specs.WorkLemmas.{put_there}
+use Rattle.tick_steps.specs.lemmas.WorkLemmas.{put_there}
 
 -- the areas of a partition's memory
 areas_same : (p : ℕ) (g : Machine) → areas_in p g ≡ its_areas g p

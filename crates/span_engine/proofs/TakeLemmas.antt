@@ -23,10 +23,10 @@ use Rattle.span_model.specs.Meeting.{awake}
 use Rattle.span_model.specs.Passes.{part_at, with_part}
 use Rattle.span_model.specs.SpanLaws.{met}
 use Rattle.span_model.specs.Spans.{IsSlotOf, IsStretch}
-use Rattle.tick_steps.specs.Span.{AreDoneFrom, CanTake, IsIdle, HasMetInterrupts, NoneDue}
+use Rattle.tick_steps.specs.lemmas.SpanTerms.{AreDoneFrom, CanTake, IsIdle, HasMetInterrupts, NoneDue}
 use Rattle.tick_steps.specs.declared.span.Span.{Span}
-use Rattle.tick_steps.specs.SightLemmas.{met_state}
-use Rattle.tick_steps.specs.WorkLemmas.{put_there}
+use Rattle.tick_steps.specs.lemmas.SightLemmas.{met_state}
+use Rattle.tick_steps.specs.lemmas.WorkLemmas.{put_there}
 
 -- a timer that was looked at is not due
 looked_not_due : NextDeadlineIsLeast → (t : ℕ) (x : Option Timer) → is_due t (looked_at t x) ≡ false

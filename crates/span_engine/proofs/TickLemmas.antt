@@ -14,9 +14,10 @@ use Rattle.machine_model.specs.Emission.{Act, Nothing, OwnTraffic, Plans, Trades
 use Rattle.machine_model.specs.Traffic.{Puts, Signals, Still, Takes, Traffic, traffic_as}
 use Rattle.machine_model.specs.Whole.{event_lines, event_of, whole_lines}
 use Rattle.span_model.specs.Passes.{evented, obeyed_in, obeyed_lines, rest_but, tick_ended, traded, traffic_in, with_part, worked_lines, worked_through}
-use Rattle.tick_steps.specs.Work.{IsTickWorked, act_beyond, console_emissions, ended_by, ending_lines}
+use Rattle.tick_steps.specs.Work.{IsTickWorked, act_beyond, console_emissions}
+use Rattle.tick_steps.specs.lemmas.WorkTerms.{ended_by, ending_lines}
 use Rattle.tick_steps.specs.declared.beyond.Beyond.{Beyond}
-use Rattle.tick_steps.specs.ListLemmas.{none_emitted, same_set}
+use Rattle.tick_steps.specs.lemmas.ListLemmas.{none_emitted, same_set}
 
 -- the end of a tick does not look at the traffic of its act
 ended_alike : (act : Act) (p : ℕ) (g : Machine) → ended_by act p g ≡ ended_by (without_traffic act) p g

@@ -27,17 +27,18 @@ use Rattle.span_model.specs.PassLaws.{OthersRest, PassedNext, TickInPasses}
 use Rattle.span_model.specs.Passes.{part_at, traffic_in, with_part}
 use Rattle.span_model.specs.SpanLaws.{its_areas, met}
 use Rattle.span_model.specs.Undisturbed.{UndisturbedNext, gone_parts, next_instruction}
-use Rattle.tick_steps.specs.Span.{AreDoneFrom, HasTurned, HasMetInterrupts, machine_underway}
-use Rattle.tick_steps.specs.Work.{IsNotedBy, IsTickWorked, EmitsAlone, act_beyond, ended_by, ending_lines}
+use Rattle.tick_steps.specs.lemmas.SpanTerms.{AreDoneFrom, HasTurned, HasMetInterrupts, machine_underway}
+use Rattle.tick_steps.specs.Work.{IsNotedBy, IsTickWorked, EmitsAlone, act_beyond}
+use Rattle.tick_steps.specs.lemmas.WorkTerms.{ended_by, ending_lines}
 use Rattle.tick_steps.specs.declared.beyond.Beyond.{Beyond}
 use Rattle.tick_steps.specs.declared.beyond.Beyond.TheVariants as beyond
 use Rattle.tick_steps.specs.declared.span.Span.{Span}
 use Rattle.span_engine.proofs.DoneLemmas.{met_done, next_done}
-use Rattle.tick_steps.specs.InstructionLemmas.{call_sight, call_work, handled_still, trap_sight, trap_work, worked_on}
+use Rattle.tick_steps.specs.lemmas.InstructionLemmas.{call_sight, call_work, handled_still, trap_sight, trap_work, worked_on}
 use Rattle.span_engine.proofs.KeepingLemmas.{IsNoted}
-use Rattle.tick_steps.specs.ReachLemmas.{interrupt_act}
-use Rattle.tick_steps.specs.SightLemmas.{delivered_unseen}
-use Rattle.tick_steps.specs.SlotLemmas.{at_next, its_before}
+use Rattle.tick_steps.specs.lemmas.ReachLemmas.{interrupt_act}
+use Rattle.tick_steps.specs.lemmas.SightLemmas.{delivered_unseen}
+use Rattle.tick_steps.specs.lemmas.SlotLemmas.{at_next, its_before}
 use Rattle.span_engine.proofs.SpanLemmas.{quiet_span, turned_after}
 
 -- the partition before its instruction, and after it

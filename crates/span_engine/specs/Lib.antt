@@ -1,5 +1,3 @@
-pub mod Ending
-pub mod LaterLemmas
 pub mod Place
-pub mod PlaceLemmas
 pub mod Spans
+pub mod lemmas

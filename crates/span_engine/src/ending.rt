@@ -11,8 +11,8 @@ ghost use Rattle.machine_model.specs.Emission.{AllHalted, AllReset, Maintenance,
 ghost use Rattle.machine_model.specs.View.{view_of};
 ghost use Rattle.span_model.specs.Passes.{evented};
 ghost use Rattle.span_model.specs.Spans.{after_span, plan_line};
-ghost use Rattle.tick_steps.specs.Work.{ended_by, ending_lines, reset_lines};
-ghost use Rattle.span_engine.specs.Ending.{CanEndTick, IsTickEnded};
+ghost use Rattle.tick_steps.specs.lemmas.WorkTerms.{ended_by, ending_lines, reset_lines};
+ghost use Rattle.span_engine.specs.lemmas.Ending.{CanEndTick, IsTickEnded};
 
 use cyclic_plans::PlanClock;
 use health_monitor::Whole;

@@ -7,7 +7,8 @@ ghost use Rattle.machine_model.specs.Machine.{turn_here};
 ghost use Rattle.span_model.specs.Calm.{turn_after};
 ghost use Rattle.span_model.specs.Meeting.{first_after};
 ghost use Rattle.tick_steps.specs.Machine.{IsMachine};
-ghost use Rattle.span_engine.specs.Place.{IsAt, IsPlace, past_first_tick, place_after, place_in, place_numbered};
+ghost use Rattle.span_engine.specs.Place.{IsAt, IsPlace};
+ghost use Rattle.span_engine.specs.lemmas.PlaceTerms.{past_first_tick, place_after, place_in, place_numbered};
 
 use cyclic_plans::Here;
 use hypercalls::Sys;

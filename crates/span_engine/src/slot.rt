@@ -15,9 +15,10 @@ ghost use Rattle.span_model.specs.Undisturbed.{NoneFallsDue};
 ghost use Rattle.virt_traps.specs.Virtual.{due};
 ghost use Rattle.tick_steps.specs.Machine.{IsMachine};
 ghost use Rattle.span_engine.specs.Place.{IsAt};
-ghost use Rattle.span_engine.specs.Ending.{CanEndTick, IsTickEnded};
+ghost use Rattle.span_engine.specs.lemmas.Ending.{CanEndTick, IsTickEnded};
 ghost use Rattle.span_engine.specs.Spans.{IsSpanDone};
-ghost use Rattle.tick_steps.specs.Span.{IsSilent, AreDoneFrom, CanTake, CanTakeAfter, HasTurned, IsIdle, HasMetInterrupts, NoneDue, machine_underway, counted_on};
+ghost use Rattle.tick_steps.specs.lemmas.SpanTerms.{IsSilent, AreDoneFrom, CanTake, CanTakeAfter, HasTurned, IsIdle, HasMetInterrupts, NoneDue, machine_underway};
+ghost use Rattle.tick_steps.specs.Span.{counted_on};
 
 use crate::ending::{end_tick, end_ticks};
 use crate::place::{Place, place_of, place_on, slot_after};

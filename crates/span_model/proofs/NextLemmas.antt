@@ -9,7 +9,7 @@ use Rattle.machine_model.specs.Partition.{PartitionState}
 use Rattle.machine_model.specs.Emission.{line_of}
 use Rattle.machine_model.specs.View.{System, view_of}
 use Rattle.span_model.specs.Meeting.{first_after}
-use Rattle.span_model.specs.RunLemmas.{run_more}
+use Rattle.span_model.specs.lemmas.RunLemmas.{run_more}
 use Rattle.span_model.specs.NextLaws.{HasGoneOn, IsTickOf, MetTick, NextTick, EmittingTick, next_work}
 use Rattle.span_model.specs.SpanLaws.{going_parts, its_met, met, others_rested}
 use Rattle.span_model.specs.Spans.{IsUnderway, IsEmittingSpan, inside, plan_line, said_if}

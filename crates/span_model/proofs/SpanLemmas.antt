@@ -13,7 +13,7 @@ use Rattle.machine_model.specs.Machine.{Happened, Machine, SlotTurn, after, happ
 use Rattle.machine_model.specs.Partition.{PartitionState, rested}
 use Rattle.machine_model.specs.Emission as emission
 use Rattle.machine_model.specs.Whole.{NoEvent, event_lines}
-use Rattle.span_model.specs.RunLemmas.{lines_more, run_more, said_more}
+use Rattle.span_model.specs.lemmas.RunLemmas.{lines_more, run_more, said_more}
 use Rattle.span_model.specs.Spans.{IsUnderway, IsQuietSpan, IsSpan, after_span, inside}
 use Rattle.span_model.proofs.CalmLemmas.{calm, calm_is, channels_same, clock_is, its, lines_as, no_order_lines, none_either, not_its, part_is, step_as}
 use Rattle.span_model.proofs.ListLemmas.{none_of}

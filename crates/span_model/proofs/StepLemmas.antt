@@ -14,7 +14,8 @@ use Rattle.machine_model.specs.Partition.{PartitionState, areas_of}
 use Rattle.machine_model.specs.Emission.{Sight}
 use Rattle.machine_model.specs.View.{PartitionView}
 use Rattle.virt_traps.specs.Stepping.{stepped, then_settled}
-use Rattle.span_model.specs.Meeting.{Executes, HasGone, gone_on}
+use Rattle.span_model.specs.lemmas.MeetingTerms.{Executes}
+use Rattle.span_model.specs.Meeting.{HasGone, gone_on}
 
 -- where a step more only went, all before it only went
 went_before : (t : Turned) (areas : List Area) → (then_settled t.turn areas t).turn ≡ Went → t.turn ≡ Went

@@ -5,8 +5,8 @@ pub mod NextLaws
 pub mod PassLaws
 pub mod Passes
 pub mod Rest
-pub mod RunLemmas
 pub mod SpanLaws
 pub mod Spans
 pub mod Undisturbed
 pub mod Calm
+pub mod lemmas

@@ -1,16 +1,12 @@
 -- A partition in many ticks of its slot: its instructions, and the interrupts that the ticks bring.
-use Rattle.std.specs.Prelude.{◌≡◌, ℕ, zero, suc, ◌+◌, ◌⊎◌, Bool, false, List, None, Option}
+use Rattle.std.specs.Prelude.{◌≡◌, ℕ, zero, suc, ◌+◌, ◌⊎◌, Bool, false, List, None}
 use Rattle.guest_bus.specs.Memory.{Area}
 use Rattle.sparc_step.specs.declared.outcome.Turn.TheVariants.{Went}
 use Rattle.virt_clocks.specs.Clocks.{is_due, looked_at}
 use Rattle.virt_traps.specs.Virtual.{VirtualTraps, due}
 use Rattle.xm_base.specs.declared.partition.State.TheVariants.{Ready}
 use Rattle.machine_model.specs.Partition.{PartitionState, areas_of, execution_timer, hardware_timer, raised_if, slot_start}
-use Rattle.machine_model.specs.LocalTick.{executed_in_tick}
-use Rattle.machine_model.specs.Emission as emission
-use Rattle.machine_model.specs.Emission.{Sight, Emission}
 use Rattle.machine_model.specs.View.{PartitionView}
-use Rattle.xm_ports.specs.Channels.{Content}
 use Rattle.virt_traps.specs.Stepping.{stepped}
 
 -- a partition at the beginning of ticks of its slot: the start of the slot is an interrupt
@@ -64,9 +60,3 @@ NoDelivery traps = (due traps ≡ None) ⊎ (traps.enabled ≡ false)
 abbrev pub first_after : ℕ → Bool → Bool
 first_after zero first = first
 first_after (suc done) first = false
-
--- the work of a tick in which a partition executes an instruction: it leaves this, emits this, and does not reach beyond the partition
-abbrev pub Executes : PartitionView → PartitionState → PartitionState → List Emission → Type 0
-Executes view ps new tale =
-    (contents : List (Option Content)) (time : ℕ) (sight : Sight) →
-    executed_in_tick view contents time sight ps ≡ record { after = new; emitted = tale; act = emission.Nothing }

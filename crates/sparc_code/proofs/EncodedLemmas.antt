@@ -5,8 +5,8 @@ use Rattle.sparc_code.specs.Fields.{signed, op, op2, op3, rd, rs1, i, rs2, simm1
 use Rattle.sparc_code.specs.Opcodes.{opcode_of, memory_opcode_of, immediate_of, IsPlaceOf, privileged_selectors}
 use Rattle.sparc_code.specs.Ranges.{IsSigned, IsUnsigned, IsImmediate, IsOperand, InRange}
 use Rattle.sparc_code.specs.Spells.{HasOperand, Spells, selects_no_format2}
-use Rattle.sparc_code.specs.DecodedLemmas.{one_of}
-use Rattle.sparc_code.specs.Encoded.{bits_of, operand_bits, format2_word, format3_word, encoded}
+use Rattle.sparc_code.specs.lemmas.DecodedLemmas.{one_of}
+use Rattle.sparc_code.specs.lemmas.Encoded.{bits_of, operand_bits, format2_word, format3_word, encoded}
 use Rattle.sparc_code.specs.declared.instruction.Arith.{Arith}
 use Rattle.sparc_code.specs.declared.instruction.Arith.TheVariants as arith
 use Rattle.sparc_code.specs.declared.instruction.MemOp.{MemOp}

@@ -3,6 +3,5 @@ pub mod Opcodes
 pub mod Ranges
 pub mod Spells
 pub mod Decoded
-pub mod DecodedLemmas
-pub mod Encoded
 pub mod Laws
+pub mod lemmas

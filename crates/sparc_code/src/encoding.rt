@@ -1,7 +1,7 @@
 //! From instructions to the least words that spell them.
 
 ghost use Rattle.std.specs.Prelude.{◌≡◌, ◌<◌, ◌≤◌, ◌+◌, ◌^◌, ℕ, if◌then◌else◌};
-ghost use Rattle.sparc_code.specs.Encoded.{bits_of, encoded, format2_word, format3_word, operand_bits};
+ghost use Rattle.sparc_code.specs.lemmas.Encoded.{bits_of, encoded, format2_word, format3_word, operand_bits};
 ghost use Rattle.sparc_code.specs.Opcodes.{memory_opcode_of, opcode_of};
 ghost use Rattle.sparc_code.specs.Ranges.{InRange, IsOperand, IsSigned};
 ghost use Rattle.sparc_code.specs.Spells.{Spells};
@@ -17,7 +17,7 @@ pub fn encode(instr: &Instr) -> u32
     encoded(*instr)
 }
 
-#[tactic(auto, unfolding(crate::specs::Encoded::encoded, crate::specs::Encoded::format2_word))]
+#[tactic(auto, unfolding(crate::specs::lemmas::Encoded::encoded, crate::specs::lemmas::Encoded::format2_word))]
 fn encoded(instr: Instr) -> u32
     requires { InRange instr }
     ensures { result ≡ encoded instr }
@@ -87,7 +87,7 @@ fn operand(src: Src) -> u32
 }
 
 // A word of format 3.
-#[tactic(auto, unfolding(crate::specs::Encoded::format3_word))]
+#[tactic(auto, unfolding(crate::specs::lemmas::Encoded::format3_word))]
 fn format3(format: u32, rd: u8, selector: u32, rs1: u8, low: u32) -> u32
     requires format { format < 4 }
     requires rd { rd < 32 }
@@ -100,7 +100,7 @@ fn format3(format: u32, rd: u8, selector: u32, rs1: u8, low: u32) -> u32
 }
 
 // A word of format 2.
-#[tactic(auto, unfolding(crate::specs::Encoded::format2_word))]
+#[tactic(auto, unfolding(crate::specs::lemmas::Encoded::format2_word))]
 fn format2(rd: u8, selector: u32, low: u32) -> u32
     requires rd { rd < 32 }
     requires selector { selector < 8 }

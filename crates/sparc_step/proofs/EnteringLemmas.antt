@@ -7,7 +7,7 @@ use Rattle.std.proofs.lemmas.Slice.{take-put_mid_below}
 use Rattle.std.specs.List.{CopiedTo, SameBelow, SameFrom}
 use Rattle.std.specs.Prelude.{get_or, ℕ, ◌+◌, ◌-◌, ◌*◌, ◌%◌, ◌<◌, ◌≤◌, List, length, take, drop, slice_index}
 use Rattle.sparc_step.specs.Cached.{listed_below, own_place, windows_with, word_at}
-use Rattle.sparc_step.specs.CachedLemmas.{get_or-part, get_or-put_mid, get_or-put_mid_other, get_or-rest, get_or-table, length-part, length-put_mid, length-rest, length-table, lies_or, table-of, table-same, word_at-ins, word_at-other, word_at-own}
+use Rattle.sparc_step.specs.lemmas.CachedLemmas.{get_or-part, get_or-put_mid, get_or-put_mid_other, get_or-rest, get_or-table, length-part, length-put_mid, length-rest, length-table, lies_or, table-of, table-same, word_at-ins, word_at-other, word_at-own}
 use Rattle.sparc_step.specs.Registers.{ins_place, locals_place, with_locals_and_ins}
 
 -- a place of one block of sixteen is none of another

@@ -1,5 +1,4 @@
 -- Registers of which the current window is kept apart, each register of it by its number.
-use borrow.Rule.Slice.PartMut.{put_mid}
 use Rattle.std.specs.Prelude.{◌≡◌, ◌≢◌, ◌<◌, length, ℕ, zero, suc, ◌+◌, ◌-◌, ◌*◌, ◌%◌, Bool, ◌&&◌, nat_le, nat_lt, if◌then◌else◌, List, [], ◌∷◌, take, slice_index}
 use Rattle.sparc_step.specs.Registers.{Registers, ins_place}
 
@@ -51,7 +50,3 @@ pub record IsCached (pc npc y icc cwp inv : ℕ) (cached windows : List ℕ) : T
   pub zero : slice_index cached 0 ≡ 0
   pub cached_count : length cached ≡ 32
   pub eight_windows : length windows ≡ 128
-
--- words of which the first eight are others
-unfoldable pub with_first : List ℕ → List ℕ → List ℕ
-with_first words first = put_mid 0 8 words first

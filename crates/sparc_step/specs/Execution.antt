@@ -1,5 +1,5 @@
 -- What one instruction does.
-use Rattle.std.specs.Prelude.{◌≡◌, ℕ, List, Result, Ok, Err}
+use Rattle.std.specs.Prelude.{ℕ, List, Result, Ok, Err}
 use Rattle.guest_bus.specs.Access.{fetched}
 use Rattle.guest_bus.specs.Memory.{Area, Memory}
 use Rattle.guest_bus.specs.declared.bus.BusFault.{BusFault}
@@ -11,7 +11,6 @@ use Rattle.sparc_step.specs.Flow.{branch_row, call_row, jump_row, restore_row, s
 use Rattle.sparc_step.specs.Outcome.{RegisterOutcome, with_result}
 use Rattle.sparc_step.specs.Registers.{Registers, advanced}
 use Rattle.sparc_step.specs.Transfers.{transfer_row}
-use Rattle.sparc_step.specs.declared.outcome.Turn.{Turn}
 pub use Rattle.sparc_step.specs.Transfers.{Turned, done, refused}
 
 -- the outcome of an instruction that touches no memory
@@ -37,11 +36,6 @@ executed instr.Privileged areas core memory = refused 0x03 core memory
 executed instr.Float areas core memory = refused 0x04 core memory
 executed instr.Coproc areas core memory = refused 0x24 core memory
 executed instr.Illegal areas core memory = refused 0x02 core memory
-
--- the outcome of an instruction that touches no memory, and the registers after it, whatever the memory is
-abbrev pub TurnsTo : Instr → Registers → Turn → Registers → Type 0
-TurnsTo i before turn after =
-    (areas : List Area) (memory : Memory) → executed i areas before memory ≡ record { turn = turn; core = after; memory = memory }
 
 -- what the instruction does that the fetch answered
 abbrev pub turned_after : Result ℕ BusFault → List Area → Registers → Memory → Turned

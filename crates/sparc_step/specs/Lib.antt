@@ -2,7 +2,6 @@ pub use Rattle.guest_bus.specs.Access
 pub use Rattle.guest_bus.specs.Memory
 pub mod Registers
 pub mod Cached
-pub mod CachedLemmas
 pub mod Words
 pub mod Conditions
 pub mod Operands
@@ -12,4 +11,4 @@ pub mod Flow
 pub mod Transfers
 pub mod Execution
 pub mod Undone
-pub mod WindowTraps
+pub mod lemmas

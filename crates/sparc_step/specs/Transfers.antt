@@ -1,5 +1,5 @@
 -- Loads, stores and exchanges, by the rows of appendix B of the SPARC V8 manual.
-use Rattle.std.specs.Prelude.{ℕ, ◌+◌, ◌*◌, ◌/◌, ◌%◌, ◌^◌, Bool, true, false, List, Option, Some, None, Result, Ok, Err}
+use Rattle.std.specs.Prelude.{ℕ, ◌+◌, ◌*◌, ◌/◌, ◌%◌, ◌^◌, List, Option, Some, None, Result, Ok, Err}
 use Rattle.std.specs.Int.{w8, w16, cast_signed}
 use Rattle.guest_bus.specs.Access.{after_store, loaded, store_fault}
 use Rattle.guest_bus.specs.Memory.{Area, Memory}
@@ -90,14 +90,6 @@ exchange_of value address size rd areas core memory =
 -- the low half of a loaded value, which is all of a word
 abbrev pub low_word : ℕ → ℕ
 low_word value = value % 2 ^ 32
-
--- the word that a load makes of a value of a size, with its sign or without
-abbrev pub word_loaded : Bool → Size → ℕ → ℕ
-word_loaded false size = low_word
-word_loaded true One = signed_byte
-word_loaded true Two = signed_half
-word_loaded true Four = low_word
-word_loaded true Eight = low_word
 
 -- work on memory, at an address
 abbrev pub transfer : MemOp → ℕ → ℕ → List Area → Registers → Memory → Turned

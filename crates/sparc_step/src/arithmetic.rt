@@ -19,7 +19,7 @@ ghost use Rattle.sparc_step.specs.Conditions.{
   codes_of_tagged_difference,
   codes_of_tagged_sum,
 };
-ghost use Rattle.sparc_step.specs.Execution.{TurnsTo};
+ghost use Rattle.sparc_step.specs.lemmas.ExecutionTerms.{TurnsTo};
 ghost use Rattle.sparc_step.specs.Outcome.{with_result, with_result_and_codes};
 ghost use Rattle.sparc_step.specs.Registers.{with_y};
 ghost use Rattle.sparc_step.specs.Words.{difference, sum};

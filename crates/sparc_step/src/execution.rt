@@ -4,7 +4,8 @@ ghost use Rattle.std.specs.Prelude.{◌≡◌, ◌≢◌, ◌<◌, ◌≤◌, �
 ghost use Rattle.guest_bus.specs.Memory.{Area, Memory};
 ghost use Rattle.sparc_code.specs.Decoded.{decoded, format2_row, memory_row, read_state, registers_row, write_state};
 ghost use Rattle.sparc_code.specs.Fields.{op2, op3};
-ghost use Rattle.sparc_step.specs.Execution.{TurnsTo, executed, refused, turned};
+ghost use Rattle.sparc_step.specs.lemmas.ExecutionTerms.{TurnsTo};
+ghost use Rattle.sparc_step.specs.Execution.{executed, refused, turned};
 ghost use Rattle.sparc_step.specs.Registers.{Registers, advanced};
 ghost use Rattle.sparc_step.specs.Undone.{IsUndone};
 

@@ -2,8 +2,9 @@
 
 ghost use borrow.Rule.Slice.PartMut.{put_mid};
 ghost use Rattle.std.specs.Prelude.{ℕ, ◌≡◌, ◌≢◌, ◌*◌, ◌+◌, ◌%◌, ◌<◌, ◌≤◌, drop, length, slice_index, take};
-ghost use Rattle.sparc_step.specs.Cached.{windows_with, with_first};
-ghost use Rattle.sparc_step.specs.CachedLemmas.{put_at};
+ghost use Rattle.sparc_step.specs.Cached.{windows_with};
+ghost use Rattle.sparc_step.specs.lemmas.CachedTerms.{with_first};
+ghost use Rattle.sparc_step.specs.lemmas.CachedLemmas.{put_at};
 ghost use Rattle.sparc_step.specs.Registers.{
   advanced,
   branched,
@@ -197,7 +198,7 @@ impl Processor {
     }
 
     /// The value of a register of the current window.
-    #[tactic(auto, using(crate::specs::CachedLemmas::register_at_gathered))]
+    #[tactic(auto, using(crate::specs::lemmas::CachedLemmas::register_at_gathered))]
     pub fn get(&self, r: u8) -> u32
         requires { r < 32 }
         ensures value { result ≡ register_at self.now r }
@@ -207,7 +208,7 @@ impl Processor {
     }
 
     /// Sets a register of the current window.
-    #[tactic(auto, using(crate::specs::CachedLemmas::with_register_gathered))]
+    #[tactic(auto, using(crate::specs::lemmas::CachedLemmas::with_register_gathered))]
     pub fn set(&mut self, r: u8, value: u32)
         requires { r < 32 }
         ensures { self.new ≡ with_register self.old r value }
@@ -217,7 +218,7 @@ impl Processor {
 
     /// Sets a register of the current window that is not register 0.
     #[inline(always)]
-    #[tactic(auto, using(crate::specs::CachedLemmas::with_register_gathered))]
+    #[tactic(auto, using(crate::specs::lemmas::CachedLemmas::with_register_gathered))]
     pub fn set_held(&mut self, r: u8, value: u32)
         requires r { r < 32 }
         requires held { 0 < r }
@@ -334,7 +335,7 @@ fn set_cached(cached: &mut [u32; 32], r: u8, value: u32)
 
 // Sets a register that is not register 0, which is zero.
 #[inline(always)]
-#[tactic(auto, using(crate::specs::CachedLemmas::put_at_held))]
+#[tactic(auto, using(crate::specs::lemmas::CachedLemmas::put_at_held))]
 fn put_held(cached: &mut [u32; 32], r: u8, value: u32)
     requires r { r < 32 }
     requires held { 0 < r }
@@ -431,7 +432,7 @@ fn move_eight(words: &mut [u32], from: usize, to: usize)
 
 // Takes eight words of the windows from a place on as the first of sixteen.
 #[inline(always)]
-#[tactic(auto, unfolding(crate::specs::Cached::with_first))]
+#[tactic(auto, unfolding(crate::specs::lemmas::CachedTerms::with_first))]
 fn take_first(words: &mut [u32], windows: &[u32], at: usize)
     requires words { length words.old ≡ 16 }
     requires windows { at + 8 ≤ length windows.now }

@@ -6,18 +6,8 @@ ghost use Rattle.sparc_code.specs.Decoded.{double_work, memory_row};
 ghost use Rattle.sparc_code.specs.Fields.{rd};
 ghost use Rattle.sparc_code.specs.declared.instruction.MemOp.TheVariants.{LdD, StD};
 ghost use Rattle.sparc_step.specs.Execution.{executed};
-ghost use Rattle.sparc_step.specs.Transfers.{
-  exchange_of,
-  exchanged_with,
-  fault_type,
-  loaded_into,
-  pair_at,
-  signed_byte,
-  signed_half,
-  store_of,
-  with_pair,
-  word_loaded,
-};
+ghost use Rattle.sparc_step.specs.Transfers.{exchange_of, exchanged_with, fault_type, loaded_into, pair_at, signed_byte, signed_half, store_of, with_pair};
+ghost use Rattle.sparc_step.specs.lemmas.TransfersTerms.{word_loaded};
 
 use crate::operands::{set_result, sum_of};
 use crate::outcome::Turn;

@@ -20,7 +20,8 @@ use Rattle.xef_images.specs.Image.{Image}
 use Rattle.xm_conf.specs.Configuration.{Part}
 use Rattle.xm_ports.specs.Channels as ports
 use Rattle.xm_ports.specs.Channels.{ChannelTable, shapes_of}
-use Rattle.system_state.specs.State.{IsKeptSo, NoneTimed, OwnState, booted_own, is_timed, kept_so, loaded_all, with_inputs, with_memories, with_memory}
+use Rattle.system_state.specs.State.{IsKeptSo, NoneTimed, OwnState, is_timed, kept_so, with_inputs, with_memories, with_memory}
+use Rattle.system_state.specs.lemmas.StateTerms.{booted_own, loaded_all}
 
 -- the partitions of some images as they boot, apart from their memories
 abbrev pub booted_owns : List Image → List OwnState

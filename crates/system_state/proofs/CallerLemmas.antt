@@ -4,10 +4,10 @@ use Rattle.std.proofs.lemmas.Bool.Decides.{nat_tests}
 use Rattle.std.proofs.lemmas.List.{get_or-map}
 use Rattle.std.specs.Prelude.{◌==◌, Bool, Ok, nat_le, nat_lt, not, slice_get}
 use Rattle.guest_memory.specs.Loading.{memory_areas}
-use Rattle.system_state.specs.ServedLemmas.{areas_seen}
+use Rattle.system_state.specs.lemmas.ServedLemmas.{areas_seen}
 use Rattle.guest_bus.specs.Memory.{Area, all_from, is_readable, is_writable}
 use Rattle.guest_memory.specs.Memories.{Memories, answer_by, areas_at, first_refused}
-use Rattle.guest_memory.specs.RefusedLemmas.{none_refused}
+use Rattle.guest_memory.specs.lemmas.RefusedLemmas.{none_refused}
 use Rattle.machine_model.specs.Caller.{Caller, invalid_parameter, is_room, refused_if, room, target, text}
 use Rattle.machine_model.specs.View.{no_part, part_of, view_of}
 use Rattle.xm_conf.specs.Configuration.{Part}

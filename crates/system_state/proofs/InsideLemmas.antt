@@ -16,8 +16,9 @@ use Rattle.machine_model.specs.Partition as model
 use Rattle.machine_model.specs.View.{no_image, no_part, part_of, view_of}
 use Rattle.xef_images.specs.Image.{Image}
 use Rattle.xm_ports.specs.Ports.{with_port}
-use Rattle.system_state.specs.State.{IsKeptSo, NoneTimed, OwnState, SysState, any_timed, areas_in, booted_own, is_timed, kept_so, memory_of, part_at, with_machine, with_memory, with_own, with_part, input_words_of}
-use Rattle.system_state.specs.Turning.{HasMet}
+use Rattle.system_state.specs.State.{IsKeptSo, NoneTimed, OwnState, SysState, any_timed, areas_in, is_timed, kept_so, memory_of, part_at, with_machine, with_memory, with_own, with_part, input_words_of}
+use Rattle.system_state.specs.lemmas.StateTerms.{booted_own}
+use Rattle.system_state.specs.lemmas.TurningTerms.{HasMet}
 use Rattle.system_state.specs.declared.sys.Sys.TheInside.{Inside}
 use Rattle.system_state.proofs.PartsLemmas as parts
 

@@ -5,7 +5,7 @@ use Rattle.std.specs.FinMap.{empty}
 use Rattle.guest_bus.specs.Memory.{Area, Memory, all_from, is_readable}
 use Rattle.guest_memory.specs.Loading.{memory_areas}
 use Rattle.guest_memory.specs.Memories.{Memories, answer_by, areas_at, first_refused, map_at}
-use Rattle.guest_memory.specs.RefusedLemmas.{none_refused}
+use Rattle.guest_memory.specs.lemmas.RefusedLemmas.{none_refused}
 use Rattle.guest_memory.specs.declared.outside.Outside.{Outside}
 use Rattle.machine_model.specs.Machine.{Machine, booted_part}
 use Rattle.machine_model.specs.View.{no_part, part_of}

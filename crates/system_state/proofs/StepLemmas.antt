@@ -4,19 +4,21 @@ use Rattle.std.proofs.lemmas.Bool.Decides.{nat_tests}
 use Rattle.std.specs.Prelude.{◌==◌, true, false, IsErr, Ok, Err, Result}
 use Rattle.guest_bus.specs.Memory.{Area, Memory, Others}
 use Rattle.guest_memory.specs.Memories.{AreMemories, Memories, areas_at, map_at, others_of, with_map, with_selected}
-use Rattle.guest_memory.specs.SelectedLemmas.{changed_selected}
+use Rattle.guest_memory.specs.lemmas.SelectedLemmas.{changed_selected}
 use Rattle.machine_model.specs.Partition.{PartitionState}
 use Rattle.sparc_step.specs.Execution.{Turned}
 use Rattle.sparc_step.specs.Registers.{Registers, advanced}
 use Rattle.sparc_step.specs.declared.outcome.Turn.{Turn}
 use Rattle.sparc_step.specs.declared.outcome.Turn.TheVariants.{Call, Trap, Went}
-use Rattle.fast_loop.specs.Runs.{AreSteps, IsCall, steps_then}
+use Rattle.fast_loop.specs.Runs.{AreSteps, IsCall}
+use Rattle.fast_loop.specs.lemmas.RunsLemmas.{steps_then}
 use Rattle.virt_traps.specs.Stepping.{stepped, then_settled}
-use Rattle.machine_model.specs.ProcessorCalls.{flushed, flushed_after}
+use Rattle.machine_model.specs.OwnEffects.{flushed, flushed_after}
 use Rattle.virt_traps.specs.Moves.{Moved, move_made, spilled}
 use Rattle.virt_traps.specs.Settled.{GoesOn, IsUndoneButSpill, settled}
 use Rattle.virt_traps.specs.declared.windows.StackFault.{StackFault}
-use Rattle.system_state.specs.Stepping.{IsGone, IsMoved, with_turned}
+use Rattle.system_state.specs.Stepping.{IsGone, with_turned}
+use Rattle.system_state.specs.lemmas.SteppingTerms.{IsMoved}
 
 -- after a step that went, one more is settled
 then_is : (t : Turned) (areas : List Area) → t.turn ≡ Went → then_settled t.turn areas t ≡ settled areas t.core t.memory

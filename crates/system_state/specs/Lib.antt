@@ -1,10 +1,7 @@
 pub mod Inputs
 pub mod Lending
-pub mod ServedLemmas
 pub mod Serving
-pub mod Shown
-pub mod SightLemmas
 pub mod State
-pub mod StateLemmas
 pub mod Stepping
 pub mod Turning
+pub mod lemmas

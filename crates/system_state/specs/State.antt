@@ -1,25 +1,22 @@
 -- The state of the whole system as it is kept: the machine, with the state of each partition apart from its memory.
 use Rattle.std.specs.Prelude.{◌≡◌, ℕ, Bool, false, List, [], ◌∷◌, length, map, drop, is_some, slice_index_or}
 use Rattle.std.specs.Bool.{OnTrue}
-use Rattle.std.specs.FinMap.{empty}
 use Rattle.std.specs.List.{list_any}
 use Rattle.cyclic_plans.specs.PlanClock.{CyclicClock}
 use Rattle.guest_bus.specs.Memory.{Area, Memory}
-use Rattle.guest_memory.specs.Loading.{memory_areas, areas_with_image}
+use Rattle.guest_memory.specs.Loading.{memory_areas}
 use Rattle.guest_memory.specs.Memories.{Memories}
 use Rattle.health_monitor.specs.declared.entry.HealthEntry.{HealthEntry}
 use Rattle.loaded_system.specs.System as loaded_system
 use Rattle.sparc_step.specs.Registers.{Registers}
 use Rattle.virt_clocks.specs.Clocks.{PartitionClocks}
 use Rattle.virt_traps.specs.Virtual.{VirtualTraps}
-use Rattle.xef_images.specs.Image.{Image}
 use Rattle.xm_base.specs.declared.partition.State.{State}
-use Rattle.xm_conf.specs.Configuration.{Part}
 use Rattle.xm_ports.specs.Channels.{ChannelTable, Shape}
 use Rattle.xm_traces.specs.Ring.{Kept}
 use Rattle.xm_traces.specs.declared.entry.TraceEntry.{TraceEntry}
 use Rattle.machine_model.specs.Machine.{Machine}
-use Rattle.machine_model.specs.Partition.{PartitionState, begun_at}
+use Rattle.machine_model.specs.Partition.{PartitionState}
 use Rattle.machine_model.specs.View.{System, part_of}
 pub use Rattle.span_model.specs.Passes.{part_at, with_part}
 
@@ -35,25 +32,6 @@ pub record OwnState : Type 0 where
   pub traces : Kept TraceEntry
   pub health : Kept HealthEntry
   pub used : ℕ
-
--- the state of a partition without its memory, where it has read none of its input words
-abbrev pub without_memory : PartitionState → OwnState
-without_memory ps = record {
-  core = ps.core;
-  virt = ps.traps;
-  clocks = ps.clocks;
-  state = ps.state;
-  resets = ps.resets;
-  reset_status = ps.reset_status;
-  ports = ps.made;
-  traces = ps.traces;
-  health = ps.health;
-  used = 0;
-}
-
--- a partition as it boots: one that begins at its entry, whatever its memory and its input words are
-unfoldable pub booted_own : ℕ → OwnState
-booted_own entry = without_memory (begun_at entry empty [])
 
 -- with its memory and its input words it is the state of a partition, which has the words that are left
 abbrev pub with_memory : OwnState → Memory → List ℕ → PartitionState
@@ -141,9 +119,3 @@ with_machine g sys = record sys { machine = g }
 -- the machine with another state of one partition, whose memory stays
 abbrev pub with_own : ℕ → OwnState → Machine → Machine
 with_own p own g = with_part p (with_memory own (memory_of p g) (input_words_of p g)) g
-
--- the memories with the images of partitions loaded
-abbrev pub loaded_all : List Part → List Image → List Memory
-loaded_all [] images = []
-loaded_all (part ∷ parts) [] = []
-loaded_all (part ∷ parts) (image ∷ images) = areas_with_image (memory_areas part) image ∷ loaded_all parts images

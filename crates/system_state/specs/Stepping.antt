@@ -1,5 +1,5 @@
 -- The outcome of steps of a partition.
-use Rattle.std.specs.Prelude.{◌≡◌, ℕ, ◌<◌, List, Result}
+use Rattle.std.specs.Prelude.{◌≡◌, ℕ, ◌<◌, List}
 use Rattle.guest_bus.specs.Memory.{Area, Memory}
 use Rattle.sparc_step.specs.Execution.{Turned}
 use Rattle.sparc_step.specs.Registers.{Registers}
@@ -8,9 +8,8 @@ use Rattle.sparc_step.specs.declared.outcome.Turn.TheVariants.{Went, Trap, Call}
 use Rattle.virt_traps.specs.Delivery.{Delivered, Returned, delivered, returned}
 use Rattle.virt_traps.specs.Moves.{Moved, move_made}
 use Rattle.virt_traps.specs.Settled.{IsUndoneButSpill, settled}
-use Rattle.virt_traps.specs.declared.windows.StackFault.{StackFault}
 use Rattle.machine_model.specs.Partition.{PartitionState}
-use Rattle.machine_model.specs.ProcessorCalls.{flushed}
+use Rattle.machine_model.specs.OwnEffects.{flushed}
 
 -- the outcome of at most this many steps, those before the last being known: all of them went, or the last did not.
 -- Registers and memory are as that one leaves them; one that trapped leaves them as they were before it, but for a spill
@@ -45,12 +44,6 @@ after_return r ps = record ps { core = r.core; traps = r.traps }
 -- the flush of a partition's windows
 abbrev pub flushed_in : List Area → PartitionState → Moved
 flushed_in areas ps = flushed 8 areas (move_made ps.core ps.memory)
-
--- answer, registers and memory are those of windows that were moved
-pub record IsMoved (answer : Result (Unit {0}) StackFault) (core : Registers) (memory : Memory) (moved : Moved) : Type 0 where
-  pub answered : answer ≡ moved.answer
-  pub registers : core ≡ moved.core
-  pub bytes : memory ≡ moved.memory
 
 -- the partition after it
 abbrev pub after_flush : Moved → PartitionState → PartitionState

@@ -3,8 +3,9 @@
 ghost use Rattle.std.specs.Prelude.{◌≡◌, ◌%◌, ◌||◌, IfOk};
 ghost use Rattle.std.specs.List.{list_any};
 ghost use Rattle.virt_clocks.specs.Clocks.{looked_at};
-ghost use Rattle.system_state.specs.State.{booted_own, is_timed};
-ghost use Rattle.system_state.specs.Turning.{HasMet};
+ghost use Rattle.system_state.specs.lemmas.StateTerms.{booted_own};
+ghost use Rattle.system_state.specs.State.{is_timed};
+ghost use Rattle.system_state.specs.lemmas.TurningTerms.{HasMet};
 
 use crate::interrupts::{EXECUTION_TIMER, HARDWARE_TIMER, SLOT_START};
 use health_monitor::HealthEntry;
@@ -57,7 +58,7 @@ impl Model for PartState {
 
 impl PartState {
     /// A partition as it boots.
-    #[tactic(auto, unfolding(crate::specs::State::booted_own))]
+    #[tactic(auto, unfolding(crate::specs::lemmas::StateTerms::booted_own))]
     pub(crate) fn boot(alloc: Global, entry: u32) -> Result<PartState, Memory>
         requires { entry % 4 ≡ 0 }
         ensures { IfOk result (λ own. own ≡ booted_own entry) }

@@ -3,7 +3,7 @@
 ghost use Rattle.std.specs.Prelude.{◌≡◌, ◌≤◌, IfOk, map, length};
 ghost use Rattle.guest_memory.specs.Loading.{memory_areas};
 ghost use Rattle.loaded_system.specs.System.{IsSystem};
-ghost use Rattle.system_state.specs.State.{booted_own, loaded_all};
+ghost use Rattle.system_state.specs.lemmas.StateTerms.{booted_own, loaded_all};
 ghost use Rattle.xm_conf.specs.Limits.{most_parts};
 
 use crate::own_state::PartState;

@@ -7,8 +7,9 @@ ghost use Rattle.virt_traps.specs.Stepping.{stepped};
 ghost use Rattle.virt_traps.specs.Delivery.{delivered, returned};
 ghost use Rattle.virt_traps.specs.Moves.{move_made};
 ghost use Rattle.virt_traps.specs.Settled.{GoesOn, settled};
-ghost use Rattle.machine_model.specs.ProcessorCalls.{flushed};
-ghost use Rattle.system_state.specs.Stepping.{IsGone, IsMoved};
+ghost use Rattle.machine_model.specs.OwnEffects.{flushed};
+ghost use Rattle.system_state.specs.Stepping.{IsGone};
+ghost use Rattle.system_state.specs.lemmas.SteppingTerms.{IsMoved};
 
 use crate::gone::Gone;
 use fast_loop::run;

@@ -4,7 +4,7 @@ use Rattle.std.specs.Prelude.{Option, None, Some, is_some}
 use Rattle.virt_clocks.specs.Clocks.{is_due, looked_at}
 use Rattle.virt_clocks.specs.declared.timer.Timer.{Timer}
 use Rattle.system_state.specs.State.{SysState, any_timed, is_timed, with_machine}
-use Rattle.tick_steps.specs.PartLemmas.{part_put_back}
+use Rattle.tick_steps.specs.lemmas.PartLemmas.{part_put_back}
 use Rattle.machine_model.specs.Lists.{each, is_number}
 use Rattle.machine_model.specs.Partition.{PartitionState, hardware_looked_at, hardware_timer, is_halted, raised_if, rested}
 use Rattle.span_model.specs.Passes.{part_at, rest_but, with_part}

@@ -1,9 +1,9 @@
 -- What a machine keeps of its last tick, and what each partition received in it.
-use Rattle.std.specs.Prelude.{◌≡◌, ℕ, zero, suc, ◌&&◌, Bool, true, false, if◌then◌else◌, List, [], Option, None, Some, is_some}
-use Rattle.guest_bus.specs.Memory.{Memory, bytes_at}
+use Rattle.std.specs.Prelude.{◌≡◌, ℕ, ◌&&◌, Bool, false, if◌then◌else◌, List, Option, None, Some, is_some}
+use Rattle.guest_bus.specs.Memory.{Memory}
 use Rattle.xm_conf.specs.Configuration.{Conf}
 use Rattle.machine_model.specs.Cue.{Cue, cue, slot_of, unless_own}
-use Rattle.machine_model.specs.Machine.{Happened, Machine, SlotTurn, happened, is_turn_of, order_for, sight, step, turn_of}
+use Rattle.machine_model.specs.Machine.{Happened, Machine, SlotTurn, happened, is_turn_of, order_for, sight, turn_of}
 use Rattle.machine_model.specs.Emission.{Act, Directed, NoEvent, NotKept, Sight, Unseen, WholeEvent, Words, reach_of}
 use Rattle.machine_model.specs.Traffic.{Puts, Signals, Still, Takes, Traffic, heard_as}
 use Rattle.machine_model.specs.Whole.{event_of}
@@ -60,17 +60,6 @@ kept_from turn worked act traffic seen =
 abbrev pub kept_by : Option SlotTurn → Bool → Note → Beyond → Memory → KeptTick
 kept_by turn worked a_note reach memory = kept_from turn worked (act_beyond reach) (traffic_by (slot_partition turn) a_note memory) (sight_by a_note memory)
 
--- the bytes that a note names, of a message or of what was shown
-abbrev pub bytes_noted : Note → Memory → List ℕ
-bytes_noted note.Nothing memory = []
-bytes_noted (note.Console at size) memory = []
-bytes_noted (note.Trace entry) memory = []
-bytes_noted (note.Put chan at size) memory = bytes_at memory at size
-bytes_noted (note.Take chan) memory = []
-bytes_noted (note.Saw at size) memory = bytes_at memory at size
-bytes_noted note.NotKept memory = []
-bytes_noted (note.Signal number) memory = []
-
 -- the traffic that a note of a partition records with these bytes
 abbrev pub traffic_with : ℕ → Note → List ℕ → Traffic
 traffic_with source note.Nothing bytes = Still
@@ -111,12 +100,3 @@ kept_cue conf kept p = record {
 -- what is kept of a tick gives each partition its cue
 abbrev pub KeepsCues : Type 0
 KeepsCues = (g : Machine) (p : ℕ) → kept_cue g.system.conf (kept_tick g) p ≡ cue g p
-
--- what is kept after this many ticks: that of the last, and what was kept before where the hypervisor had halted
-abbrev pub kept_unless : Bool → KeptTick → KeptTick → KeptTick
-kept_unless true before later = before
-kept_unless false before later = later
-
-abbrev pub kept_after : Machine → ℕ → KeptTick → KeptTick
-kept_after g zero before = before
-kept_after g (suc count) before = kept_unless g.halted before (kept_after (step g) count (kept_tick g))

@@ -9,7 +9,8 @@ use Rattle.xm_outside.specs.Causes.{Rose}
 use Rattle.xm_outside.specs.Growth.{grown}
 use Rattle.uart_board.specs.declared.board.Board.{Board}
 use Rattle.uart_board.specs.Board.{LosesUart, IsTaken, lost, uart_at, with_uart}
-use Rattle.uart_board.specs.Heard.{IsOneWrite, TookAll, uart_hearing, hearing_nothing}
+use Rattle.uart_board.specs.Heard.{IsOneWrite, TookAll, uart_hearing}
+use Rattle.uart_board.specs.lemmas.HeardLemmas.{hearing_nothing}
 use Rattle.uart_board.specs.Views.{BoardView, HasFailed, HasTaken, UartView, mark_at}
 
 -- an element of a list, set twice

@@ -1,3 +1,4 @@
 pub mod Board
 pub mod Heard
 pub mod Views
+pub mod lemmas

@@ -3,15 +3,16 @@ use Rattle.std.proofs.Common.{◌≡◌, ℕ, length, get_or, Fits, w8, ◌+◌,
 use Rattle.std.specs.Prelude.{◌&&◌, ◌||◌, Some, None, ◌%◌, ◌==◌, if◌then◌else◌}
 use Rattle.std.specs.Int.{byte_len}
 use Rattle.guest_bus.specs.Access.{access_fault, store_fault, width_of}
-use Rattle.guest_bus.specs.Memory.{all_from, holds_address, is_readable, is_writable, memory_of_bytes}
-use Rattle.guest_bus.specs.MemoryLemmas.{all_readable, readable_within, writable-readable}
+use Rattle.guest_bus.specs.Memory.{all_from, holds_address, is_readable, is_writable}
+use Rattle.guest_bus.specs.lemmas.MemoryFacts.{memory_of_bytes}
+use Rattle.guest_bus.specs.lemmas.MemoryLemmas.{all_readable, readable_within, writable-readable}
 use Rattle.guest_bus.specs.Whole.{IsMemoryOf}
-use Rattle.guest_bus.specs.WholeLemmas.{memory_of-IsMemoryOf}
+use Rattle.guest_bus.specs.lemmas.WholeLemmas.{memory_of-IsMemoryOf}
 use Rattle.guest_bus.specs.declared.bus.BusFault.{BusFault}
 use Rattle.guest_bus.specs.declared.bus.BusFault.TheVariants.{Outside, Unaligned}
 use Rattle.guest_bus.specs.declared.bus.Size.{Size}
 use Rattle.guest_bus.specs.declared.bus.Size.TheVariants.{One, Two, Four, Eight}
-use Rattle.vector_suite.specs.Area.{LiesAt, vector_areas}
+use Rattle.vector_suite.specs.lemmas.Area.{LiesAt, vector_areas}
 use Rattle.vector_suite.specs.declared.memory.TheConstants.{AREA_BYTES, AREA_START}
 
 -- a range in the area may be read

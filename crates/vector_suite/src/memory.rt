@@ -4,9 +4,10 @@ ghost use Rattle.std.specs.Prelude.{◌≡◌, ◌+◌, ◌<◌, ◌≤◌, ◌�
 ghost use Rattle.std.specs.Int.{byte_len, from_be_bytes, to_be_bytes, w32};
 ghost use borrow.Rule.Slice.PartMut.{put_mid};
 ghost use Rattle.guest_bus.specs.Access.{Stores, after_store, fetched, loaded, store_fault, width_of};
-ghost use Rattle.guest_bus.specs.Memory.{all_from, is_readable, memory_of_bytes, no_others};
+ghost use Rattle.guest_bus.specs.Memory.{all_from, is_readable};
+ghost use Rattle.guest_bus.specs.lemmas.MemoryFacts.{memory_of_bytes, no_others};
 ghost use Rattle.guest_bus.specs.Whole.{IsMemoryOf};
-ghost use Rattle.vector_suite.specs.Area.{Places, vector_areas};
+ghost use Rattle.vector_suite.specs.lemmas.Area.{Places, vector_areas};
 
 use crate::contents::{Contents, DATA_AT, HEAD_BYTES};
 use byteorder::{BigEndian, ByteOrder};
@@ -33,8 +34,9 @@ pub(crate) struct VectorMemory {
 impl Model for VectorMemory {
     ghost use Rattle.std.specs.Prelude.{◌≡◌, length};
     ghost use Rattle.std.specs.Coded.{codes};
-    ghost use Rattle.guest_bus.specs.Memory.{memory_code, memory_of_bytes};
-    ghost use Rattle.vector_suite.specs.Area.{VectorArea};
+    ghost use Rattle.guest_bus.specs.Memory.{memory_code};
+    ghost use Rattle.guest_bus.specs.lemmas.MemoryFacts.{memory_of_bytes};
+    ghost use Rattle.vector_suite.specs.lemmas.Area.{VectorArea};
     ghost use Rattle.vector_suite.specs.declared.memory.TheConstants.{AREA_BYTES, AREA_START};
 
     ghost Value = { VectorArea };

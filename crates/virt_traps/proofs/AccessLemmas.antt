@@ -5,9 +5,9 @@ use Rattle.std.specs.Int.{byte_len, from_be_bytes, to_be_bytes, w64}
 use Rattle.std.proofs.lemmas.Nat.{be_bytes_8}
 use Rattle.guest_bus.specs.Access.{Stores, after_store, loaded, memory_unless_refused, store_fault, unless_refused, width_of}
 use Rattle.guest_bus.specs.Memory.{Area, Memory, bytes_at, is_readable, is_writable, with_bytes}
-use Rattle.guest_bus.specs.MemoryLemmas.{all_from-each, length-bytes_at}
+use Rattle.guest_bus.specs.lemmas.MemoryLemmas.{all_from-each, length-bytes_at}
 use Rattle.guest_bus.specs.Whole.{HoldsByte, IsMemoryOf}
-use Rattle.guest_bus.specs.WholeLemmas.{bytes_at-below, with_bytes-same}
+use Rattle.guest_bus.specs.lemmas.WholeLemmas.{bytes_at-below, with_bytes-same}
 use Rattle.guest_bus.specs.declared.bus.BusFault.{BusFault}
 use Rattle.guest_bus.specs.declared.bus.BusFault.TheVariants.{Outside}
 use Rattle.guest_bus.specs.declared.bus.Size.{Size}

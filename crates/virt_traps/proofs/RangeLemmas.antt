@@ -5,10 +5,11 @@ use Rattle.std.proofs.lemmas.Bool.{and_parts, cases_lt, leb-true}
 use Rattle.std.proofs.lemmas.Bool.Decides.{nat_tests}
 use Rattle.guest_bus.specs.Memory.{Area, holds_address, is_readable, is_writable}
 use Rattle.guest_bus.specs.Words.{allows}
-use Rattle.virt_traps.specs.SaveArea.{allowed_for, is_usable}
+use Rattle.virt_traps.specs.lemmas.SaveAreaTerms.{allowed_for}
+use Rattle.virt_traps.specs.SaveArea.{is_usable}
 use Rattle.virt_traps.specs.declared.windows.WindowMove.{WindowMove}
 use Rattle.virt_traps.specs.declared.windows.WindowMove.TheVariants.{Spill, Fill}
-use Rattle.guest_bus.specs.MemoryLemmas.{all_from-each, all_from-true}
+use Rattle.guest_bus.specs.lemmas.MemoryLemmas.{all_from-each, all_from-true}
 
 -- a part of a range that is allowed is allowed
 pub part : (allowed : ℕ → Bool) (address count place size : ℕ) → allows allowed address count ≡ true → address ≤ place → place + size ≤ address + count → allows allowed place size ≡ true

@@ -6,8 +6,9 @@ use Rattle.guest_bus.specs.Access.{fetched}
 use Rattle.guest_bus.specs.Memory.{Area, Memory, is_readable, is_writable}
 use Rattle.sparc_step.specs.Execution.{Turned, refused as trapped, turned}
 use Rattle.sparc_step.specs.Registers.{Registers, advanced}
-use Rattle.sparc_step.specs.Undone.{IsUndone, turned-IsOrderly}
-use Rattle.sparc_step.specs.WindowTraps.{HasWindowTraps, turned-HasWindowTraps}
+use Rattle.sparc_step.specs.Undone.{IsUndone}
+use Rattle.sparc_step.specs.lemmas.UndoneLemmas.{turned-IsOrderly}
+use Rattle.sparc_step.specs.lemmas.WindowTraps.{HasWindowTraps, turned-HasWindowTraps}
 use Rattle.sparc_step.specs.declared.outcome.Turn.{Turn}
 use Rattle.sparc_step.specs.declared.outcome.Turn.TheVariants.{Went, Trap, Call}
 use Rattle.virt_traps.specs.Moves.{Moved, fill_address, filled, move_made, move_refused, spill_address, spill_window, spilled}

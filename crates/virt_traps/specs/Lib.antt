@@ -7,3 +7,4 @@ pub mod Settled
 pub mod Stepping
 pub mod Virtual
 pub mod Delivery
+pub mod lemmas

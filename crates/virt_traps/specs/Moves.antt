@@ -1,12 +1,10 @@
 -- Windows that move between the registers and the stack: spills and fills, as a guest's own trap handlers would make them.
-use Rattle.std.specs.Prelude.{◌≢◌, ℕ, ◌+◌, ◌%◌, if◌then◌else◌, List, Result, Ok, Err}
+use Rattle.std.specs.Prelude.{ℕ, ◌+◌, ◌%◌, if◌then◌else◌, List, Result, Ok, Err}
 use Rattle.guest_bus.specs.Memory.{Area, Memory, is_readable, is_writable, with_bytes}
 use Rattle.sparc_step.specs.Registers.{Registers}
 use Rattle.guest_bus.specs.Words.{bytes_of, words_at}
 use Rattle.virt_traps.specs.SaveArea.{is_usable, register_of, saved, with_registers}
 use Rattle.virt_traps.specs.declared.windows.StackFault.{StackFault}
-use Rattle.virt_traps.specs.declared.windows.WindowMove.{WindowMove}
-use Rattle.virt_traps.specs.declared.windows.WindowMove.TheVariants.{Spill, Fill}
 
 -- the outcome of a spill or a fill, and what it left
 pub record Moved : Type 0 where
@@ -47,13 +45,3 @@ filled areas core memory =
     if is_usable (is_readable areas) (fill_address core)
     then move_made (record core { windows = with_registers core.windows core.inv 16 (words_at memory (fill_address core) 16); inv = (core.inv + 1) % 8 }) memory
     else move_refused core memory
-
--- a spill may be asked for where the window above the current one is not the invalid one, and a fill where the window above the invalid one is not the current one
-abbrev pub CanMove : WindowMove → Registers → Type 0
-CanMove Spill core = (core.cwp + 1) % 8 ≢ core.inv
-CanMove Fill core = (core.inv + 1) % 8 ≢ core.cwp
-
--- the outcome of a move of a window
-abbrev pub moved_by : WindowMove → List Area → Registers → Memory → Moved
-moved_by Spill areas core memory = spilled areas core memory
-moved_by Fill areas core memory = filled areas core memory

@@ -1,10 +1,7 @@
 -- The registers of each window, and its save area: the 64 bytes at its stack pointer that hold its locals and ins (section 4.1 and appendix D of the SPARC V8 manual).
 use Rattle.std.specs.Prelude.{ℕ, zero, suc, ◌+◌, ◌%◌, ◌^◌, Bool, ◌&&◌, nat_le, ◌==◌, List, [], ◌∷◌, slice_index, slice_set}
-use Rattle.guest_bus.specs.Memory.{Area, is_readable, is_writable}
 use Rattle.guest_bus.specs.Words.{allows}
 use Rattle.sparc_step.specs.Registers.{place_in_windows}
-use Rattle.virt_traps.specs.declared.windows.WindowMove.{WindowMove}
-use Rattle.virt_traps.specs.declared.windows.WindowMove.TheVariants.{Spill, Fill}
 
 -- register n of a window, for n from 8 to 31
 abbrev pub register_of : List ℕ → ℕ → ℕ → ℕ
@@ -28,8 +25,3 @@ with_registers windows window n (value ∷ values) =
 -- the address can be that of a save area: it is a multiple of 8, and each of the 64 bytes is allowed, none of them past the last address
 unfoldable pub is_usable : (ℕ → Bool) → ℕ → Bool
 is_usable allowed address = (address % 8 == 0) && (nat_le (address + 64) (2 ^ 32) && allows allowed address 64)
-
--- the addresses that may be used for a move of a window: a spill writes its save area, and a fill reads it
-abbrev pub allowed_for : WindowMove → List Area → ℕ → Bool
-allowed_for Spill areas = is_writable areas
-allowed_for Fill areas = is_readable areas

@@ -5,7 +5,8 @@ ghost use Rattle.std.specs.Int.{to_be_bytes, w32, w64};
 ghost use Rattle.guest_bus.specs.Memory.{is_readable, is_writable, with_bytes};
 ghost use Rattle.sparc_step.specs.Registers.{place_in_windows};
 ghost use Rattle.guest_bus.specs.Words.{allows, bytes_of, words_at};
-ghost use Rattle.virt_traps.specs.SaveArea.{allowed_for, is_usable, register_of, registers_from, saved, with_registers};
+ghost use Rattle.virt_traps.specs.lemmas.SaveAreaTerms.{allowed_for};
+ghost use Rattle.virt_traps.specs.SaveArea.{is_usable, register_of, registers_from, saved, with_registers};
 
 use crate::windows::WindowMove;
 use guest_bus::{Bus, Size};

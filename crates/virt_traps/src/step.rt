@@ -1,7 +1,7 @@
 //! One instruction, with the spill or the fill that it needs.
 
 ghost use Rattle.std.specs.Prelude.{◌≡◌, ◌+◌, ◌%◌};
-ghost use Rattle.virt_traps.specs.Moves.{CanMove, moved_by};
+ghost use Rattle.virt_traps.specs.lemmas.MovesTerms.{CanMove, moved_by};
 ghost use Rattle.virt_traps.specs.Settled.{FailsAlone, GoesOn, IsUndoneButSpill, after_trap, made_again, settled};
 
 use crate::windows::{WindowMove, move_window};

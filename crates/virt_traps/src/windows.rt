@@ -2,7 +2,8 @@
 
 ghost use Rattle.std.specs.Prelude.{◌≡◌, ◌≢◌, ◌↔◌, ◌+◌, ◌%◌, IsErr, IsFalse, OnErr};
 ghost use Rattle.guest_bus.specs.Memory.{is_readable, is_writable};
-ghost use Rattle.virt_traps.specs.Moves.{CanMove, fill_address, filled, moved_by, spill_address, spilled};
+ghost use Rattle.virt_traps.specs.lemmas.MovesTerms.{CanMove, moved_by};
+ghost use Rattle.virt_traps.specs.Moves.{fill_address, filled, spill_address, spilled};
 ghost use Rattle.virt_traps.specs.SaveArea.{is_usable};
 
 use crate::save_area::{is_usable, load_window, register_of, store_window};

@@ -3,8 +3,8 @@ use Rattle.std.proofs.Common.{◌≡◌, ℕ, zero, suc, Bool, List, [], ◌∷�
 use Rattle.std.specs.Prelude.{nat_le, ◌==◌, ◌&&◌, ◌+◌, ◌^◌}
 use Rattle.std.specs.Int.{Width, w8, w32}
 use Rattle.xm_base.specs.Cursor.{Place, left, past, cursor_start}
-use Rattle.file_headers.specs.DigestLemmas.{IsPlain, fields_report, plain_bytes, plain_cond, plain_fault, plain_number, plain_then, value_is_none}
-use Rattle.file_headers.specs.Faults.{AreApart}
+use Rattle.file_headers.specs.lemmas.DigestLemmas.{IsPlain, fields_report, plain_bytes, plain_cond, plain_fault, plain_number, plain_then, value_is_none}
+use Rattle.file_headers.specs.lemmas.FaultsTerms.{AreApart}
 use Rattle.file_headers.specs.Fields.{field_bytes, listed_at, number_at}
 use Rattle.file_headers.specs.Gives.{Gives}
 use Rattle.file_headers.specs.Heads.{ReportsDigests, unsealed}

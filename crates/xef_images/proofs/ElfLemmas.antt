@@ -8,10 +8,10 @@ use Rattle.std.proofs.lemmas.List.{length-append, length-take}
 use Rattle.xm_base.specs.Bytes.{AreBytes}
 use Rattle.xm_base.specs.declared.limits.TheConstants.{FILE_BYTES}
 use Rattle.xef_images.specs.Image.{Image, Segment, end_of, xef_length, IsSegment, IsImage}
-use Rattle.xef_images.specs.ImageLemmas.{SegmentsRiseFrom, Decides-nat_lt, image_from_parts, is_entry-Decides}
+use Rattle.xef_images.specs.lemmas.ImageLemmas.{SegmentsRiseFrom, Decides-nat_lt, image_from_parts, is_entry-Decides}
 use Rattle.xef_images.specs.Tests.{is_entry}
-use Rattle.file_headers.specs.FieldLemmas.{AreBytes-drop, AreBytes-take, wide32}
-use Rattle.file_headers.specs.StepLemmas.{stepped, ok_is, led_on}
+use Rattle.file_headers.specs.lemmas.FieldLemmas.{AreBytes-drop, AreBytes-take, wide32}
+use Rattle.file_headers.specs.lemmas.StepLemmas.{stepped, ok_is, led_on}
 use Rattle.xef_images.proofs.SortLemmas.{all_sorted, length-sorted}
 use Rattle.file_headers.specs.Steps.{◌>>=◌}
 use Rattle.xef_images.specs.Elf.{elf_word, header_count, header_at, is_loaded, is_cut, segment_of, segment_from, load_at, loads, sorted, overlap, overlap_fault, verdict, elf}

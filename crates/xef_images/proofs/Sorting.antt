@@ -12,7 +12,7 @@ use Rattle.std.proofs.lemmas.Bool.{cases_lt}
 use Rattle.std.proofs.lemmas.Bool.Decides.{Decides-eqb, nat_tests}
 use Rattle.std.proofs.lemmas.List.Elements.{filter_agree, recursion_from_All}
 use Rattle.xef_images.specs.Image.{Segment}
-use Rattle.xef_images.specs.ImageLemmas.{Decides-nat_le, above_lower}
+use Rattle.xef_images.specs.lemmas.ImageLemmas.{Decides-nat_le, above_lower}
 use Rattle.xef_images.specs.Elf.{inserted_by_address, sorted}
 use Rattle.xef_images.proofs.SortLemmas.{all_among}
 

@@ -2,11 +2,9 @@ pub mod Elf
 pub mod ElfGives
 pub mod Gives
 pub mod Image
-pub mod ImageLemmas
 pub mod Laws
 pub mod Reading
 pub mod Spelling
-pub mod TableLemmas
 pub mod Tests
 pub mod Texts
-pub mod XefLemmas
+pub mod lemmas

@@ -1,23 +1,11 @@
 -- What an image is, as tests.
-use Rattle.std.specs.Prelude.{ℕ, ◌%◌, ◌^◌, ◌==◌, Bool, true, ◌&&◌, nat_le, nat_lt, List, [], ◌∷◌, length}
+use Rattle.std.specs.Prelude.{ℕ, ◌%◌, ◌==◌, Bool, ◌&&◌, nat_le, nat_lt, List}
 use Rattle.std.specs.List.{list_any}
-use Rattle.xef_images.specs.declared.xef.TheConstants.{MOST_BYTES}
-use Rattle.xef_images.specs.Image.{Image, Segment, end_of, xef_length}
+use Rattle.xef_images.specs.Image.{Segment, end_of}
 
 -- whether the address is in the memory of a segment
 abbrev pub is_covered : ℕ → Segment → Bool
 is_covered address segment = nat_le segment.address address && nat_lt address (end_of segment)
-
--- whether a segment may stand after one that ends at the floor
-abbrev pub is_placed : ℕ → Segment → Bool
-is_placed floor segment =
-    nat_le floor segment.address && nat_le 1 segment.memory && nat_lt segment.memory (2 ^ 32) && nat_le (end_of segment) (2 ^ 32)
-    && nat_le (length segment.bytes) segment.memory
-
--- whether segments may stand one after the other, the first of them after the floor
-abbrev pub are_placed : ℕ → List Segment → Bool
-are_placed floor [] = true
-are_placed floor (segment ∷ later) = is_placed floor segment && are_placed (end_of segment) later
 
 -- whether the address is in the memory of one of the segments
 abbrev pub is_in_memory : ℕ → List Segment → Bool
@@ -26,9 +14,3 @@ is_in_memory address segments = list_any (is_covered address) segments
 -- whether an image may start at the address
 abbrev pub is_entry : ℕ → List Segment → Bool
 is_entry address segments = (address % 4 == 0) && is_in_memory address segments
-
--- whether this is an image
-abbrev pub is_image : Image → Bool
-is_image image =
-    nat_le 1 (length image.segments) && nat_le (length image.segments) 8 && are_placed 0 image.segments
-    && is_entry image.entry image.segments && nat_le (xef_length image.segments) MOST_BYTES

@@ -1,7 +1,8 @@
 //! The reading of an image's file.
 
 ghost use Rattle.std.specs.Prelude.{◌≡◌, IfOk, codes};
-ghost use Rattle.file_headers.specs.Gives.{Gives, GivesAt, IsRead, IsReadAt};
+ghost use Rattle.file_headers.specs.Gives.{Gives, IsRead};
+ghost use Rattle.file_headers.specs.lemmas.GivesTerms.{GivesAt, IsReadAt};
 ghost use Rattle.file_headers.specs.Heads.{ReportsDigests, unsealed};
 ghost use Rattle.xef_images.specs.Image.{Image};
 ghost use Rattle.xef_images.specs.Spelling.{IsSpelledImage};

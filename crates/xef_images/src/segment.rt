@@ -2,7 +2,8 @@
 
 ghost use Rattle.std.specs.Prelude.{◌≡◌, length};
 ghost use Rattle.xef_images.specs.Image.{end_of};
-ghost use Rattle.xef_images.specs.Tests.{is_covered, is_placed};
+ghost use Rattle.xef_images.specs.Tests.{is_covered};
+ghost use Rattle.xef_images.specs.lemmas.TestsTerms.{is_placed};
 
 use std::marker::Model;
 

@@ -2,7 +2,8 @@
 
 ghost use Rattle.std.specs.Prelude.{◌≡◌, ◌+◌, ◌^◌, ◌<◌, ◌↔◌, IsNone, IfSome, length, nat_le};
 ghost use Rattle.xef_images.specs.Image.{IsImage, xef_length};
-ghost use Rattle.xef_images.specs.Tests.{are_placed, is_entry, is_image, is_in_memory};
+ghost use Rattle.xef_images.specs.lemmas.TestsTerms.{are_placed, is_image};
+ghost use Rattle.xef_images.specs.Tests.{is_entry, is_in_memory};
 
 use crate::segment::Segment;
 use std::marker::Model;

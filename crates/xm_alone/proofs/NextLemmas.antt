@@ -22,9 +22,10 @@ use Rattle.xm_machine.specs.AloneSpan.{SpansAlone}
 use Rattle.xm_machine.specs.AloneStep.{HasStepCause, IsSaidAlone, StepsAlone}
 use Rattle.xm_machine.specs.declared.alone_span.AloneFault.{AloneFault}
 use Rattle.xm_machine.specs.declared.alone_span.AloneFault.TheVariants as fault
-use Rattle.xm_alone.specs.Cues.{ComesNext, Follows, IsNextCue, cues_left, next_cues, next_left}
+use Rattle.xm_alone.specs.lemmas.Cues.{ComesNext, Follows, IsNextCue, cues_left, next_cues, next_left}
 use Rattle.recording_model.specs.Replayed.{cue_lines, replayed}
-use Rattle.xm_alone.specs.Replay.{IsCutReplay, TakesAll, is_refused, lone_in, still_silent}
+use Rattle.xm_alone.specs.Replay.{IsCutReplay, TakesAll, lone_in}
+use Rattle.xm_alone.specs.lemmas.ReplayTerms.{is_refused, still_silent}
 use Rattle.recording_model.specs.Lone.{replay_said}
 use Rattle.xm_alone.specs.declared.cues.Cues as code
 use Rattle.xm_alone.specs.declared.cues.Next as code_next

@@ -2,10 +2,13 @@
 use Rattle.std.proofs.Common.{◌≡◌, ℕ, ◌+◌, ◌<◌, ◌≤◌, Bool, true, false, if◌then◌else◌, List, [], ◌∷◌, ◌++◌, length, drop, take, Option, Result, Ok, Err, refl, sym, ap, subst, ◌∙◌, arith, length-append}
 use Rattle.std.proofs.Math.Seq.{take-append-add, take-append_seam, take-length}
 use Rattle.std.proofs.lemmas.List.{append-nil, take-append-drop, take-append-le}
-use Rattle.xm_outside.specs.Growth.{GrewByPrefix, Writes, grown, grown-nothing, grown_grown}
-use Rattle.xm_report.specs.Report.{ReportLine, text_of, texts, texts-append}
+use Rattle.xm_outside.specs.Growth.{GrewByPrefix, Writes, grown}
+use Rattle.xm_outside.specs.lemmas.GrowthLemmas.{grown-nothing, grown_grown}
+use Rattle.xm_report.specs.Report.{ReportLine, text_of, texts}
+use Rattle.xm_report.specs.lemmas.ReportLemmas.{texts-append}
 use Rattle.xm_report.specs.declared.output.WriteFault.{WriteFault}
-use Rattle.uart_board.specs.Heard.{IsHeard, IsHeardAt, heard_nothing, heard_then}
+use Rattle.uart_board.specs.Heard.{IsHeard, IsHeardAt}
+use Rattle.uart_board.specs.lemmas.HeardLemmas.{heard_nothing, heard_then}
 use Rattle.uart_board.specs.Views.{BoardView, mark_at, view_at}
 use Rattle.machine_model.specs.Alone.{Alone, alone_lines, alone_said, alone_start, alone_step_lines, alone_step_said}
 use Rattle.machine_model.specs.Cue.{Cue}

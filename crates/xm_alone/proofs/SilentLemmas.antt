@@ -3,7 +3,8 @@ use Rattle.std.proofs.Common.{◌≡◌, ℕ, ◌+◌, Bool, true, false, if◌t
 use Rattle.std.proofs.lemmas.List.{append-nil}
 use Rattle.std.specs.List.{flat_map}
 use Rattle.xm_outside.specs.Growth.{grown}
-use Rattle.xm_report.specs.Report.{ConsoleLine, EndPart, EndWhole, HealthLine, MovedLine, PlanLine, ReportLine, SystemLine, TraceLine, WholeLine, console_text, end_part_text, end_whole_text, health_text, moved_text, plan_text, system_text, text_of, texts, texts-append, trace_text, whole_text}
+use Rattle.xm_report.specs.Report.{ConsoleLine, EndPart, EndWhole, HealthLine, MovedLine, PlanLine, ReportLine, SystemLine, TraceLine, WholeLine, console_text, end_part_text, end_whole_text, health_text, moved_text, plan_text, system_text, text_of, texts, trace_text, whole_text}
+use Rattle.xm_report.specs.lemmas.ReportLemmas.{texts-append}
 use Rattle.machine_model.specs.Alone.{Alone, alone_lines, alone_lines_of, alone_local, alone_local_in, alone_said, alone_start, alone_step, alone_step_lines, alone_step_said}
 use Rattle.machine_model.specs.Cue.{Away, Cue, CueSlot, Mine}
 use Rattle.machine_model.specs.Lines.{local_lines, local_said}

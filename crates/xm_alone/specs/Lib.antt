@@ -1,2 +1,2 @@
-pub mod Cues
 pub mod Replay
+pub mod lemmas

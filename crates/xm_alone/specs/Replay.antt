@@ -1,5 +1,5 @@
 -- A partition that is replayed: which script fits it, what a replay says, and whether it was one of these cues.
-use Rattle.std.specs.Prelude.{◌≡◌, ℕ, ◌<◌, ◌≤◌, Bool, false, true, List, [], ◌∷◌, length, take, Option, Some, None, Result, Ok, Err}
+use Rattle.std.specs.Prelude.{◌≡◌, ℕ, ◌<◌, ◌≤◌, Bool, false, List, [], ◌∷◌, length, take, Option, Some, None, Result, Ok, Err}
 use Rattle.xm_outside.specs.Growth.{grown, GrewByPrefix}
 use Rattle.xm_report.specs.Report.{ReportLine, texts}
 use Rattle.xm_report.specs.declared.output.WriteFault.{WriteFault}
@@ -14,8 +14,6 @@ use Rattle.replay_model.specs.Taking.{first_untaken}
 use Rattle.recording_model.specs.Replayed.{cue_lines, replayed}
 use Rattle.fault_messages.specs.declared.fault.ScriptFault.{ScriptFault}
 use Rattle.fault_messages.specs.declared.fault.ScriptFault.TheVariants as fault
-use Rattle.xm_machine.specs.declared.alone_span.AloneFault.{AloneFault}
-use Rattle.xm_machine.specs.declared.alone_span.AloneFault.TheVariants as alone
 use Rattle.recording_model.specs.Lone.{Lone, own_view, replay_said}
 
 -- partition p of a machine by itself
@@ -56,17 +54,6 @@ pub record IsSilentReplay (cues : List Cue) (old new : Lone) : Type 0 where
   pub left : IsReplayed cues old new
   pub lines : cue_lines (own_view old) cues ≡ []
   pub said : alone_said (own_view old) (alone_start (own_view old)) cues ≡ []
-
--- the partition could not take the cue of a tick
-abbrev pub is_refused : {T : Type 0} → Result T AloneFault → Bool
-is_refused (Ok done) = false
-is_refused (Err alone.Write) = false
-is_refused (Err alone.Cue) = true
-
--- whether nothing was printed, after ticks that a sink that takes no byte ended so
-abbrev pub still_silent : {T : Type 0} → Bool → Result T AloneFault → Bool
-still_silent silent (Ok done) = silent
-still_silent silent (Err why) = false
 
 -- a replay whose lines all went out
 pub record IsWholeReplay (cues : List Cue) (lines : List ReportLine) (old new : Lone) (had got : Option (List ℕ)) (before after : BoardView) : Type 0 where

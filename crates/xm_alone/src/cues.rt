@@ -3,7 +3,7 @@
 ghost use Rattle.std.specs.Prelude.{◌≡◌, ◌++◌, [], MatchOption};
 ghost use Rattle.cue_scripts.specs.Entries.{first_cue};
 ghost use Rattle.cue_scripts.specs.Values as kept;
-ghost use Rattle.xm_alone.specs.Cues.{ComesNext, HasNext, cues_left, next_left};
+ghost use Rattle.xm_alone.specs.lemmas.Cues.{ComesNext, HasNext, cues_left, next_left};
 ghost use Rattle.tick_steps.specs.CueValues.{cue_value, sight_value, traffic_value};
 
 use cue_scripts::{

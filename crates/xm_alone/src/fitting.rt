@@ -4,7 +4,8 @@ ghost use Rattle.std.specs.Prelude.{◌≡◌, ◌<◌, IfOk, length, true};
 ghost use Rattle.cue_scripts.specs.Script.{IsScript};
 ghost use Rattle.machine_model.specs.View.{view_of};
 ghost use Rattle.system_state.specs.State.{with_inputs};
-ghost use Rattle.xm_alone.specs.Replay.{IsSilentReplay, AnswersFit, is_refused, lone_in, still_silent};
+ghost use Rattle.xm_alone.specs.Replay.{IsSilentReplay, AnswersFit, lone_in};
+ghost use Rattle.xm_alone.specs.lemmas.ReplayTerms.{is_refused, still_silent};
 ghost use Rattle.recording_model.specs.Lone.{booted_alone};
 
 use crate::alone::Alone;

@@ -2,7 +2,7 @@
 
 ghost use Rattle.std.specs.Prelude.{◌≡◌, ◌+◌, ◌<◌, ◌≤◌, false, length};
 ghost use Rattle.replay_model.specs.Step.{IsOfSystem};
-ghost use Rattle.xm_alone.specs.Cues.{Follows, HasNext, IsNextCue, next_cues};
+ghost use Rattle.xm_alone.specs.lemmas.Cues.{Follows, HasNext, IsNextCue, next_cues};
 ghost use Rattle.xm_machine.specs.AloneStep.{HasStepCause};
 
 use crate::cues::Next;

@@ -3,3 +3,4 @@ pub mod Cursor
 pub mod CursorMoves
 pub mod Options
 pub mod State
+pub mod lemmas

@@ -5,7 +5,7 @@ use Rattle.xm_outside.specs.Causes.{Rose}
 use Rattle.uart_board.specs.Views.{BoardView, mark_at}
 use Rattle.command_line.specs.Words.{Command}
 use Rattle.file_commands.specs.Ending.{Ending, Done, Usage, ReadFault, Refused, WriteFaultReport, WriteFaultFile, UartFault, NoMemory, status_of}
-use Rattle.file_commands.specs.OutputLemmas.{called_for-is}
+use Rattle.file_commands.specs.lemmas.OutputLemmas.{called_for-is}
 use Rattle.file_commands.specs.Outcome.{Outcome, Running, inputs_of, outcome_of}
 use Rattle.file_commands.specs.Work.{Does, Outside, Works, called_for}
 use Rattle.run_commands.specs.Boards.{HasNoMark, LeavesBoard, Plays}

@@ -31,8 +31,8 @@ use Rattle.file_commands.specs.Denial.{Denial}
 use Rattle.file_commands.specs.Outcome.{Output, bare_outcome, content, first_long, input_bytes, file_made, packed_to, played, outcome_of_run, ran_for, ran_scripted, ran_with, ran_within, command_refused, refused_by, replay_outcome_by, replay_outcome, run_by, run_outcome, text_reported, inputs_of, outcome_of, scripts_for, ticks_asked, unless_long, outcome_of_contents}
 use Rattle.xm_commands.specs.Top.{AreContents}
 use Rattle.file_commands.specs.Work.{counted_by, Outside, ReadsFiles, wrote}
-use Rattle.file_commands.specs.CommandLemmas.{outcome-long}
-use Rattle.run_commands.specs.ContentLemmas.{AreWhole, are_whole}
+use Rattle.file_commands.specs.lemmas.CommandLemmas.{outcome-long}
+use Rattle.run_commands.specs.lemmas.ContentLemmas.{AreWhole, are_whole}
 
 -- one call more is one call more at the end
 pub counted-counted_by : (k n : ℕ) → counted (counted_by k n) ≡ counted_by (suc k) n

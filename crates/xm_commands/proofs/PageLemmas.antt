@@ -6,7 +6,8 @@ use Rattle.command_line.specs.Words.{command_of}
 use Rattle.file_commands.specs.Ending.{Ending, complaint, status_of}
 use Rattle.file_commands.specs.Work.{Works}
 use Rattle.run_commands.specs.Boards.{Plays}
-use Rattle.run_commands.specs.Numbers.{HasScripts, WordsReceive}
+use Rattle.run_commands.specs.Numbers.{HasScripts}
+use Rattle.run_commands.specs.lemmas.NumbersTerms.{WordsReceive}
 use Rattle.xm_commands.specs.Page.{IsAnswer}
 use Rattle.xm_commands.specs.Top.{IsSaid}
 use Rattle.xm_commands.specs.World.{World}

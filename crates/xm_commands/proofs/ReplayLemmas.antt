@@ -18,15 +18,16 @@ use Rattle.recording_model.specs.Lone.{Lone, booted_alone, own_view, replay_said
 use Rattle.command_line.specs.Words.{ReplayFiles}
 use Rattle.run_commands.specs.EndsAfter.{EndsAfter}
 use Rattle.run_commands.specs.Boards.{IsRunTo, LeavesBoard}
-use Rattle.run_commands.specs.EndsAfterLemmas.{leaves_and_after, outcome_and_after}
+use Rattle.run_commands.specs.lemmas.EndsAfterLemmas.{leaves_and_after, outcome_and_after}
 use Rattle.file_commands.specs.Ending.{Ending, WriteFaultReport}
 use Rattle.xm_base.specs.declared.limits.TheConstants.{FILE_BYTES}
 use Rattle.file_commands.specs.Outcome.{Output, Running, Apart, content, first_long, input_bytes, name_if_any, played, replay_outcome_by, replay_output, unready_denial}
-use Rattle.xm_commands.specs.Replaying.{lone_output, ready_of, unready_ending}
-use Rattle.file_commands.specs.Work.{Outside, Comes, outside, reported_all}
+use Rattle.xm_commands.specs.lemmas.Replaying.{lone_output, ready_of, unready_ending}
+use Rattle.file_commands.specs.Work.{Outside, outside, reported_all}
+use Rattle.file_commands.specs.lemmas.WorkTerms.{Comes}
 use Rattle.std.proofs.lemmas.Bool.Decides.{nat_tests}
-use Rattle.run_commands.specs.InputLemmas.{rest_short}
-use Rattle.file_commands.specs.CommandLemmas.{refused_comes}
+use Rattle.run_commands.specs.lemmas.InputLemmas.{rest_short}
+use Rattle.file_commands.specs.lemmas.CommandLemmas.{refused_comes}
 
 -- A replay.
 

@@ -26,7 +26,7 @@ use Rattle.file_commands.specs.Outcome.{Apart, Output, Outcome, Running, content
 use Rattle.xm_commands.specs.Separation.{ReplaysAlone, ShowsOwn}
 use Rattle.xm_commands.specs.Top.{AreContents, IsCompleteStatus, IsRefusedIn}
 use Rattle.file_commands.specs.Work.{Outside, IsCarriedOut, Works, called_for, did, reported_all, wrote_all}
-use Rattle.file_commands.specs.OutputLemmas.{called_for-is}
+use Rattle.file_commands.specs.lemmas.OutputLemmas.{called_for-is}
 use Rattle.xm_commands.specs.World.{World}
 use Rattle.xm_commands.proofs.OutsideLemmas.{known_outcome}
 use Rattle.xm_commands.proofs.SeparationLemmas.{core_there}

@@ -21,18 +21,18 @@ use Rattle.system_state.specs.Inputs.{words_in}
 use Rattle.system_state.specs.State.{with_inputs}
 use Rattle.xm_container.specs.Reading.{unpacked}
 use Rattle.command_line.specs.Words.{Command, PartFile, ReplayFiles, RunOption, Run, Replay, command_of, cores_in, inputs_in, replay_core, replay_input, scripts_in, span_in}
-use Rattle.file_commands.specs.CommandLemmas.{outcome-long, outcome-short}
+use Rattle.file_commands.specs.lemmas.CommandLemmas.{outcome-long, outcome-short}
 use Rattle.file_commands.specs.Denial.{Denial}
 use Rattle.file_commands.specs.Ending.{input_text, status_of, ticks_text}
 use Rattle.file_commands.specs.Inputs.{first_beyond, inputs_for, inputs_with, no_inputs, unless_beyond}
-use Rattle.file_commands.specs.LaterLemmas.{output_names}
+use Rattle.file_commands.specs.lemmas.LaterLemmas.{output_names}
 use Rattle.file_commands.specs.Outcome.{Output, Outcome, command_refused, content, core_output, core_outputs, first_long, input_bytes, inputs_of, name_if_any, outcome_of, outcome_of_run, played, ran_scripted, replay_output, ran_with, ran_within, refused_by, run_by, run_outcome, script_bytes, script_denial, script_before, script_output, scripts_for, ticks_asked, unless_denied}
 use Rattle.file_commands.specs.Packing.{denial, file_names}
 use Rattle.file_commands.specs.declared.status.Status.TheVariants.{Done, ReadFault}
 use Rattle.run_commands.specs.Contents.{read_all, read_before}
-use Rattle.run_commands.specs.CoreLemmas.{scripts_inside}
-use Rattle.run_commands.specs.Cores.{AreForPartitions}
-use Rattle.run_commands.specs.InputLemmas.{rest_short}
+use Rattle.run_commands.specs.lemmas.CoreLemmas.{scripts_inside}
+use Rattle.run_commands.specs.lemmas.Cores.{AreForPartitions}
+use Rattle.run_commands.specs.lemmas.InputLemmas.{rest_short}
 use Rattle.xm_commands.specs.Answer.{Answer, answer, answer_to_read, command_answer, ending_by, files_saved, outcome_answer, saved_all}
 use Rattle.xm_commands.specs.RunThenAlone.{AnswersAsRun, BelongsTo, HoldsBytes, IsUntouched, RunsThenAlone, input_of, input_or}
 use Rattle.xm_commands.specs.Top.{IsNoneOf, writes_of}

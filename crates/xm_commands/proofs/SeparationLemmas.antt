@@ -9,7 +9,8 @@ use Rattle.std.proofs.lemmas.Option.{get_or_from_slice_get}
 use Rattle.xm_base.specs.Options.{on}
 use Rattle.xm_base.specs.declared.limits.TheConstants.{IMAGE_BYTES, TICKS}
 use Rattle.xm_outside.specs.Files.{Files, OthersStay}
-use Rattle.xm_outside.specs.Growth.{GrewByPrefix, grown, grown-nothing, grown_grown}
+use Rattle.xm_outside.specs.Growth.{GrewByPrefix, grown}
+use Rattle.xm_outside.specs.lemmas.GrowthLemmas.{grown-nothing, grown_grown}
 use Rattle.xm_report.specs.Report.{ReportLine, text_of, texts}
 use Rattle.loaded_system.specs.Bare.{bare_system}
 use Rattle.loaded_system.specs.System.{System as Loaded}
@@ -24,7 +25,7 @@ use Rattle.machine_model.specs.Partition.{PartitionState}
 use Rattle.machine_model.specs.View.{System, view_of}
 use Rattle.system_state.specs.State.{part_at, with_inputs}
 use Rattle.command_line.specs.Words.{Command, PartFile, RunOption, Bare, Parse, Upgrade, BuildImage, ReadImage, Pack, ListContainer, CheckContainer, MakePlan, CheckPlan, ListGroups, Generate, Run, Replay, cores_in, inputs_in, span_in, scripts_in}
-use Rattle.run_commands.specs.Cores.{AreForPartitions}
+use Rattle.run_commands.specs.lemmas.Cores.{AreForPartitions}
 use Rattle.file_commands.specs.Denial.{Denial}
 use Rattle.file_commands.specs.Ending.{Ending, Done, Usage, ReadFault, Refused, WriteFaultReport, WriteFaultFile, UartFault, NoMemory, length_text, status_of, ticks_text}
 use Rattle.file_commands.specs.Inputs.{first_beyond, inputs_for, inputs_with, no_inputs, unless_beyond}
@@ -33,11 +34,12 @@ use Rattle.xm_commands.specs.Separation.{AreShownAlone, CommandAlone, ContainerA
 use Rattle.xm_commands.specs.Top.{AreContents, IsCompleteStatus, IsNotWritten}
 use Rattle.file_commands.specs.Work.{Does, Outside, IsCarriedOut, IsUnsaved, IsUnwritten, ReadsFiles, Works, called_for, did, reported_all, wrote, wrote_all}
 use Rattle.file_commands.specs.declared.status.Status.TheVariants.{WriteFault}
-use Rattle.run_commands.specs.ContentLemmas.{are_whole}
+use Rattle.run_commands.specs.lemmas.ContentLemmas.{are_whole}
 use Rattle.run_commands.specs.Contents.{read_all}
-use Rattle.run_commands.specs.Numbers.{CommandReceives, HasScripts, WordsReceive, ReceivesOf}
-use Rattle.run_commands.specs.CoreLemmas.{cores_inside}
-use Rattle.file_commands.specs.OutputLemmas.{called_for-is}
+use Rattle.run_commands.specs.lemmas.NumbersTerms.{CommandReceives, WordsReceive}
+use Rattle.run_commands.specs.Numbers.{HasScripts, ReceivesOf}
+use Rattle.run_commands.specs.lemmas.CoreLemmas.{cores_inside}
+use Rattle.file_commands.specs.lemmas.OutputLemmas.{called_for-is}
 use Rattle.xm_commands.proofs.NumberLemmas.{complete_made}
 use Rattle.xm_commands.proofs.TopLemmas.{IsSomeOf, done_is_finished, lost_first, lost_some, unheard_finished}
 use Rattle.xm_commands.proofs.WrittenLemmas.{did-got, wrote-from, wrote_all-from}

@@ -1,12 +1,12 @@
 -- How long the program's command may run.
 use Rattle.std.proofs.Common.{◌≡◌, ℕ, List, Some, sym}
 use Rattle.command_line.specs.Words.{Bare, Run, command_of}
-use Rattle.command_line.specs.RunLemmas.{span_within}
+use Rattle.command_line.specs.lemmas.RunLemmas.{span_within}
 use Rattle.command_line.specs.Grammar.{CommandsAreSpelled}
 use Rattle.command_line.specs.Seen.{command_seen, seen_options}
 use Rattle.command_line.specs.declared.commands.Command as code
 use Rattle.command_line.specs.declared.commands.Command.TheVariants as variant
-use Rattle.xm_commands.specs.Ticks.{HasTicks}
+use Rattle.xm_commands.specs.lemmas.Ticks.{HasTicks}
 
 -- the ticks of the program's command are at most the limit
 pub has_ticks : (command : code.Command) (words : List (List ℕ)) → CommandsAreSpelled → command_seen (Some command) ≡ command_of words → HasTicks command

@@ -2,7 +2,8 @@
 use Rattle.std.proofs.Common.{◌≡◌, ◌≢◌, ℕ, suc, ◌+◌, ◌↔◌, inl, inr, ⊎_elim, List, [], ◌∷◌, ◌++◌, length, Option, Some, None, IsSome, Result, Ok, Err, refl, sym, ap, ◌∙◌, subst, arith, length-append}
 use Rattle.xm_outside.specs.Causes.{HasCause, Rose}
 use Rattle.xm_outside.specs.Files.{Files, IsAbsent, OthersStay}
-use Rattle.xm_outside.specs.Growth.{grown, grown-nothing, GrewByPrefix, Writes}
+use Rattle.xm_outside.specs.Growth.{grown, GrewByPrefix, Writes}
+use Rattle.xm_outside.specs.lemmas.GrowthLemmas.{grown-nothing}
 use Rattle.command_line.specs.Words.{Command, command_of}
 use Rattle.xm_commands.specs.Answer.{Answer, answer, ending_answer, command_answer, answer_to_read, ending_by, files_saved, saved_all}
 use Rattle.run_commands.specs.Contents.{read_all}
@@ -11,7 +12,7 @@ use Rattle.file_commands.specs.Denial.{Denial}
 use Rattle.file_commands.specs.Outcome.{Output, Outcome, inputs_of, outcome_of, output_of}
 use Rattle.xm_commands.specs.Top.{Answers, AreContents, FilesStay, HasCalls, HasCauses, HasNoFault, IsFaultless, IsNotWritten, IsLostAfter, IsQuiet, IsReadCause, IsRefusal, IsSaid, IsWriteCause, OtherFilesStay, writes_of}
 use Rattle.file_commands.specs.Work.{counted_by, Outside, Does, IsCarriedOut, IsLostOf, IsMisuse, IsUnread, ReadsFiles, Works, after_store_call, called_for, did, file_in, reported_all, wrote, wrote_all}
-use Rattle.file_commands.specs.OutputLemmas.{called_for-is, output-named}
+use Rattle.file_commands.specs.lemmas.OutputLemmas.{called_for-is, output-named}
 use Rattle.xm_commands.proofs.OutsideLemmas.{counted-counted_by, outcome-denied, read_all-absent, known_outcome, wrote-got}
 use Rattle.xm_commands.proofs.WrittenLemmas.{did-faults, did-files, did-got, did-read_faults, did-write_faults, did_calls, did_stays, files_same, lost_count, lost_rose, lost_stays, never_lost, reported_calls, reported_stays, wrote-from, wrote_all-from, wrote_all-got}
 use Rattle.xm_commands.specs.World.{World, sink_view}

@@ -11,7 +11,7 @@ use Rattle.file_commands.specs.Outcome.{Output, Outcome, inputs_of, later_of, na
 use Rattle.xm_commands.specs.Top.{FilesStay, HasCalls, IsNoneOf, StayWhere, writes_of}
 use Rattle.file_commands.specs.Work.{counted_by, Outside, IsLostOf, IsNotSaved, did, file_in, reported_all, wrote, wrote_all}
 use Rattle.xm_commands.proofs.OutsideLemmas.{counted-counted_by, others_stored, wrote-faults, wrote-files, wrote-got, wrote-read_faults, wrote-write_faults}
-use Rattle.file_commands.specs.LaterLemmas.{output_names, AreNamed, named_few, later-named, first-named}
+use Rattle.file_commands.specs.lemmas.LaterLemmas.{output_names, AreNamed, named_few, later-named, first-named}
 
 -- Files that are written one after another.
 

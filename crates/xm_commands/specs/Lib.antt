@@ -5,9 +5,8 @@ pub mod Complete
 pub mod Ended
 pub mod Page
 pub mod Played
-pub mod Replaying
 pub mod RunThenAlone
 pub mod Separation
-pub mod Ticks
 pub mod Top
 pub mod World
+pub mod lemmas

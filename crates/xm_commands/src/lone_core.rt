@@ -4,9 +4,10 @@ ghost use Rattle.std.specs.Prelude.{ℕ, ◌≡◌, List, IfOk, Option, length, 
 ghost use Rattle.core_files.specs.Length.{core_length_of};
 ghost use Rattle.recording_model.specs.Lone.{own_view};
 ghost use Rattle.file_commands.specs.Outcome.{name_if_any};
-ghost use Rattle.xm_commands.specs.Replaying.{HasCoreRoom, lone_output};
+ghost use Rattle.xm_commands.specs.lemmas.Replaying.{HasCoreRoom, lone_output};
 ghost use Rattle.file_commands.specs.EndingValues.{AreSaved};
-ghost use Rattle.file_commands.specs.Work.{Saves, outside};
+ghost use Rattle.file_commands.specs.lemmas.WorkTerms.{Saves};
+ghost use Rattle.file_commands.specs.Work.{outside};
 
 use file_commands::Ending;
 use std::alloc::Global;

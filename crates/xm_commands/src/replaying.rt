@@ -12,9 +12,10 @@ ghost use Rattle.recording_model.specs.Replayed.{replay_lines};
 ghost use Rattle.xm_alone.specs.Replay.{IsReplay};
 ghost use Rattle.recording_model.specs.Lone.{booted_alone, own_view};
 ghost use Rattle.xm_machine.specs.Outcome.{HasWriteCause};
-ghost use Rattle.xm_commands.specs.Replaying.{HasCoreRoom, ready_of, unready_ending};
+ghost use Rattle.xm_commands.specs.lemmas.Replaying.{HasCoreRoom, ready_of, unready_ending};
 ghost use Rattle.file_commands.specs.EndingValues.{vector_bytes, ending_of};
-ghost use Rattle.file_commands.specs.Work.{Comes, outside};
+ghost use Rattle.file_commands.specs.lemmas.WorkTerms.{Comes};
+ghost use Rattle.file_commands.specs.Work.{outside};
 ghost use Rattle.command_line.specs.Seen.{seen_further};
 ghost use Rattle.command_line.specs.Words.{Replay as ReplayPart, replay_input};
 

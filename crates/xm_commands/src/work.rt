@@ -3,9 +3,10 @@
 ghost use Rattle.std.specs.Prelude.{Some};
 ghost use Rattle.run_commands.specs.Accounts.{HasAccount};
 ghost use Rattle.file_commands.specs.EndingValues.{ending_of};
-ghost use Rattle.xm_commands.specs.Ticks.{HasTicks};
+ghost use Rattle.xm_commands.specs.lemmas.Ticks.{HasTicks};
 ghost use Rattle.file_commands.specs.Work.{outside};
-ghost use Rattle.run_commands.specs.Numbers.{HasScripts, WordsReceive};
+ghost use Rattle.run_commands.specs.Numbers.{HasScripts};
+ghost use Rattle.run_commands.specs.lemmas.NumbersTerms.{WordsReceive};
 ghost use Rattle.command_line.specs.Seen.{command_seen};
 ghost use Rattle.command_line.specs.Words.{command_of};
 

@@ -9,7 +9,7 @@ use Rattle.xm_conf.specs.Configuration.{Part, Plan, Conf}
 use Rattle.xm_conf.specs.Description.{event_numbered, answer_of, monitor_of, plan_ids, ids_of}
 use Rattle.xm_conf.specs.Health.{event_row, is_allowed}
 use Rattle.xm_conf.specs.Rules as rules
-use Rattle.xm_conf.specs.Walks.{action_broken, part_monitor}
+use Rattle.xm_conf.specs.lemmas.Walks.{action_broken, part_monitor}
 use Rattle.xm_conf.specs.declared.health.Action.{Action}
 use Rattle.xm_conf.specs.declared.item.Item.TheVariants as item
 use Rattle.xm_conf.specs.declared.item.Item.{Item}

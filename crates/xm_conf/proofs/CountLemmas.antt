@@ -4,13 +4,14 @@ use Rattle.std.specs.Prelude.{All, IfNone}
 use Rattle.xm_conf.specs.Along.{head_of}
 use Rattle.xm_conf.specs.Configuration.{Conf}
 use Rattle.xm_conf.specs.Rules as rules
-use Rattle.xm_conf.specs.Fits.{HasCounts, HasFewDests, HasFewEnds, IsKind, IsChan}
+use Rattle.xm_conf.specs.lemmas.FitsTerms.{HasCounts, HasFewEnds}
+use Rattle.xm_conf.specs.Fits.{HasFewDests, IsKind, IsChan}
 use Rattle.xm_conf.specs.Limits.{most_parts, most_dests}
 use Rattle.xm_conf.specs.declared.item.Broken.{Broken}
 use Rattle.xm_conf.specs.declared.channel.ChanKind.{ChanKind}
 use Rattle.xm_conf.specs.declared.channel.ChanKind.TheVariants as chan_kind
 use Rattle.xm_conf.specs.declared.channel.End.{End}
-use Rattle.xm_conf.specs.FitLemmas.{counts_within}
+use Rattle.xm_conf.specs.lemmas.FitLemmas.{counts_within}
 use Rattle.xm_conf.proofs.RuleLaws.{none-first, says-rule_1, says-rule_15}
 
 -- where the rule on counts is not broken, the counts hold

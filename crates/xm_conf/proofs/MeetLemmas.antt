@@ -6,7 +6,7 @@ use Rattle.xm_base.specs.Options.{on}
 use Rattle.xm_conf.specs.Along.{head_of, added_by_each, each_from, along, along_from}
 use Rattle.xm_conf.specs.Configuration.{Conf, Part, Chan}
 use Rattle.xm_conf.specs.Rules.{items_where, item_if, meets, overlaps, same_end, stretch, area_stretch, part_stretches, whole_stretch, stretches, hypervisor, dest_item, chan_ends, rule_9, rule_18}
-use Rattle.xm_conf.specs.Walks.{area_hits, part_hits, whole_hits, chan_hits, source_hits, dest_hits, area_meets, part_meets, dest_meets, before_dests, chan_meets}
+use Rattle.xm_conf.specs.lemmas.Walks.{area_hits, part_hits, whole_hits, chan_hits, source_hits, dest_hits, area_meets, part_meets, dest_meets, before_dests, chan_meets}
 use Rattle.xm_conf.specs.declared.part.Area.{Area}
 use Rattle.xm_conf.specs.declared.channel.End.{End}
 use Rattle.xm_conf.specs.declared.raw.Region.{Region}

@@ -3,7 +3,7 @@ use Rattle.std.proofs.Common.{◌≡◌, ℕ, ◌+◌, ◌-◌, ◌<◌, ◌≤�
 use Rattle.std.proofs.lemmas.Bool.Decides.{nat_tests}
 use Rattle.std.proofs.lemmas.List.{at_drop_all}
 use Rattle.std.proofs.lemmas.List.Sums.{sum_by-drop_more}
-use Rattle.xm_conf.specs.Room.{room_after}
+use Rattle.xm_conf.specs.lemmas.Room.{room_after}
 
 -- what two take one after the other
 pub room_after-add : (room a b left : ℕ) → Some left ≡ room_after room a → room_after room (a + b) ≡ room_after left b

@@ -5,7 +5,7 @@ use Rattle.xm_conf.specs.Along.{head_of}
 use Rattle.xm_conf.specs.Configuration.{Conf}
 use Rattle.xm_conf.specs.Description.{described, monitor_of}
 use Rattle.xm_conf.specs.Rules.{rule_1, rule_3, memory_rules, plan_rules, chan_rules, rule_19, rule_20, link_rules, all_broken, first_broken}
-use Rattle.xm_conf.specs.Walks.{walk_broken}
+use Rattle.xm_conf.specs.lemmas.Walks.{walk_broken}
 use Rattle.xm_conf.proofs.AnswerLemmas.{rule_2-ids_of}
 
 -- the first of what breaks a rule is the first rule that is broken

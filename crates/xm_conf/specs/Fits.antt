@@ -45,10 +45,6 @@ pub record HasCountsWithin (most : ℕ) (conf : Conf) : Type 0 where
   pub dests : All (λ chan. HasFewDests chan.kind chan.dests) conf.chans
   pub links : length conf.links ≤ most_links
 
--- the same, of any configuration
-abbrev pub HasCounts : Conf → Type 0
-HasCounts conf = HasCountsWithin most_parts conf
-
 -- each id is its place
 abbrev pub InOrder : List ℕ → Type 0
 InOrder ids = (n : ℕ) (d : ℕ) → n < length ids → slice_index_or ids n d ≡ n
@@ -119,11 +115,6 @@ pub record IsChan (chan : Chan) : Type 0 where
   pub some : 0 < chan.length
   pub most : chan.length ≤ 4096
   pub kind : IsKind chan.kind chan.dests
-
--- there are few channels, and few destinations of each, so that a byte has the number of an end
-pub record HasFewEnds (conf : Conf) : Type 0 where
-  pub chans : length conf.chans ≤ 64
-  pub dests : All (λ chan. length chan.dests ≤ most_dests) conf.chans
 
 -- rule 16: each end of a channel is a port of a partition
 pub record HasPorts (parts : List Part) (chan : Chan) : Type 0 where

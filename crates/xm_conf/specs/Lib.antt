@@ -1,16 +1,12 @@
 pub mod Along
-pub mod AlongLemmas
 pub mod Configuration
 pub mod Description
-pub mod FitLemmas
 pub mod Fits
 pub mod Health
 pub mod Laws
 pub mod Limits
 pub mod Name
 pub mod NameKept
-pub mod NameLemmas
-pub mod Room
 pub mod Rules
 pub mod View
-pub mod Walks
+pub mod lemmas

@@ -54,7 +54,7 @@ impl Conf {
     }
 
     /// The same, where it may have no more than this many partitions.
-    #[tactic(auto, using(crate::proofs::RuleLaws::first_broken_none, crate::specs::FitLemmas::fits_within))]
+    #[tactic(auto, using(crate::proofs::RuleLaws::first_broken_none, crate::specs::lemmas::FitLemmas::fits_within))]
     pub fn within(most: u8, raw: RawConf) -> Result<Conf, Broken>
         requires { most ≤ most_parts }
         ensures value { IfOk result (λ conf. conf ≡ raw) }

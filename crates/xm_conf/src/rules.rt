@@ -3,10 +3,10 @@
 ghost use Rattle.std.specs.Prelude.{◌≡◌, ◌≤◌};
 ghost use Rattle.xm_conf.specs.Along.{head_of};
 ghost use Rattle.xm_conf.specs.Description.{described};
-ghost use Rattle.xm_conf.specs.Fits.{HasCounts};
+ghost use Rattle.xm_conf.specs.lemmas.FitsTerms.{HasCounts};
 ghost use Rattle.xm_conf.specs.Limits.{most_parts};
 ghost use Rattle.xm_conf.specs.Rules as specs;
-ghost use Rattle.xm_conf.specs.Walks.{walk_broken};
+ghost use Rattle.xm_conf.specs.lemmas.Walks.{walk_broken};
 
 mod areas;
 mod broken;
@@ -35,7 +35,7 @@ use plans::{rule_11, rule_12, rule_13};
 use stretches::rule_9;
 
 /// The first item that breaks a rule on memory.
-#[tactic(auto, using(crate::specs::AlongLemmas::in_turn), unfolding(crate::specs::Rules::memory_rules))]
+#[tactic(auto, using(crate::specs::lemmas::AlongLemmas::in_turn), unfolding(crate::specs::Rules::memory_rules))]
 fn memory_broken(raw: &RawConf) -> Option<Broken>
     requires { HasCounts raw.now }
     ensures { result ≡ head_of (specs.memory_rules raw.now) }
@@ -60,7 +60,7 @@ fn memory_broken(raw: &RawConf) -> Option<Broken>
 }
 
 /// The first item that breaks a rule on plans and consoles.
-#[tactic(auto, using(crate::specs::AlongLemmas::in_turn), unfolding(crate::specs::Rules::plan_rules))]
+#[tactic(auto, using(crate::specs::lemmas::AlongLemmas::in_turn), unfolding(crate::specs::Rules::plan_rules))]
 fn plans_broken(raw: &RawConf) -> Option<Broken>
     requires { HasCounts raw.now }
     ensures { result ≡ head_of (specs.plan_rules raw.now) }
@@ -81,7 +81,7 @@ fn plans_broken(raw: &RawConf) -> Option<Broken>
 }
 
 /// The first item that breaks a rule on channels.
-#[tactic(auto, using(crate::specs::AlongLemmas::in_turn), unfolding(crate::specs::Rules::chan_rules))]
+#[tactic(auto, using(crate::specs::lemmas::AlongLemmas::in_turn), unfolding(crate::specs::Rules::chan_rules))]
 fn channels_broken(raw: &RawConf) -> Option<Broken>
     requires { HasCounts raw.now }
     ensures { result ≡ head_of (specs.chan_rules raw.now) }
@@ -102,7 +102,7 @@ fn channels_broken(raw: &RawConf) -> Option<Broken>
 }
 
 /// The first rule that is broken, in the order of the rules, where this many partitions are the most.
-#[tactic(auto, using(crate::specs::AlongLemmas::in_turn), unfolding(crate::specs::Walks::walk_broken))]
+#[tactic(auto, using(crate::specs::lemmas::AlongLemmas::in_turn), unfolding(crate::specs::lemmas::Walks::walk_broken))]
 fn walk(most: u8, raw: &RawConf) -> Option<Broken>
     requires { most ≤ most_parts }
     ensures { result ≡ head_of (walk_broken most raw.now) }

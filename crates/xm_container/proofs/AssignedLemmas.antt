@@ -4,9 +4,10 @@ use Rattle.std.specs.Prelude.{All}
 use Rattle.xm_conf.specs.Configuration.{Conf}
 use Rattle.xef_images.specs.Image.{Image}
 use Rattle.loaded_system.specs.Inside.{first_outside}
-use Rattle.loaded_system.specs.InsideLemmas.{none_if_inside}
+use Rattle.loaded_system.specs.lemmas.InsideLemmas.{none_if_inside}
 use Rattle.loaded_system.specs.System.{System, AreInside}
-use Rattle.xm_container.specs.Entries.{Entries, AreEntries}
+use Rattle.xm_container.specs.Entries.{Entries}
+use Rattle.xm_container.specs.lemmas.EntriesTerms.{AreEntries}
 use Rattle.xm_container.proofs.NumberLemmas.{all_counted}
 use Rattle.xm_container.specs.Numbers.{extra, missing}
 use Rattle.xm_container.specs.Reading.{assigned}

@@ -10,28 +10,29 @@ use Rattle.md5.proofs.StandardFacts.{length-md5}
 use Rattle.xm_base.specs.Cursor.{Place, ahead, left, past, cursor_start}
 use Rattle.xm_conf.specs.Description.{described}
 use Rattle.xm_conf.specs.Laws.{IsBrokenUnlessFits}
-use Rattle.bin_config.specs.RangeLemmas.{spelled_if_fits}
+use Rattle.bin_config.specs.lemmas.RangeLemmas.{spelled_if_fits}
 use Rattle.bin_config.specs.Reading.{read_as}
 use Rattle.bin_config.specs.Version.{version_number}
 use Rattle.xm_conf.specs.Limits.{most_parts}
 use Rattle.bin_config.specs.declared.version.Version.{Version}
 use Rattle.bin_config.specs.Xmc.{xmc}
-use Rattle.bin_config.specs.XmcLemmas.{one_is_short, spelled_read, xmc_short, numbered_back, number_small}
+use Rattle.bin_config.specs.lemmas.XmcLemmas.{one_is_short, spelled_read, xmc_short, numbered_back, number_small}
 use Rattle.bin_config.specs.declared.version.Version.TheVariants.{One, Two}
-use Rattle.file_headers.specs.FieldLemmas.{wide8, wide32}
+use Rattle.file_headers.specs.lemmas.FieldLemmas.{wide8, wide32}
 use Rattle.xef_images.specs.Image.{Image, IsImage}
-use Rattle.xef_images.specs.ImageLemmas.{Decides-nat_le}
+use Rattle.xef_images.specs.lemmas.ImageLemmas.{Decides-nat_le}
 use Rattle.xef_images.specs.Reading.{xef}
 use Rattle.xef_images.specs.Spelling.{xef_text}
-use Rattle.xef_images.specs.XefLemmas.{length-xef_text, xef_again}
+use Rattle.xef_images.specs.lemmas.XefLemmas.{length-xef_text, xef_again}
 use Rattle.loaded_system.specs.Inside.{first_outside}
-use Rattle.loaded_system.specs.InsideLemmas.{none_if_inside}
+use Rattle.loaded_system.specs.lemmas.InsideLemmas.{none_if_inside}
 use Rattle.loaded_system.specs.System.{System, IsSystem}
 use Rattle.file_headers.specs.Fields.{field_bytes, number_at}
-use Rattle.file_headers.specs.HeadLemmas.{IsSealed, stated_again, stated_version_again, unsealed_again}
-use Rattle.file_headers.specs.Heads.{is_version, lead_text, stated_length}
+use Rattle.file_headers.specs.lemmas.HeadLemmas.{IsSealed, stated_again, stated_version_again, unsealed_again}
+use Rattle.file_headers.specs.Heads.{is_version, stated_length}
+use Rattle.file_headers.specs.lemmas.HeadsTerms.{lead_text}
 use Rattle.xm_container.specs.Box.{sized_text, image_entry_text, entries_text, fields_text, front_text, sealed_text, box_text}
-use Rattle.file_headers.specs.FieldLemmas.{Reads, bytes_again, number_again, listed_again}
+use Rattle.file_headers.specs.lemmas.FieldLemmas.{Reads, bytes_again, number_again, listed_again}
 use Rattle.xm_container.specs.Laws.{ContainersArePrefixFree, PackedIsUnpacked, VersionsAreAlike}
 use Rattle.xm_container.proofs.NumberLemmas.{numbers}
 use Rattle.xm_container.specs.Numbers.{least_where, has_id, extra, missing}

@@ -19,8 +19,8 @@ use Rattle.file_headers.specs.Fields.{number_at, field_bytes}
 use Rattle.file_headers.specs.Gives.{Gives}
 use Rattle.file_headers.specs.Heads.{ReportsDigests, unsealed, stated_version}
 use Rattle.file_headers.specs.Steps.{unless, ◌>>=◌}
-use Rattle.file_headers.specs.DigestLemmas.{IsPlain, fields_report, plain_bytes, plain_cond, plain_fault, plain_number, plain_then, value_is_none, plain_stated_version}
-use Rattle.file_headers.specs.Faults.{AreApart}
+use Rattle.file_headers.specs.lemmas.DigestLemmas.{IsPlain, fields_report, plain_bytes, plain_cond, plain_fault, plain_number, plain_then, value_is_none, plain_stated_version}
+use Rattle.file_headers.specs.lemmas.FaultsTerms.{AreApart}
 use Rattle.xm_container.specs.Entries.{Entries}
 use Rattle.xm_container.specs.Gives.{Fails}
 use Rattle.xm_container.specs.Numbers.{extra, missing}

@@ -3,13 +3,14 @@ use Rattle.std.proofs.Common.{◌≡◌, ℕ, zero, suc, ◌-◌, ◌+◌, ◌�
 use Rattle.std.specs.Prelude.{nat_le}
 use Rattle.std.specs.Int.{w8}
 use Rattle.std.proofs.lemmas.List.{append-nil}
-use Rattle.xef_images.specs.ImageLemmas.{Decides-nat_le}
+use Rattle.xef_images.specs.lemmas.ImageLemmas.{Decides-nat_le}
 use Rattle.xm_base.specs.Cursor.{Place}
 use Rattle.xef_images.specs.Image.{Image}
 use Rattle.file_headers.specs.Steps.{◌>>=◌, unless}
-use Rattle.file_headers.specs.StepLemmas.{stepped, ok_is, passed}
+use Rattle.file_headers.specs.lemmas.StepLemmas.{stepped, ok_is, passed}
 use Rattle.file_headers.specs.Fields.{number_at}
-use Rattle.xm_container.specs.Entries.{Entries, RiseFrom}
+use Rattle.xm_container.specs.Entries.{Entries}
+use Rattle.xm_container.specs.lemmas.EntriesTerms.{RiseFrom}
 use Rattle.xm_container.specs.Gives.{Fails}
 use Rattle.xm_container.specs.Reading.{id_at, image_at, image_entry_at, image_entries_at, with_entry, box_field, box_short}
 use Rattle.xm_container.specs.declared.image.Image.{Image as Given}

@@ -7,10 +7,10 @@ use Rattle.std.proofs.lemmas.Option.{get_or_from_slice_get, slice_get_within}
 use Rattle.xef_images.specs.Image.{Image}
 use Rattle.md5.specs.Md5.{md5}
 use Rattle.xef_images.specs.Spelling.{before_text, xef_text}
-use Rattle.xef_images.specs.XefLemmas.{digest_at_end}
-use Rattle.file_headers.specs.StepLemmas.{stepped}
+use Rattle.xef_images.specs.lemmas.XefLemmas.{digest_at_end}
+use Rattle.file_headers.specs.lemmas.StepLemmas.{stepped}
 use Rattle.loaded_system.specs.System.{System}
-use Rattle.file_headers.specs.HeadLemmas.{unsealed_takes}
+use Rattle.file_headers.specs.lemmas.HeadLemmas.{unsealed_takes}
 use Rattle.file_headers.specs.Heads.{unsealed}
 use Rattle.xm_container.specs.Reading.{system_in, unpacked, box_faults}
 use Rattle.xm_container.specs.Texts.{file_line, image_line, image_lines}

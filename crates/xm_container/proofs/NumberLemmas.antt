@@ -6,7 +6,7 @@ use Rattle.std.specs.List.{list_any}
 use Rattle.std.proofs.lemmas.Bool.Decides.{Decides-eqb, nat_tests}
 use Rattle.std.proofs.lemmas.List.Elements.{All-from_get_or, All-head, All-tail}
 use Rattle.std.proofs.lemmas.List.Folds.{list_any_at}
-use Rattle.xm_container.specs.Entries.{RiseFrom}
+use Rattle.xm_container.specs.lemmas.EntriesTerms.{RiseFrom}
 use Rattle.xm_container.specs.Numbers.{least_where, has_id, extra, missing}
 
 -- numbers that differ

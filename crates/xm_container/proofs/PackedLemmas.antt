@@ -9,9 +9,9 @@ use Rattle.bin_config.specs.Spelled.{HasConfRanges}
 use Rattle.bin_config.specs.Version.{FitsVersion}
 use Rattle.bin_config.specs.declared.version.Version.TheVariants.{Two}
 use Rattle.xef_images.specs.Image.{IsImage}
-use Rattle.xef_images.specs.ImageLemmas.{Decides-nat_le}
+use Rattle.xef_images.specs.lemmas.ImageLemmas.{Decides-nat_le}
 use Rattle.loaded_system.specs.Inside.{first_outside}
-use Rattle.loaded_system.specs.InsideLemmas.{inside_if_none}
+use Rattle.loaded_system.specs.lemmas.InsideLemmas.{inside_if_none}
 use Rattle.loaded_system.specs.System.{IsSystem}
 use Rattle.xm_container.specs.Box.{box_length, box_text, fields_text, sealed_text}
 use Rattle.xm_container.proofs.BoxLemmas.{length-sealed}

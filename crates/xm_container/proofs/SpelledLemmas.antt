@@ -11,37 +11,39 @@ use Rattle.xm_base.specs.Cursor.{Place, ahead, left, past, cursor_start}
 use Rattle.xm_conf.specs.Configuration.{Conf}
 use Rattle.xm_conf.specs.Description.{described}
 use Rattle.xm_conf.specs.Fits.{Fits}
-use Rattle.xm_conf.specs.FitLemmas.{fits_within}
+use Rattle.xm_conf.specs.lemmas.FitLemmas.{fits_within}
 use Rattle.xm_conf.specs.Limits.{most_parts}
 use Rattle.xm_conf.specs.Laws.{IsBrokenUnlessFits}
-use Rattle.bin_config.specs.RangeLemmas.{parts_few, ranges_if_spelled}
+use Rattle.bin_config.specs.lemmas.RangeLemmas.{parts_few, ranges_if_spelled}
 use Rattle.bin_config.specs.Reading.{read_as}
 use Rattle.bin_config.specs.Version.{FitsVersion, parts_in_version, version_number, version_numbered}
 use Rattle.bin_config.specs.declared.version.Version.{Version}
 use Rattle.bin_config.specs.Laws.{IsSpellingOf}
 use Rattle.bin_config.specs.Spelled.{HasConfRanges}
 use Rattle.bin_config.specs.Xmc.{xmc}
-use Rattle.bin_config.specs.XmcLemmas.{read_spelled, numbered_there}
+use Rattle.bin_config.specs.lemmas.XmcLemmas.{read_spelled, numbered_there}
 use Rattle.fault_messages.specs.declared.fault.XmcFault.{XmcFault}
-use Rattle.file_headers.specs.FieldLemmas.{AreBytes-drop, AreBytes-take, Takes, takes_both, wide8, wide32}
+use Rattle.file_headers.specs.lemmas.FieldLemmas.{AreBytes-drop, AreBytes-take, Takes, takes_both, wide8, wide32}
 use Rattle.xef_images.specs.Image.{Image, IsImage}
-use Rattle.xef_images.specs.ImageLemmas.{Decides-nat_le}
+use Rattle.xef_images.specs.lemmas.ImageLemmas.{Decides-nat_le}
 use Rattle.xef_images.specs.Reading.{xef}
 use Rattle.xef_images.specs.Spelling.{xef_text}
-use Rattle.file_headers.specs.StepLemmas.{stepped, ok_is, passed}
+use Rattle.file_headers.specs.lemmas.StepLemmas.{stepped, ok_is, passed}
 use Rattle.file_headers.specs.Steps.{◌>>=◌, unless}
-use Rattle.xef_images.specs.XefLemmas.{xef_takes}
+use Rattle.xef_images.specs.lemmas.XefLemmas.{xef_takes}
 use Rattle.fault_messages.specs.declared.fault.XefFault.{XefFault}
 use Rattle.loaded_system.specs.Inside.{first_outside}
-use Rattle.loaded_system.specs.InsideLemmas.{inside_if_none}
+use Rattle.loaded_system.specs.lemmas.InsideLemmas.{inside_if_none}
 use Rattle.loaded_system.specs.System.{System, IsSystem}
 use Rattle.file_headers.specs.Fields.{field_bytes, listed_at, number_at}
-use Rattle.file_headers.specs.HeadLemmas.{stated_takes, stated_version_again, unsealed_takes}
-use Rattle.file_headers.specs.Heads.{is_version, lead_text, stated_version, unsealed}
+use Rattle.file_headers.specs.lemmas.HeadLemmas.{stated_takes, stated_version_again, unsealed_takes}
+use Rattle.file_headers.specs.Heads.{is_version, stated_version, unsealed}
+use Rattle.file_headers.specs.lemmas.HeadsTerms.{lead_text}
 use Rattle.xm_container.specs.Box.{sized_text, image_entry_text, entries_text, fields_text, front_text, sealed_text, box_text}
 use Rattle.xm_container.proofs.BoxLemmas.{byte_of}
-use Rattle.xm_container.specs.Entries.{Entries, RiseFrom}
-use Rattle.file_headers.specs.FieldLemmas.{bytes_take, number_takes, listed_takes}
+use Rattle.xm_container.specs.Entries.{Entries}
+use Rattle.xm_container.specs.lemmas.EntriesTerms.{RiseFrom}
+use Rattle.file_headers.specs.lemmas.FieldLemmas.{bytes_take, number_takes, listed_takes}
 use Rattle.xm_container.specs.Laws.{UnpackedIsPacked}
 use Rattle.xm_container.proofs.NumberLemmas.{numbers, all_below, all_counted, all_numbers}
 use Rattle.xm_container.specs.Numbers.{extra, missing}

@@ -7,3 +7,4 @@ pub mod Numbers
 pub mod Pack
 pub mod Reading
 pub mod Texts
+pub mod lemmas

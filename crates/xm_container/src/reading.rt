@@ -6,11 +6,12 @@ ghost use Rattle.bin_config.specs.declared.version.Version.{Version as AVersion}
 ghost use Rattle.xef_images.specs.Reading.{xef};
 ghost use Rattle.xm_base.specs.Cursor.{left};
 ghost use Rattle.loaded_system.specs.System.{System as Meaning};
-ghost use Rattle.file_headers.specs.Gives.{Gives, GivesAt, IsRead, IsReadAt};
+ghost use Rattle.file_headers.specs.Gives.{Gives, IsRead};
+ghost use Rattle.file_headers.specs.lemmas.GivesTerms.{GivesAt, IsReadAt};
 ghost use Rattle.file_headers.specs.Heads.{ReportsDigests, stated_version, unsealed};
 ghost use Rattle.xm_conf.specs.Limits.{most_parts};
 ghost use Rattle.xm_container.specs.Box.{IsSpelledContainer};
-ghost use Rattle.xm_container.specs.Entries.{AreEntries};
+ghost use Rattle.xm_container.specs.lemmas.EntriesTerms.{AreEntries};
 ghost use Rattle.xm_container.specs.Gives.{Fails};
 ghost use Rattle.xm_container.specs.Reading.{as_config, as_image, assigned, conf_at, config_fault, image_entries_at, image_entry_at, container_fields, id_at, image_at, image_fault, length_at, system_in, image_table_at, unpacked, version_in, box_faults};
 

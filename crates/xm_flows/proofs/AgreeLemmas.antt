@@ -5,8 +5,8 @@ use Rattle.std.proofs.lemmas.Option.{same_Some}
 use Rattle.std.specs.List.{list_any}
 use Rattle.xm_conf.specs.Configuration.{Chan}
 use Rattle.xm_conf.specs.View.{channel_of, has_end, is_port}
-use Rattle.machine_model.specs.ListLemmas.{get_table}
-use Rattle.machine_model.specs.NameLemmas.{of_name_below as name_within, name_named}
+use Rattle.machine_model.specs.lemmas.ListLemmas.{get_table}
+use Rattle.machine_model.specs.lemmas.NameLemmas.{of_name_below as name_within, name_named}
 use Rattle.machine_model.specs.Machine.{Machine, copies}
 use Rattle.machine_model.specs.Traffic.{content_if, copies_of}
 use Rattle.machine_model.specs.View.{name_of, named, part_of}

@@ -9,7 +9,7 @@ use Rattle.xm_conf.specs.Health.{event_row}
 use Rattle.xm_conf.specs.declared.health.Action.{Action}
 use Rattle.xm_conf.specs.declared.health.Action.TheVariants as action
 use Rattle.xm_conf.specs.declared.health.Event.{Event}
-use Rattle.machine_model.specs.TickLemmas.{step_halted, step_runs}
+use Rattle.machine_model.specs.lemmas.TickLemmas.{step_halted, step_runs}
 use Rattle.machine_model.specs.Facts.{KeepsNumbers}
 use Rattle.machine_model.specs.LocalTick.{bounded, local_tick, worked}
 use Rattle.machine_model.specs.Machine.{Machine, SlotTurn, act_of, after, clock_after, copies, happened, happened_by, local, local_in, local_of, next_clock, next_plan_clock, run, sight_of_state, start, step, taken_by, turn_of}
@@ -20,7 +20,8 @@ use Rattle.machine_model.specs.View.{PartitionView, System, no_part, part_of, vi
 use Rattle.xm_flows.proofs.ActLemmas.{does_reach}
 use Rattle.xm_flows.specs.Groups.{Members}
 use Rattle.xm_flows.specs.Laws.{NoneSteers}
-use Rattle.xm_flows.specs.Rights.{ActsByRight, IsByRight, IsUnsteered, MaySteer, reaches_all}
+use Rattle.xm_flows.specs.Rights.{ActsByRight, IsByRight, IsUnsteered, reaches_all}
+use Rattle.xm_flows.specs.lemmas.RightsTerms.{MaySteer}
 use Rattle.xm_flows.specs.Steering.{Steering, no_steering, steered_plan, steering, steering_in, steering_unless, to_member}
 
 -- an act that reaches others by channels alone

@@ -14,7 +14,8 @@ use Rattle.xm_conf.specs.declared.link.Link.{Link}
 use Rattle.xm_conf.specs.Limits.{most_parts}
 use Rattle.machine_model.specs.View.{no_part, part_of}
 use Rattle.xm_flows.specs.Groups.{HasItsPeers, HasNoSystem, IsClosed, IsGroupOf, KeepsLink, KeepsRule, KeepsIn, KeepsRules, Members, has_dest_in, is_in}
-use Rattle.xm_flows.specs.Masks.{AreAllLow, HasLowEnds, HasLowSource, IsClosureOf, has_no_system, members_of, widened, widened_all, widened_by, widened_by_link, widened_by_links, with_ends, with_member}
+use Rattle.xm_flows.specs.lemmas.MasksTerms.{AreAllLow, HasLowEnds, HasLowSource, IsClosureOf}
+use Rattle.xm_flows.specs.Masks.{has_no_system, members_of, widened, widened_all, widened_by, widened_by_link, widened_by_links, with_ends, with_member}
 use Rattle.xm_flows.proofs.MaskLemmas.{mask_grows, member_cases, member_kept, member_set, none_member}
 
 -- one set is part of another

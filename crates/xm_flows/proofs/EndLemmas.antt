@@ -14,8 +14,8 @@ use Rattle.xm_conf.specs.View.{channel_of, has_end, is_port}
 use Rattle.xm_conf.specs.declared.channel.End.{End}
 use Rattle.xm_conf.specs.declared.item.Item.{Item}
 use Rattle.xm_conf.specs.declared.item.Item.TheVariants as item
-use Rattle.machine_model.specs.EndLemmas.{end_is, found_from}
-use Rattle.machine_model.specs.NameLemmas.{same_number}
+use Rattle.machine_model.specs.lemmas.EndLemmas.{end_is, found_from}
+use Rattle.machine_model.specs.lemmas.NameLemmas.{same_number}
 use Rattle.machine_model.specs.Lists.{is_number}
 use Rattle.machine_model.specs.View.{name_from, name_of, part_of}
 

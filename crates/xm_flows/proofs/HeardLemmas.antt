@@ -15,8 +15,8 @@ use Rattle.xm_conf.specs.declared.channel.End.{End}
 use Rattle.xm_conf.specs.declared.port.Kind.TheVariants as kind
 use Rattle.xm_conf.specs.declared.port.Port.{Port}
 use Rattle.xm_conf.specs.declared.port.Way.TheVariants as way
-use Rattle.machine_model.specs.EndLemmas.{end_is, view_channel, view_port}
-use Rattle.machine_model.specs.NameLemmas.{name_is, named_is}
+use Rattle.machine_model.specs.lemmas.EndLemmas.{end_is, view_channel, view_port}
+use Rattle.machine_model.specs.lemmas.NameLemmas.{name_is, named_is}
 use Rattle.machine_model.specs.Emission as emission
 use Rattle.machine_model.specs.Emission.{Act, OwnPuts, OwnSignals, OwnStill, OwnTakes}
 use Rattle.machine_model.specs.Traffic.{heard_as, own_puts_at, own_takes_at, puts_at, takes_at, traffic_as, traffic_of}

@@ -11,7 +11,7 @@ use Rattle.xm_conf.specs.Description.{described}
 use Rattle.xm_conf.specs.Fits.{DifferLinks, Fits}
 use Rattle.xm_conf.specs.View.{is_link_of, link_of}
 use Rattle.xm_conf.specs.declared.link.Link.{Link}
-use Rattle.machine_model.specs.NameLemmas.{number_is}
+use Rattle.machine_model.specs.lemmas.NameLemmas.{number_is}
 use Rattle.machine_model.specs.Lists.{is_number}
 use Rattle.machine_model.specs.Emission.{OwnSignals, OwnStill}
 use Rattle.machine_model.specs.Traffic.{Signals, heard_as, own_signals_at}

@@ -8,7 +8,7 @@ use Rattle.xm_conf.specs.Description.{described}
 use Rattle.xm_conf.specs.Fits.{Fits}
 use Rattle.xm_conf.specs.View.{channel_of, has_end, is_port}
 use Rattle.xm_conf.specs.declared.channel.End.{End}
-use Rattle.machine_model.specs.EndLemmas.{end_is}
+use Rattle.machine_model.specs.lemmas.EndLemmas.{end_is}
 use Rattle.machine_model.specs.Lists.{is_number, then_some}
 use Rattle.machine_model.specs.Emission.{OwnPuts, OwnSignals, OwnStill, OwnTakes, OwnTraffic}
 use Rattle.machine_model.specs.Traffic.{heard_as, own_puts_at, own_takes_at, puts_at, takes_at, traffic_as}

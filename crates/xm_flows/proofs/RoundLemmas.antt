@@ -12,7 +12,8 @@ use Rattle.xm_conf.specs.declared.link.Link.{Link}
 use Rattle.xm_flows.specs.declared.answer.Group.{Group}
 use Rattle.xm_flows.specs.Groups.{KeepsRules, Members}
 use Rattle.xm_flows.specs.Laws.{RoundsFindGroups}
-use Rattle.xm_flows.specs.Masks.{AreAllLow, IsClosureOf, after_rounds, group_mask, group_of, members_of, widened_all, with_member}
+use Rattle.xm_flows.specs.lemmas.MasksTerms.{AreAllLow, IsClosureOf}
+use Rattle.xm_flows.specs.Masks.{after_rounds, group_mask, group_of, members_of, widened_all, with_member}
 use Rattle.xm_flows.proofs.ClosureLemmas.{IsPartOf, added, all_low, all_peers, all_widens, closed_is, group_within, is_group, low_part, plain_is}
 use Rattle.xm_flows.proofs.MaskLemmas.{none_member}
 

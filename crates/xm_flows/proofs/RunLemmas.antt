@@ -1,6 +1,6 @@
 -- Two runs that are steered alike go together for a closed set of partitions.
 use Rattle.std.proofs.Common.{◌≡◌, ℕ, zero, suc, ◌<◌, Bool, true, false, [], ◌∷◌, Some, refl, sym, ap, ◌∙◌, arith, subst}
-use Rattle.machine_model.specs.TickLemmas.{step_halted}
+use Rattle.machine_model.specs.lemmas.TickLemmas.{step_halted}
 use Rattle.machine_model.specs.Alone.{alone_lines, alone_said, alone_start}
 use Rattle.machine_model.specs.Cue.{cue, script, script_unless}
 use Rattle.machine_model.specs.Facts.{KeepsNumbers, RunsKeepNumbers}

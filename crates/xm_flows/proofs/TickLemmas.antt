@@ -11,7 +11,7 @@ use Rattle.xm_conf.specs.Configuration.{Conf}
 use Rattle.xm_conf.specs.Description.{described}
 use Rattle.xm_conf.specs.Fits.{Fits}
 use Rattle.xm_ports.specs.Channels.{Content}
-use Rattle.machine_model.specs.TickLemmas.{step_runs}
+use Rattle.machine_model.specs.lemmas.TickLemmas.{step_runs}
 use Rattle.machine_model.specs.Alone.{Alone, alone_step}
 use Rattle.machine_model.specs.Cue.{Cue, CueSlot, cue, cue_in, slot_of, unless_own}
 use Rattle.machine_model.specs.Laws.{OneTick, SeesNothing, part, alone_part_at}

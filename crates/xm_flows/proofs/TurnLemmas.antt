@@ -4,7 +4,7 @@ use Rattle.std.specs.Prelude.{slice_get, slice_index_or, ◌==◌, ◌-◌, ◌&
 use Rattle.std.proofs.lemmas.Bool.Decides.{nat_tests}
 use Rattle.std.proofs.lemmas.Option.{slice_get_past}
 use Rattle.cyclic_plans.specs.PlanClock.{here, moment, slot_at}
-use Rattle.cyclic_plans.specs.PlanLemmas.{plan_fits}
+use Rattle.cyclic_plans.specs.lemmas.PlanLemmas.{plan_fits}
 use Rattle.cyclic_plans.specs.Slots.{covers, frame_in, frame_of, here_in, slot_from, slots_in, slots_of}
 use Rattle.xm_base.specs.Options.{on}
 use Rattle.xm_conf.specs.Configuration.{Conf, Plan}

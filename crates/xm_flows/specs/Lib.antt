@@ -4,3 +4,4 @@ pub mod Steering
 pub mod Rights
 pub mod Laws
 pub mod Masks
+pub mod lemmas

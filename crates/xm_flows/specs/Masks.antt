@@ -1,6 +1,6 @@
 -- Sets of partitions as the bits of a word, and how the group of a partition is found: a round adds what the channels and links
 -- ask for, until one adds nothing.
-use Rattle.std.specs.Prelude.{◌≡◌, ℕ, zero, suc, ◌+◌, ◌*◌, ◌%◌, ◌^◌, ◌<◌, ◌==◌, ◌&&◌, ◌||◌, Bool, true, false, if◌then◌else◌, List, [], ◌∷◌, length, All, bit_or}
+use Rattle.std.specs.Prelude.{ℕ, zero, suc, ◌+◌, ◌*◌, ◌%◌, ◌^◌, ◌==◌, ◌&&◌, ◌||◌, Bool, true, false, if◌then◌else◌, List, [], ◌∷◌, length, bit_or}
 use Rattle.std.specs.Int.{bit_at}
 use Rattle.xm_conf.specs.Configuration.{Chan, Conf, Part}
 use Rattle.xm_conf.specs.declared.channel.ChanKind.{ChanKind}
@@ -8,7 +8,7 @@ use Rattle.xm_conf.specs.declared.channel.ChanKind.TheVariants as kind
 use Rattle.xm_conf.specs.declared.channel.End.{End}
 use Rattle.xm_conf.specs.declared.link.Link.{Link}
 use Rattle.xm_flows.specs.declared.answer.Group.{Group}
-use Rattle.xm_flows.specs.Groups.{KeepsRules, Members, has_dest_in, is_in}
+use Rattle.xm_flows.specs.Groups.{Members, has_dest_in, is_in}
 
 -- the partitions whose bits are set
 unfoldable pub members_of : ℕ → Members
@@ -51,26 +51,6 @@ widened_all chans joins mask = widened_by_links joins (widened chans mask)
 abbrev pub after_rounds : ℕ → List Chan → List Link → ℕ → ℕ
 after_rounds zero chans joins mask = mask
 after_rounds (suc count) chans joins mask = after_rounds count chans joins (widened_all chans joins mask)
-
--- the partitions of a channel's ends have bits in a word
-pub record HasLowEnds (chan : Chan) : Type 0 where
-  pub source : chan.source.part < 32
-  pub dests : All (λ end. end.part < 32) chan.dests
-
--- so does the partition that a link comes from
-pub record HasLowSource (link : Link) : Type 0 where
-  pub source : link.source < 32
-
--- all that channels and links add has bits in a word
-pub record AreAllLow (chans : List Chan) (joins : List Link) : Type 0 where
-  pub channels : All HasLowEnds chans
-  pub links : All HasLowSource joins
-
--- the mask has the partitions of another one, keeps the rules of channels and links, and is part of every set that does both
-pub record IsClosureOf (chans : List Chan) (joins : List Link) (before after : ℕ) : Type 0 where
-  pub has : (p : ℕ) → members_of before p ≡ true → members_of after p ≡ true
-  pub kept : KeepsRules (members_of after) chans joins
-  pub least : (other : Members) → KeepsRules other chans joins → ((p : ℕ) → members_of before p ≡ true → other p ≡ true) → (p : ℕ) → members_of after p ≡ true → other p ≡ true
 
 -- whether none of these partitions, of which the first has a number, is a system partition and in the mask
 abbrev pub has_no_system : ℕ → ℕ → List Part → Bool

@@ -4,7 +4,8 @@ ghost use Rattle.std.specs.Prelude.{◌≡◌, ◌↔◌, ◌<◌, ◌≤◌, �
 ghost use Rattle.xm_conf.specs.Description.{described};
 ghost use Rattle.xm_conf.specs.Fits.{Fits};
 ghost use Rattle.xm_flows.specs.Groups.{HasNoSystem, IsClosed, IsGroupOf};
-ghost use Rattle.xm_flows.specs.Masks.{HasLowEnds, HasLowSource, IsClosureOf, group_of, members_of, widened as widened_over, widened_all as widened_over_all, widened_by as widened_by_channel, widened_by_link as widened_by_its_link, widened_by_links as widened_over_links};
+ghost use Rattle.xm_flows.specs.lemmas.MasksTerms.{HasLowEnds, HasLowSource, IsClosureOf};
+ghost use Rattle.xm_flows.specs.Masks.{group_of, members_of, widened as widened_over, widened_all as widened_over_all, widened_by as widened_by_channel, widened_by_link as widened_by_its_link, widened_by_links as widened_over_links};
 
 use crate::answer::Group;
 use crate::mask::{has_dest, has_no_system, is_member, with_ends, with_member};

@@ -2,7 +2,7 @@
 use Rattle.std.proofs.Common.{◌≡◌, ℕ, ◌≤◌, ◌<◌, true, List, length, Option, refl, sym, ap, ◌∙◌, subst, arith}
 use Rattle.std.specs.Prelude.{Result, Ok, Err}
 use Rattle.xm_report.specs.declared.output.WriteFault.{WriteFault}
-use Rattle.machine_model.specs.TickLemmas.{step_halted}
+use Rattle.machine_model.specs.lemmas.TickLemmas.{step_halted}
 use Rattle.machine_model.specs.Laws as laws
 use Rattle.machine_model.specs.Laws.{AllTicks, BootsAlone, OwnLines, alone_part_at}
 use Rattle.machine_model.specs.Lines.{own, report}
@@ -11,7 +11,8 @@ use Rattle.machine_model.specs.View.{System}
 use Rattle.xm_machine.specs.Alone.{AreAlone, AreBootedAlone, IsBootedAlone, RunsEachAlone}
 use Rattle.uart_board.specs.Views.{BoardView}
 use Rattle.xm_machine.specs.Outcome.{IsRun, report_of}
-use Rattle.xm_machine.specs.Steps.{IsStep, IsStepCut}
+use Rattle.xm_machine.specs.lemmas.StepsTerms.{IsStep}
+use Rattle.xm_machine.specs.Steps.{IsStepCut}
 use Rattle.xm_machine.specs.declared.run.Ran.{Ran}
 
 -- ticks that were done

@@ -9,16 +9,18 @@ use Rattle.machine_model.specs.Facts.{KeepsNumbers, RunsKeepNumbers}
 use Rattle.machine_model.specs.Machine.{Machine, run, step}
 use Rattle.machine_model.specs.View.{System}
 use Rattle.system_state.specs.State.{SysState}
-use Rattle.xm_machine.specs.Cues.{AreCued, AreCuedUpTo, KeepsLastTick, KeepsUpTo, last_or, last_received}
-use Rattle.tick_steps.specs.Kept.{KeptTick, kept_after, kept_cue, kept_tick, kept_unless}
+use Rattle.xm_machine.specs.Cues.{AreCued, AreCuedUpTo, last_or, last_received}
+use Rattle.xm_machine.specs.lemmas.CuesTerms.{KeepsLastTick, KeepsUpTo}
+use Rattle.tick_steps.specs.Kept.{KeptTick, kept_cue, kept_tick}
+use Rattle.tick_steps.specs.lemmas.KeptTerms.{kept_after, kept_unless}
 use Rattle.xm_machine.specs.Machine.{Meaning}
 use Rattle.span_engine.specs.Spans.{IsSpanDone}
-use Rattle.xm_machine.specs.Stretch.{AreStepped, KeepsStepped, stepped_by}
+use Rattle.xm_machine.specs.lemmas.StretchTerms.{AreStepped, KeepsStepped, stepped_by}
 use Rattle.tick_steps.specs.declared.span.Span.{Span}
 use Rattle.xm_machine.specs.declared.stretch.Stepped.{Stepped}
 use Rattle.xm_machine.proofs.CueLemmas.{kept_cues}
 use Rattle.xm_machine.proofs.GoingLemmas.{state_on}
-use Rattle.tick_steps.specs.KeptLemmas.{ran_on, run_halted, ticks_exact}
+use Rattle.tick_steps.specs.lemmas.KeptLemmas.{ran_on, run_halted, ticks_exact}
 
 -- a machine that has halted keeps what was kept before
 kept_halted : (count : ℕ) (g : Machine) (before : KeptTick) → g.halted ≡ true → kept_after g count before ≡ before

@@ -2,7 +2,8 @@
 use Rattle.std.proofs.Common.{◌≡◌, ℕ, ◌+◌, ◌<◌, ◌≤◌, List, ◌++◌, length, take, Option, sym, ap, ◌∙◌, arith, length-append}
 use Rattle.std.proofs.Math.Seq.{take-append-add}
 use Rattle.std.proofs.lemmas.List.{take-append-le}
-use Rattle.xm_outside.specs.Growth.{grown, GrewByPrefix, grown_grown}
+use Rattle.xm_outside.specs.Growth.{grown, GrewByPrefix}
+use Rattle.xm_outside.specs.lemmas.GrowthLemmas.{grown_grown}
 
 -- what went out falls short of all the bytes
 pub short_of_all : (before bytes after all : List ℕ) (count : ℕ) → all ≡ before ++ bytes ++ after → count < length bytes → length before + count < length all

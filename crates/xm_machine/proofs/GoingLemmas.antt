@@ -3,22 +3,26 @@ use Rattle.std.proofs.Common.{◌≡◌, ⊎_elim, ℕ, zero, suc, ◌+◌, ◌-
 use Rattle.std.specs.Prelude.{IfOk, not}
 use Rattle.std.proofs.lemmas.Bool.{cases_lt}
 use Rattle.std.proofs.lemmas.List.{append-nil}
-use Rattle.xm_outside.specs.Growth.{grown, grown-nothing, grown_grown, GrewByPrefix}
-use Rattle.xm_report.specs.Report.{ReportLine, texts, texts-append}
+use Rattle.xm_outside.specs.Growth.{grown, GrewByPrefix}
+use Rattle.xm_outside.specs.lemmas.GrowthLemmas.{grown-nothing, grown_grown}
+use Rattle.xm_report.specs.Report.{ReportLine, texts}
+use Rattle.xm_report.specs.lemmas.ReportLemmas.{texts-append}
 use Rattle.xm_report.specs.declared.output.WriteFault.{WriteFault}
-use Rattle.machine_model.specs.TickLemmas.{step_halted}
+use Rattle.machine_model.specs.lemmas.TickLemmas.{step_halted}
 use Rattle.machine_model.specs.Lines.{lines, lines_unless, step_lines}
 use Rattle.machine_model.specs.Machine.{Machine, run, step}
 use Rattle.machine_model.specs.Structures.{flag}
 use Rattle.system_state.specs.State.{SysState}
-use Rattle.span_model.specs.RunLemmas.{lines_add, run_add}
+use Rattle.span_model.specs.lemmas.RunLemmas.{lines_add, run_add}
 use Rattle.xm_machine.proofs.FrontLemmas.{front_of_all}
-use Rattle.tick_steps.specs.KeptLemmas.{run_halted, ticks_exact, ticks_least}
+use Rattle.tick_steps.specs.lemmas.KeptLemmas.{run_halted, ticks_exact, ticks_least}
 use Rattle.xm_machine.specs.Outcome.{HasWriteCause, IsTick}
 use Rattle.span_engine.specs.Spans.{IsSpanDone}
 use Rattle.tick_steps.specs.Span.{console_lines, ends_so}
-use Rattle.xm_machine.specs.Steps.{AreCut, AreRun, IsStep, IsStepCut, Prints}
-use Rattle.xm_machine.specs.Stretch.{AreStepped, IsStretchCut, Steps, stepped_by}
+use Rattle.xm_machine.specs.Steps.{AreCut, IsStepCut}
+use Rattle.xm_machine.specs.lemmas.StepsTerms.{AreRun, IsStep, Prints}
+use Rattle.xm_machine.specs.lemmas.StretchTerms.{AreStepped, Steps, stepped_by}
+use Rattle.xm_machine.specs.Stretch.{IsStretchCut}
 use Rattle.tick_steps.specs.declared.span.Span.{Span}
 
 -- the lines of a run, and of more ticks

@@ -7,7 +7,8 @@ use Rattle.std.proofs.lemmas.Bool.Decides.{nat_tests}
 use Rattle.std.proofs.lemmas.Grind.{flat_map-append}
 use Rattle.std.proofs.lemmas.List.{append-nil}
 use Rattle.std.proofs.lemmas.Option.{same_Some}
-use Rattle.uart_board.specs.Heard.{IsHeard, IsHeardAt, heard_nothing, heard_then, said_to}
+use Rattle.uart_board.specs.Heard.{IsHeard, IsHeardAt, said_to}
+use Rattle.uart_board.specs.lemmas.HeardLemmas.{heard_nothing, heard_then}
 use Rattle.uart_board.specs.Views.{BoardView, mark_at, view_at}
 use Rattle.xm_base.specs.declared.partition.Order.{Order}
 use Rattle.xm_base.specs.declared.partition.Order.TheVariants as order
@@ -17,7 +18,7 @@ use Rattle.xm_conf.specs.Fits.{Fits}
 use Rattle.xm_report.specs.Report.{ConsoleLine, EndPart, EndWhole, HealthLine, MovedLine, PlanLine, ReportLine, SystemLine, TraceLine, WholeLine}
 use Rattle.system_state.specs.State.{SysState}
 use Rattle.replay_model.specs.Passes.{part_in}
-use Rattle.machine_model.specs.TickLemmas.{step_halted}
+use Rattle.machine_model.specs.lemmas.TickLemmas.{step_halted}
 use Rattle.machine_model.specs.Alone.{Alone, alone_lines_of, alone_local, alone_local_in, alone_step_lines, alone_step_said}
 use Rattle.machine_model.specs.Cue.{Away, Cue, Mine, CueSlot}
 use Rattle.machine_model.specs.Facts.{RunsKeepNumbers}
@@ -32,12 +33,13 @@ use Rattle.machine_model.specs.Emission.{Emission, line_of}
 use Rattle.machine_model.specs.View.{System, part_of, view_of}
 use Rattle.machine_model.specs.Whole.{AllHalted, AllReset, NoEvent, WholeEvent, event_lines, whole_lines}
 use Rattle.span_model.specs.Passes.{part_at}
-use Rattle.span_model.specs.RunLemmas.{console_add, run_add}
+use Rattle.span_model.specs.lemmas.RunLemmas.{console_add, run_add}
 use Rattle.xm_machine.proofs.GoingLemmas.{lines_halted, state_on}
-use Rattle.tick_steps.specs.KeptLemmas.{ticks_exact}
+use Rattle.tick_steps.specs.lemmas.KeptLemmas.{ticks_exact}
 use Rattle.tick_steps.specs.TickLines.{IsOtherLine}
 use Rattle.xm_machine.specs.AloneStep.{said_alone}
-use Rattle.xm_machine.specs.Heard.{IsRunHeard, console_to, line_to, lines_to}
+use Rattle.xm_machine.specs.Heard.{IsRunHeard}
+use Rattle.xm_machine.specs.lemmas.HeardTerms.{console_to, line_to, lines_to}
 use Rattle.span_engine.specs.Spans.{IsSpanDone}
 use Rattle.tick_steps.specs.Span.{console_lines}
 use Rattle.tick_steps.specs.declared.span.Span.{Span}

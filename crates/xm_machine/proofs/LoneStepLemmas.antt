@@ -17,10 +17,11 @@ use Rattle.replay_model.specs.Passes.{part_in}
 use Rattle.replay_model.specs.Step.{IsLone}
 use Rattle.replay_tick.specs.LoneWork.{IsLoneTick, IsLoneTicked}
 use Rattle.tick_steps.specs.Work.{console_emissions}
-use Rattle.xm_machine.specs.AloneStep.{HasStepCause, IsSaidAlone, IsPrintedAlone, StepsAlone, said_alone, printed_alone}
-use Rattle.xm_machine.specs.Heard.{lines_to}
+use Rattle.xm_machine.specs.AloneStep.{HasStepCause, IsSaidAlone, StepsAlone, said_alone}
+use Rattle.xm_machine.specs.lemmas.AloneStepTerms.{IsPrintedAlone, printed_alone}
+use Rattle.xm_machine.specs.lemmas.HeardTerms.{lines_to}
 use Rattle.xm_machine.specs.Outcome.{HasWriteCause}
-use Rattle.xm_machine.specs.Steps.{Prints}
+use Rattle.xm_machine.specs.lemmas.StepsTerms.{Prints}
 use Rattle.xm_machine.specs.declared.alone_span.AloneFault.{AloneFault}
 use Rattle.xm_machine.proofs.HeardLemmas.{alone_heard}
 

@@ -3,8 +3,10 @@ use Rattle.std.proofs.Common.{◌≡◌, ℕ, suc, ◌+◌, ◌<◌, List, [], �
 use Rattle.std.specs.Prelude.{All}
 use Rattle.std.proofs.lemmas.List.{append-nil, get_or-map, length-map}
 use Rattle.std.proofs.Math.Seq.{drop-cons}
-use Rattle.xm_outside.specs.Growth.{grown, grown_grown, prefix_first, prefix_second, GrewByPrefix}
-use Rattle.xm_report.specs.Report.{IsShort, ReportLine, line_value, text_of, texts, texts-append}
+use Rattle.xm_outside.specs.Growth.{grown, GrewByPrefix}
+use Rattle.xm_outside.specs.lemmas.GrowthLemmas.{grown_grown, prefix_first, prefix_second}
+use Rattle.xm_report.specs.Report.{IsShort, ReportLine, line_value, text_of, texts}
+use Rattle.xm_report.specs.lemmas.ReportLemmas.{texts-append}
 use Rattle.xm_report.specs.declared.line.Line.{Line}
 use Rattle.machine_model.specs.Lines.{end_line}
 use Rattle.machine_model.specs.Lists.{all_of}

@@ -4,25 +4,28 @@ use Rattle.std.proofs.Math.Nat.{min-eq_left, min-eq_right, min-le_left, min-le_r
 use Rattle.std.specs.Prelude.{min}
 use Rattle.std.proofs.lemmas.Bool.{cases_lt}
 use Rattle.cyclic_plans.specs.PlanClock.{ticks_left}
-use Rattle.xm_outside.specs.Growth.{grown, grown-nothing}
+use Rattle.xm_outside.specs.Growth.{grown}
+use Rattle.xm_outside.specs.lemmas.GrowthLemmas.{grown-nothing}
 use Rattle.xm_report.specs.Report.{texts}
 use Rattle.machine_model.specs.Facts.{KeepsNumbers, RunsKeepNumbers}
 use Rattle.machine_model.specs.Laws.{AllTicks}
 use Rattle.machine_model.specs.Lines.{lines}
 use Rattle.machine_model.specs.Machine.{Machine, run}
 use Rattle.xm_machine.specs.Alone.{AreAlone, AreAloneUpTo}
-use Rattle.xm_machine.specs.Cues.{AreCued, AreCuedUpTo, KeepsLastTick}
-use Rattle.tick_steps.specs.Kept.{kept_after}
+use Rattle.xm_machine.specs.Cues.{AreCued, AreCuedUpTo}
+use Rattle.xm_machine.specs.lemmas.CuesTerms.{KeepsLastTick}
+use Rattle.tick_steps.specs.lemmas.KeptTerms.{kept_after}
 use Rattle.xm_machine.specs.Machine.{Meaning}
 use Rattle.tick_steps.specs.Quiet.{AreQuiet, ends_in}
-use Rattle.tick_steps.specs.QuietRunLemmas.{AllQuiet, all_quiet, quiet_on, quiet_runs, run_from}
-use Rattle.xm_machine.specs.Steps.{AreRun}
-use Rattle.xm_machine.specs.Stretch.{AreStepped, IsStretchCut, IsStretched, left_of}
+use Rattle.tick_steps.specs.lemmas.QuietRunLemmas.{AllQuiet, all_quiet, quiet_on, quiet_runs, run_from}
+use Rattle.xm_machine.specs.lemmas.StepsTerms.{AreRun}
+use Rattle.xm_machine.specs.lemmas.StretchTerms.{AreStepped}
+use Rattle.xm_machine.specs.Stretch.{IsStretchCut, IsStretched, left_of}
 use Rattle.xm_machine.specs.declared.stretch.Stepped.{Stepped}
 use Rattle.xm_machine.proofs.AloneLemmas.{ticks_alone}
 use Rattle.xm_machine.proofs.CuedLemmas.{cued, kept_add}
 use Rattle.xm_machine.proofs.GoingLemmas.{cut_on, run_on, state_on}
-use Rattle.tick_steps.specs.KeptLemmas.{ticks_exact}
+use Rattle.tick_steps.specs.lemmas.KeptLemmas.{ticks_exact}
 
 -- a stretch is on its way: this many of its ticks were done, and whether it ends with the last of them
 pub record GoesStretch (ticks printed : ℕ) (ends : Bool) (most : ℕ) (old new : Meaning) (had got : Option (List ℕ)) : Type 0 where

@@ -2,21 +2,25 @@
 use Rattle.std.proofs.Common.{◌≡◌, ℕ, ◌+◌, ◌-◌, ◌<◌, ◌≤◌, Bool, false, true, List, [], ◌∷◌, ◌++◌, length, Option, refl, sym, ap, ◌∙◌, subst, arith, append_assoc, length-append}
 use Rattle.std.specs.Prelude.{IsTrue, ◌↔◌}
 use Rattle.std.proofs.lemmas.List.{append-nil}
-use Rattle.xm_outside.specs.Growth.{grown, grown-nothing, grown_grown, GrewByPrefix}
-use Rattle.xm_report.specs.Report.{ReportLine, text_of, texts, texts-append}
+use Rattle.xm_outside.specs.Growth.{grown, GrewByPrefix}
+use Rattle.xm_outside.specs.lemmas.GrowthLemmas.{grown-nothing, grown_grown}
+use Rattle.xm_report.specs.Report.{ReportLine, text_of, texts}
+use Rattle.xm_report.specs.lemmas.ReportLemmas.{texts-append}
 use Rattle.machine_model.specs.Lines.{end_line, end_lines, lines}
 use Rattle.machine_model.specs.Lists.{all_of}
 use Rattle.machine_model.specs.Machine.{Machine, run}
-use Rattle.span_model.specs.RunLemmas.{lines_add}
+use Rattle.span_model.specs.lemmas.RunLemmas.{lines_add}
 use Rattle.xm_machine.proofs.FrontLemmas.{front_of_all}
 use Rattle.xm_machine.proofs.GoingLemmas.{lines_grow}
-use Rattle.tick_steps.specs.KeptLemmas.{ticks_exact, ticks_fewer, ticks_most}
+use Rattle.tick_steps.specs.lemmas.KeptLemmas.{ticks_exact, ticks_fewer, ticks_most}
 use Rattle.xm_machine.proofs.OutLemmas.{both_out, first_cut, one_cut, one_line, rest_cut}
-use Rattle.uart_board.specs.Heard.{heard_nothing}
+use Rattle.uart_board.specs.lemmas.HeardLemmas.{heard_nothing}
 use Rattle.uart_board.specs.Views.{BoardView}
 use Rattle.xm_machine.specs.Heard.{IsRunHeard}
-use Rattle.xm_machine.specs.Outcome.{IsCutRun, IsWholeRun, first_line, last_line, report_of, report_to}
-use Rattle.xm_machine.specs.Steps.{AreRun, IsStepCut}
+use Rattle.xm_machine.specs.Outcome.{IsCutRun, IsWholeRun, first_line, report_of, report_to}
+use Rattle.xm_machine.specs.lemmas.OutcomeTerms.{last_line}
+use Rattle.xm_machine.specs.lemmas.StepsTerms.{AreRun}
+use Rattle.xm_machine.specs.Steps.{IsStepCut}
 use Rattle.xm_machine.specs.declared.run.Ran.{Ran}
 
 -- the lines of the partitions' ends

@@ -1,26 +1,18 @@
 -- One tick of one partition of a machine in isolation: what it leaves of the partition's part, what it prints and what it refuses.
-use Rattle.std.specs.Prelude.{◌≡◌, ℕ, false, if◌then◌else◌, List, [], ◌++◌, map, Option, Some, None, Result, Ok, Err}
+use Rattle.std.specs.Prelude.{◌≡◌, ℕ, false, if◌then◌else◌, List, [], Option, Result, Ok, Err}
 use Rattle.xm_outside.specs.Causes.{Rose}
 use Rattle.xm_outside.specs.Growth.{GrewByPrefix, grown}
-use Rattle.xm_report.specs.Report.{ReportLine, texts}
-use Rattle.xm_report.specs.declared.output.WriteFault.{WriteFault}
+use Rattle.xm_report.specs.Report.{texts}
 use Rattle.machine_model.specs.Alone.{alone_step_lines, alone_step_said}
 use Rattle.machine_model.specs.Cue.{Cue}
 use Rattle.machine_model.specs.Lines.{has_console}
 use Rattle.machine_model.specs.Machine.{Machine}
-use Rattle.machine_model.specs.Emission.{line_of}
 use Rattle.machine_model.specs.View.{view_of}
-use Rattle.system_state.specs.State.{memory_of}
-use Rattle.system_state.specs.declared.served.Note.{Note}
-use Rattle.tick_steps.specs.Work.{console_emissions}
 use Rattle.replay_model.specs.Passes.{part_in}
 use Rattle.replay_model.specs.Step.{IsLone}
 use Rattle.replay_model.specs.Taking.{takes_cue}
 use Rattle.uart_board.specs.Heard.{IsHeard}
 use Rattle.uart_board.specs.Views.{BoardView}
-use Rattle.xm_machine.specs.Heard.{lines_to}
-use Rattle.xm_machine.specs.Outcome.{HasWriteCause}
-use Rattle.xm_machine.specs.Steps.{Prints}
 use Rattle.xm_machine.specs.declared.alone_span.AloneFault.{AloneFault}
 use Rattle.xm_machine.specs.declared.alone_span.AloneFault.TheVariants as fault
 
@@ -40,11 +32,6 @@ HasStepCause (Ok done) before now = now ≡ before
 HasStepCause (Err fault.Write) before now = Rose before now
 HasStepCause (Err fault.Cue) before now = now ≡ before
 
--- the outcome of lines that were to go out
-abbrev pub printed_alone : Result ℕ WriteFault → Result (Unit {0}) AloneFault
-printed_alone (Ok count) = Ok tt
-printed_alone (Err unwritten) = Err fault.Write
-
 -- what each UART gets of the console bytes of a partition's tick alone
 abbrev pub said_alone : Machine → ℕ → Cue → ℕ → List ℕ
 said_alone g p cue uart = if has_console g uart p then alone_step_said (view_of g.system p) (part_in g p) cue else []
@@ -54,16 +41,3 @@ abbrev pub IsSaidAlone : {T : Type 0} → Result T AloneFault → ℕ → Cue �
 IsSaidAlone (Ok done) p cue old before after = IsHeard (said_alone old p cue) before after
 IsSaidAlone (Err fault.Write) p cue old before after = IsHeard (said_alone old p cue) before after
 IsSaidAlone (Err fault.Cue) p cue old before after = after ≡ before
-
--- what is printed of a tick that was done: the bytes for the console that its note has, and then these lines
-pub record IsPrintedDone (n p : ℕ) (note : Note) (g : Machine) (lines : List ReportLine) (result : Result (Unit {0}) AloneFault) (had got : Option (List ℕ)) (before now : ℕ) (old new : BoardView) : Type 0 where
-  pub ends : Result ℕ WriteFault
-  pub is : result ≡ printed_alone ends
-  pub printed : Prints ends (map (line_of n p) (console_emissions note (memory_of p g)) ++ lines) had got
-  pub cause : HasWriteCause ends before now
-  pub heard : IsHeard (lines_to g (map (line_of n p) (console_emissions note (memory_of p g)) ++ lines)) old new
-
--- the same, and nothing of one that was not
-abbrev pub IsPrintedAlone : Option Note → ℕ → ℕ → Machine → List ReportLine → Result (Unit {0}) AloneFault → Option (List ℕ) → Option (List ℕ) → ℕ → ℕ → BoardView → BoardView → Type 0
-IsPrintedAlone (Some note) n p g lines result had got before now old new = IsPrintedDone n p note g lines result had got before now old new
-IsPrintedAlone None n p g lines result had got before now old new = (result ≡ Err fault.Cue) × (got ≡ had) × (now ≡ before) × (new ≡ old)

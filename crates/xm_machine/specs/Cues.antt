@@ -1,9 +1,9 @@
 -- What ticks and runs leave of what each partition received.
-use Rattle.std.specs.Prelude.{◌≡◌, ℕ, ◌<◌, ◌≤◌, List, [], ◌∷◌, Result, Ok, Err}
+use Rattle.std.specs.Prelude.{◌≡◌, ℕ, ◌≤◌, List, [], ◌∷◌, Result, Ok, Err}
 use Rattle.xm_report.specs.declared.output.WriteFault.{WriteFault}
 use Rattle.machine_model.specs.Cue.{Cue, script}
 use Rattle.machine_model.specs.Machine.{run}
-use Rattle.tick_steps.specs.Kept.{kept_after, kept_cue}
+use Rattle.tick_steps.specs.Kept.{kept_cue}
 use Rattle.xm_machine.specs.Machine.{Meaning}
 use Rattle.xm_machine.specs.declared.run.Ran.{Ran}
 
@@ -31,23 +31,3 @@ pub record AreCuedUpTo (asked : ℕ) (old new : Meaning) : Type 0 where
 abbrev pub RunsCued : Result Ran WriteFault → ℕ → Meaning → Meaning → Type 0
 RunsCued (Ok ran) asked old new = AreCued asked old new
 RunsCued (Err fault) asked old new = AreCuedUpTo asked old new
-
--- at least one tick was done, and at most this many, and the last is kept
-pub record KeepsLastTick (most : ℕ) (old new : Meaning) : Type 0 where
-  pub done : ℕ
-  pub some : 0 < done
-  pub within : done ≤ most
-  pub state : new.state ≡ run old.state done
-  pub kept : new.kept ≡ kept_after old.state done old.kept
-
--- this many of the ticks asked were done, and the last is kept
-pub record KeepsUpTo (asked : ℕ) (old new : Meaning) : Type 0 where
-  pub done : ℕ
-  pub within : done ≤ asked
-  pub state : new.state ≡ run old.state done
-  pub kept : new.kept ≡ kept_after old.state done old.kept
-
--- all ticks asked were done, or those up to one whose lines did not go out
-abbrev pub KeepsTicks : Result ℕ WriteFault → ℕ → Meaning → Meaning → Type 0
-KeepsTicks (Ok printed) asked old new = new.kept ≡ kept_after old.state asked old.kept
-KeepsTicks (Err fault) asked old new = KeepsUpTo asked old new

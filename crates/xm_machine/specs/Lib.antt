@@ -7,3 +7,4 @@ pub mod Machine
 pub mod Outcome
 pub mod Steps
 pub mod Stretch
+pub mod lemmas

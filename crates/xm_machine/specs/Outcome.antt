@@ -1,8 +1,8 @@
 -- What a tick and a run answer, by cases on the answer, over what the sink had and has got.
-use Rattle.std.specs.Prelude.{◌≡◌, ℕ, ◌+◌, ◌<◌, ◌≤◌, ◌↔◌, IsTrue, List, ◌∷◌, ◌++◌, length, Option, Result, Ok, Err}
+use Rattle.std.specs.Prelude.{◌≡◌, ℕ, ◌<◌, ◌≤◌, ◌↔◌, IsTrue, List, ◌∷◌, ◌++◌, length, Option, Result, Ok, Err}
 use Rattle.xm_outside.specs.Causes.{Rose}
 use Rattle.xm_outside.specs.Growth.{grown, GrewByPrefix, Writes}
-use Rattle.xm_report.specs.Report.{EndWhole, ReportLine, SystemLine, texts}
+use Rattle.xm_report.specs.Report.{ReportLine, SystemLine, texts}
 use Rattle.xm_report.specs.declared.output.WriteFault.{WriteFault}
 use Rattle.uart_board.specs.Heard.{IsHeard}
 use Rattle.uart_board.specs.Views.{BoardView}
@@ -23,10 +23,6 @@ pub record IsTick {T : Type 0} (result : Result T WriteFault) (old new : Machine
 -- the first line of a report: the number of ticks is the one asked
 abbrev pub first_line : Machine → ℕ → ReportLine
 first_line g asked = SystemLine (length g.system.conf.parts) (length g.system.conf.plans) asked
-
--- the last line of a report
-abbrev pub last_line : Machine → ReportLine
-last_line g = EndWhole g.halted g.clock.plan g.time g.ticks
 
 -- the report of a run as far as its first this many ticks, without an end
 abbrev pub report_to : Machine → ℕ → ℕ → List ReportLine

@@ -1,7 +1,7 @@
 //! How ticks of one partition in isolation end.
 
 ghost use Rattle.std.specs.Prelude.{◌≡◌};
-ghost use Rattle.xm_machine.specs.AloneStep.{printed_alone};
+ghost use Rattle.xm_machine.specs.lemmas.AloneStepTerms.{printed_alone};
 
 use xm_report::WriteFault;
 

@@ -10,10 +10,10 @@ ghost use Rattle.machine_model.specs.Emission as emission;
 ghost use Rattle.machine_model.specs.View.{part_of};
 ghost use Rattle.span_model.specs.Passes.{part_at};
 ghost use Rattle.uart_board.specs.Heard.{IsHeard};
-ghost use Rattle.xm_machine.specs.AloneStep.{IsPrintedAlone};
-ghost use Rattle.xm_machine.specs.Heard.{console_to, lines_to};
+ghost use Rattle.xm_machine.specs.lemmas.AloneStepTerms.{IsPrintedAlone};
+ghost use Rattle.xm_machine.specs.lemmas.HeardTerms.{console_to, lines_to};
 ghost use Rattle.xm_machine.specs.Outcome.{HasWriteCause};
-ghost use Rattle.xm_machine.specs.Steps.{Prints};
+ghost use Rattle.xm_machine.specs.lemmas.StepsTerms.{Prints};
 ghost use Rattle.tick_steps.specs.Work.{console_emissions};
 ghost use Rattle.xm_report.specs.Report.{IsShort, line_value};
 

@@ -3,7 +3,7 @@
 ghost use Rattle.std.specs.Prelude.{◌≡◌};
 ghost use Rattle.machine_model.specs.Health.{done_to_all};
 ghost use Rattle.tick_steps.specs.Quiet.{ends_stretch};
-ghost use Rattle.xm_machine.specs.Stretch.{stepped_by};
+ghost use Rattle.xm_machine.specs.lemmas.StretchTerms.{stepped_by};
 ghost use Rattle.tick_steps.specs.Span.{ends_so, notes_signal};
 ghost use Rattle.tick_steps.specs.Work.{act_beyond};
 

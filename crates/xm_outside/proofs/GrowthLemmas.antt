@@ -2,7 +2,8 @@
 use Rattle.std.proofs.Common.{◌≡◌, ℕ, ◌+◌, ◌-◌, List, Option, length, take, drop, sym, ◌∙◌, ap}
 use Rattle.std.proofs.Math.Seq.{take-add}
 use Rattle.std.proofs.lemmas.List.{take_rest}
-use Rattle.xm_outside.specs.Growth.{grown, grown_grown}
+use Rattle.xm_outside.specs.Growth.{grown}
+use Rattle.xm_outside.specs.lemmas.GrowthLemmas.{grown_grown}
 
 -- this many bytes were got, and then more of those that follow them
 pub taken_more : (old mid new : Option (List ℕ)) (bytes : List ℕ) (done more : ℕ) → mid ≡ grown old (take done bytes) → new ≡ grown mid (take more (take (length bytes - done) (drop done bytes))) → new ≡ grown old (take (done + more) bytes)

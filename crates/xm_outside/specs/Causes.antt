@@ -1,6 +1,5 @@
 -- The causes of faults, as counts that rise.
 use Rattle.std.specs.Prelude.{◌≡◌, ℕ, ◌+◌, ◌-◌, ◌^◌, ◌≤◌, min, Result, Ok, Err}
-use Rattle.std.proofs.Common.{arith}
 use Rattle.xm_outside.specs.declared.store.StoreFault.{StoreFault}
 use Rattle.xm_outside.specs.declared.store.StoreFault.TheVariants.{Failed, Absent, Memory}
 
@@ -24,10 +23,3 @@ HasReadCause (Ok _) before now = now ≡ before
 HasReadCause (Err Failed) before now = Rose before now
 HasReadCause (Err Absent) before now = now ≡ before
 HasReadCause (Err Memory) before now = now ≡ before
-
--- a rise within a stretch is a rise over the whole of it
-pub rose_between : (before a b after : ℕ) → before ≤ a → Rose a b → b ≤ after → Rose before after
-rose_between before a b after first rose last =
-    let risen : counted a ≤ b = rose.risen in
-    let later : a ≤ b = rose.later in
-    record { later = omega arith; risen = omega arith }

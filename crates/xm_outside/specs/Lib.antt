@@ -5,3 +5,4 @@ pub mod Growth
 pub mod MemSink
 pub mod MemStore
 pub mod MemUart
+pub mod lemmas

@@ -2,4 +2,4 @@ pub mod Channels
 pub mod Kept
 pub mod Ports
 pub mod Stored
-pub mod Tried
+pub mod lemmas

@@ -1,7 +1,7 @@
 //! Queues: all messages, in order, until each is taken.
 
 ghost use Rattle.std.specs.Prelude.{◌≡◌, ◌↔◌, ◌≤◌, ◌++◌, ◌∷◌, [], IfOk, IfSome, IsErr, OnErr, OnOk, IfNone, drop, length, slice_get, option_map, vec_capacity};
-ghost use Rattle.xm_ports.specs.Kept.{HaveRoom};
+ghost use Rattle.xm_ports.specs.lemmas.KeptTerms.{HaveRoom};
 
 use crate::room::{Room, copy_to};
 use std::alloc::Global;
@@ -24,7 +24,8 @@ pub(crate) struct QueuingChannel {
 
 impl Model for QueuingChannel {
     ghost use Rattle.std.specs.Prelude.{vec_capacity};
-    ghost use Rattle.xm_ports.specs.Kept.{AreKept, QueuingState, messages_in};
+    ghost use Rattle.xm_ports.specs.lemmas.KeptTerms.{AreKept};
+    ghost use Rattle.xm_ports.specs.Kept.{QueuingState, messages_in};
 
     ghost Value = { QueuingState };
 

@@ -2,7 +2,7 @@
 
 ghost use Rattle.std.specs.Prelude.{◌≡◌, IfOk, IfSome, length, map};
 ghost use Rattle.xm_ports.specs.Channels.{shape_of, shapes_of};
-ghost use Rattle.xm_ports.specs.Tried.{AreTried, tried_shapes};
+ghost use Rattle.xm_ports.specs.lemmas.Tried.{AreTried, tried_shapes};
 
 use crate::{Channels, CreateFault, Full, Ports};
 use std::alloc::{AllocError, Global};

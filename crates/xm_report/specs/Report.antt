@@ -1,7 +1,6 @@
 -- The lines of the report: what each says, and its text.
-use Rattle.std.specs.Prelude.{◌≡◌, ℕ, ◌+◌, ◌≤◌, ◌==◌, ◌&&◌, nat_le, Bool, true, false, if◌then◌else◌, List, [], ◌∷◌, ◌++◌, length, flat_map, codes, decimal}
+use Rattle.std.specs.Prelude.{ℕ, ◌+◌, ◌≤◌, ◌==◌, ◌&&◌, nat_le, Bool, true, false, if◌then◌else◌, List, [], ◌∷◌, ◌++◌, length, flat_map, codes, decimal}
 use Rattle.std.specs.Int.{w32, to_be_bytes}
-use Rattle.std.proofs.lemmas.Grind.{flat_map-append}
 use Rattle.hex.specs.Hex.{encode_lower}
 use Rattle.xm_base.specs.State.{state_text}
 use Rattle.xm_base.specs.declared.limits.TheConstants.{CONSOLE_BYTES}
@@ -142,7 +141,3 @@ text_of (EndWhole halted plan clock ticks) = end_whole_text halted plan clock ti
 -- the text of lines, one after the other
 abbrev pub texts : List ReportLine → List ℕ
 texts lines = flat_map text_of lines
-
--- the text of lines and more lines
-pub texts-append : (a b : List ReportLine) → texts (a ++ b) ≡ texts a ++ texts b
-texts-append a b = flat_map-append text_of a b

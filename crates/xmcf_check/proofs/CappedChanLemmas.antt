@@ -18,7 +18,7 @@ use Rattle.xm_conf.specs.declared.channel.ChanKind.TheVariants as chan_kind
 use Rattle.xm_conf.specs.declared.channel.End.{End}
 use Rattle.xm_conf.specs.declared.item.Item.{Item}
 use Rattle.xm_conf.specs.declared.item.Item.TheVariants as item
-use Rattle.xmcf_check.specs.Capped.{capped, capped_end, capped_kind, capped_chan, capped_part, capped_conf}
+use Rattle.xmcf_check.specs.lemmas.Capped.{capped, capped_end, capped_kind, capped_chan, capped_part, capped_conf}
 use Rattle.xmcf_check.proofs.ListLemmas.{both, front_none, back_none, each-made, slice_get-on, last_first}
 use Rattle.xmcf_check.proofs.CappedLemmas.{capped-above, capped-most, capped-kept, slice_get-capped}
 

@@ -15,7 +15,7 @@ use Rattle.xm_conf.specs.declared.channel.ChanKind.{ChanKind}
 use Rattle.xm_conf.specs.declared.channel.ChanKind.TheVariants as chan_kind
 use Rattle.xm_conf.specs.declared.channel.End.{End}
 use Rattle.xm_conf.specs.declared.item.Item.TheVariants as item
-use Rattle.xmcf_check.specs.Capped.{capped, capped_slot, capped_plan, capped_end, capped_kind, capped_chan, capped_link, capped_part, capped_conf}
+use Rattle.xmcf_check.specs.lemmas.Capped.{capped, capped_slot, capped_plan, capped_end, capped_kind, capped_chan, capped_link, capped_part, capped_conf}
 use Rattle.xmcf_check.proofs.ListLemmas.{both, each-made, along-made, repeated-made, slice_get-on, sum_by-made}
 
 -- a number is below a limit that a field holds exactly where the capped one is

@@ -8,10 +8,11 @@ use Rattle.xm_conf.specs.declared.channel.End.{End}
 use Rattle.xm_conf.specs.declared.port.Way.TheVariants as way
 use Rattle.xmcf_reader.specs.Drafts.{IsDraft}
 use Rattle.xmcf_reader.specs.declared.draft.Entry.{Entry}
-use Rattle.xmcf_check.specs.Capped.{capped, capped_chan, capped_end, capped_part}
+use Rattle.xmcf_check.specs.lemmas.Capped.{capped, capped_chan, capped_end, capped_part}
 use Rattle.xmcf_check.specs.Described.{among, described_chan, chan_with, children, end_of_way, first_among, names_of_ports, no_end, port_names, with_parent}
-use Rattle.xmcf_check.specs.Elements.{capped_carried, carried_of}
-use Rattle.xmcf_check.specs.Families.{within}
+use Rattle.xmcf_check.specs.lemmas.ElementsTerms.{capped_carried}
+use Rattle.xmcf_check.specs.Elements.{carried_of}
+use Rattle.xmcf_check.specs.lemmas.Families.{within}
 use Rattle.xmcf_check.specs.declared.elements.Carried.{Carried}
 use Rattle.xmcf_check.proofs.FamilyLemmas.{children_within}
 use Rattle.xmcf_check.proofs.PassLemmas.{Makes, among-on, first_among-on}

@@ -7,7 +7,7 @@ use Rattle.std.proofs.lemmas.Bool.Decides.{nat_tests}
 use Rattle.xmcf_reader.specs.Drafts.{IsDraft, StandsAt}
 use Rattle.xmcf_reader.specs.declared.draft.Entry.{Entry}
 use Rattle.xmcf_check.specs.Described.{children, grandchildren, is_child, with_grandparent, with_parent}
-use Rattle.xmcf_check.specs.Families.{within}
+use Rattle.xmcf_check.specs.lemmas.Families.{within}
 
 -- a test fails where another would pass that fails
 fails : (one two : Bool) → (one ≡ true → two ≡ true) → two ≡ false → one ≡ false

@@ -14,11 +14,11 @@ use Rattle.xm_conf.specs.declared.part.HmTable.{HmTable}
 use Rattle.xmcf_reader.specs.declared.draft.Element.{Element}
 use Rattle.xmcf_reader.specs.declared.draft.Element.TheVariants as element
 use Rattle.xmcf_reader.specs.declared.draft.Entry.{Entry}
-use Rattle.xmcf_check.specs.Capped.{capped_conf, capped_part, capped_plan, capped_slot}
+use Rattle.xmcf_check.specs.lemmas.Capped.{capped_conf, capped_part, capped_plan, capped_slot}
 use Rattle.xmcf_check.specs.Described as described
 use Rattle.xmcf_check.specs.Elements.{element_frame, element_answer, element_own, part_id_of, plan_id_of, slot_id_of, element_slot, uart_id_of, uart_of}
-use Rattle.xmcf_check.specs.Gathered.{Gathered}
-use Rattle.xmcf_check.specs.Judged as judged
+use Rattle.xmcf_check.specs.lemmas.Gathered.{Gathered}
+use Rattle.xmcf_check.specs.lemmas.Judged as judged
 use Rattle.xmcf_check.specs.declared.elements.Given.{Given}
 use Rattle.xmcf_check.specs.declared.elements.Own.{Own}
 use Rattle.xmcf_check.proofs.GivenLemmas.{action_for-given, flags-below, length-filter_map, map-each}

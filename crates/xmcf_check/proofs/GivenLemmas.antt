@@ -11,8 +11,8 @@ use Rattle.xm_conf.specs.Description.{HealthAnswer}
 use Rattle.xm_conf.specs.Health.{event_row, events}
 use Rattle.xm_conf.specs.declared.health.Event.{Event}
 use Rattle.xm_conf.specs.declared.health.Event.TheVariants as event
-use Rattle.xmcf_check.specs.Judged.{action_for, action_or_default}
-use Rattle.xmcf_check.specs.Reported.{first_there}
+use Rattle.xmcf_check.specs.lemmas.Judged.{action_for, action_or_default}
+use Rattle.xmcf_check.specs.lemmas.Reported.{first_there}
 use Rattle.xmcf_check.proofs.ListLemmas.{both}
 
 -- whether an answer is to an event

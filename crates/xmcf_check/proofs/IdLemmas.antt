@@ -6,7 +6,7 @@ use Rattle.xm_conf.specs.Along.{head_of, added_by_each, each_from, unless}
 use Rattle.xm_conf.specs.Rules.{alone, misplaced}
 use Rattle.xm_conf.specs.declared.item.Item.{Item}
 use Rattle.xm_conf.specs.declared.item.Broken.{Broken}
-use Rattle.xmcf_check.specs.Misplaced.{misplace}
+use Rattle.xmcf_check.specs.lemmas.Misplaced.{misplace}
 
 -- the first id that is not its place is the first that is reported
 first_from : (numbered : ℕ → Item) (n : ℕ) (ids : List ℕ)

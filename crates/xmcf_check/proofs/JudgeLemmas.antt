@@ -12,10 +12,10 @@ use Rattle.xm_conf.specs.Rules as rules
 use Rattle.xm_conf.specs.declared.item.Item.{Item}
 use Rattle.xm_conf.specs.declared.item.Item.TheVariants as item
 use Rattle.xm_conf.specs.declared.item.Broken.{Broken}
-use Rattle.xmcf_check.specs.Answered.{answers_broken}
-use Rattle.xmcf_check.specs.Capped.{capped_plan, capped_part, capped_conf}
-use Rattle.xmcf_check.specs.Judged.{HasSizes, Gathers, gathered_of, health_table_of}
-use Rattle.xmcf_check.specs.Reported.{first_there, is_within, reported_among, first_reported, HasFew}
+use Rattle.xmcf_check.specs.lemmas.Answered.{answers_broken}
+use Rattle.xmcf_check.specs.lemmas.Capped.{capped_plan, capped_part, capped_conf}
+use Rattle.xmcf_check.specs.lemmas.Judged.{HasSizes, Gathers, gathered_of, health_table_of}
+use Rattle.xmcf_check.specs.lemmas.Reported.{first_there, is_within, reported_among, first_reported, HasFew}
 use Rattle.xmcf_check.proofs.ListLemmas.{both, front_none, back_none, back_first}
 use Rattle.xmcf_check.proofs.BoundLemmas.{IsBounded, bounded, few_of}
 use Rattle.xmcf_check.proofs.CappedLemmas.{rule_1-capped, rule_3-capped, memory_rules-capped, plan_rules-capped, rule_20-capped}

@@ -12,7 +12,7 @@ use Rattle.xm_conf.specs.declared.channel.ChanKind.TheVariants as chan_kind
 use Rattle.xm_conf.specs.declared.channel.End.{End}
 use Rattle.xm_conf.specs.declared.item.Item.TheVariants as item
 use Rattle.xm_conf.specs.declared.link.Link.{Link}
-use Rattle.xmcf_check.specs.Capped.{capped, capped_slot, capped_plan, capped_end, capped_kind, capped_chan, capped_link, capped_part, capped_conf}
+use Rattle.xmcf_check.specs.lemmas.Capped.{capped, capped_slot, capped_plan, capped_end, capped_kind, capped_chan, capped_link, capped_part, capped_conf}
 use Rattle.xmcf_check.proofs.LinkLemmas.{links_kept}
 use Rattle.xmcf_check.proofs.ListLemmas.{front_none, back_none, made_kept}
 use Rattle.xmcf_check.proofs.CappedLemmas.{capped-kept}

@@ -9,7 +9,7 @@ use Rattle.xm_conf.specs.Limits.{link_numbers}
 use Rattle.xm_conf.specs.Rules as rules
 use Rattle.xm_conf.specs.declared.item.Item.TheVariants as item
 use Rattle.xm_conf.specs.declared.link.Link.{Link}
-use Rattle.xmcf_check.specs.Capped.{capped, capped_link, capped_part, capped_conf}
+use Rattle.xmcf_check.specs.lemmas.Capped.{capped, capped_link, capped_part, capped_conf}
 use Rattle.xmcf_check.proofs.ListLemmas.{each-made, last_first, made_kept}
 use Rattle.xmcf_check.proofs.CappedLemmas.{capped-below, capped-kept}
 use Rattle.xmcf_check.proofs.CappedChanLemmas.{unless_none, and_first, and_second}

@@ -8,7 +8,7 @@ use Rattle.indexmap.specs.IndexMap.{IndexMap, get}
 use Rattle.xm_conf.specs.Configuration.{Part}
 use Rattle.xm_conf.specs.declared.port.Port.{Port}
 use Rattle.xmcf_check.specs.Described.{names_of_ports, names_or_none, port_names}
-use Rattle.xmcf_check.specs.Numbers.{HasAllPorts, HasNone, HasPortNumbers, HasNumbersForPorts, first_from, same_key}
+use Rattle.xmcf_check.specs.lemmas.Numbers.{HasAllPorts, HasNone, HasPortNumbers, HasNumbersForPorts, first_from, same_key}
 
 -- no port is noted yet
 pub ports_begin : {S : Type 0} (part : ℕ) (ports : List Port) (numbers : IndexMap (ℕ × Bor (List ℕ)) ℕ S) → HasNone part numbers → HasNumbersForPorts part (length ports) (drop (length ports) ports) numbers numbers

@@ -8,7 +8,7 @@ use Rattle.xm_conf.specs.Description.{Description}
 use Rattle.xm_conf.specs.Limits.{most_parts}
 use Rattle.xm_conf.specs.Rules as rules
 use Rattle.xm_conf.specs.declared.item.Broken.{Broken}
-use Rattle.xmcf_check.specs.Reported.{first_there, reported_among}
+use Rattle.xmcf_check.specs.lemmas.Reported.{first_there, reported_among}
 
 -- what breaks the rules from 3 to 18
 abbrev pub middle : Conf → List Broken

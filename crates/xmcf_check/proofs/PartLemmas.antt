@@ -8,10 +8,10 @@ use Rattle.xm_conf.specs.declared.part.Need.{Need}
 use Rattle.xm_conf.specs.declared.port.Port.{Port}
 use Rattle.xmcf_reader.specs.Drafts.{IsDraft}
 use Rattle.xmcf_reader.specs.declared.draft.Entry.{Entry}
-use Rattle.xmcf_check.specs.Capped.{capped, capped_part}
+use Rattle.xmcf_check.specs.lemmas.Capped.{capped, capped_part}
 use Rattle.xmcf_check.specs.Described.{among, children, first_among, grandchildren, hm_of, number_named, described_part, part_with, with_grandparent, with_parent}
 use Rattle.xmcf_check.specs.Elements.{element_area, element_answer, mask_of, element_need, element_own, element_port}
-use Rattle.xmcf_check.specs.Families.{within}
+use Rattle.xmcf_check.specs.lemmas.Families.{within}
 use Rattle.xmcf_check.specs.declared.elements.Own.{Own}
 use Rattle.xmcf_check.proofs.FamilyLemmas.{children_within, grandchildren_within}
 use Rattle.xmcf_check.proofs.PassLemmas.{Makes}

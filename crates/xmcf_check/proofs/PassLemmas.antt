@@ -8,7 +8,7 @@ use Rattle.xm_conf.specs.Along.{added_by_each, each_from, head_of}
 use Rattle.xmcf_reader.specs.declared.draft.Element.{Element}
 use Rattle.xmcf_reader.specs.declared.draft.Entry.{Entry}
 use Rattle.xmcf_check.specs.Described.{among, first_among}
-use Rattle.xmcf_check.specs.Families.{picked}
+use Rattle.xmcf_check.specs.lemmas.Families.{picked}
 
 -- what is found and then changed is what is changed where it is found
 pub among-on : {X Y : Type 0} (f : X → Y) (pick : Element → Option X) (entries : List Entry) → among (λ element. on f (pick element)) entries ≡ map f (among pick entries)

@@ -4,10 +4,10 @@ use Rattle.xm_base.specs.Options.{on}
 use Rattle.xm_conf.specs.declared.plan.Slot.{Slot}
 use Rattle.xmcf_reader.specs.Drafts.{IsDraft}
 use Rattle.xmcf_reader.specs.declared.draft.Entry.{Entry}
-use Rattle.xmcf_check.specs.Capped.{capped_plan, capped_slot}
+use Rattle.xmcf_check.specs.lemmas.Capped.{capped_plan, capped_slot}
 use Rattle.xmcf_check.specs.Described.{among, children, described_plan, plan_ids_at, plan_ids_with, plan_of_children, with_parent}
 use Rattle.xmcf_check.specs.Elements.{element_frame, plan_id_of, slot_id_of, element_slot}
-use Rattle.xmcf_check.specs.Families.{within}
+use Rattle.xmcf_check.specs.lemmas.Families.{within}
 use Rattle.xmcf_check.proofs.FamilyLemmas.{children_within}
 use Rattle.xmcf_check.proofs.PassLemmas.{Makes, among-on}
 

@@ -14,9 +14,9 @@ use Rattle.xm_conf.specs.declared.health.Event.TheVariants as event
 use Rattle.xm_conf.specs.declared.health.Action.{Action}
 use Rattle.xm_conf.specs.declared.part.HmTable.{HmTable}
 use Rattle.xm_conf.specs.declared.item.Item.TheVariants as item
-use Rattle.xmcf_check.specs.Answered.{answers_broken}
-use Rattle.xmcf_check.specs.Capped.{capped_part}
-use Rattle.xmcf_check.specs.Judged.{action_or_default, action_for, health_table_of}
+use Rattle.xmcf_check.specs.lemmas.Answered.{answers_broken}
+use Rattle.xmcf_check.specs.lemmas.Capped.{capped_part}
+use Rattle.xmcf_check.specs.lemmas.Judged.{action_or_default, action_for, health_table_of}
 use Rattle.xmcf_check.proofs.ListLemmas.{both, front_none, back_none}
 use Rattle.xmcf_check.proofs.CappedChanLemmas.{unless_none}
 

@@ -7,10 +7,10 @@ use Rattle.xm_conf.specs.declared.link.Link.{Link}
 use Rattle.xm_conf.specs.declared.raw.Region.{Region}
 use Rattle.xmcf_reader.specs.Drafts.{IsDraft}
 use Rattle.xmcf_reader.specs.declared.draft.Entry.{Entry}
-use Rattle.xmcf_check.specs.Capped.{capped_chan, capped_link, capped_conf, capped_part, capped_plan}
+use Rattle.xmcf_check.specs.lemmas.Capped.{capped_chan, capped_link, capped_conf, capped_part, capped_plan}
 use Rattle.xmcf_check.specs.Described.{among, answers_of, chans_by, chans_of, described_conf, grandchildren, hv_size_of, described_links, described_monitor, monitor_with, parts_by, parts_of, plans_of, port_names, regions_of, system_name, uarts_of, with_grandparent}
 use Rattle.xmcf_check.specs.Elements.{element_answer, link_element, part_id_of}
-use Rattle.xmcf_check.specs.Families.{within}
+use Rattle.xmcf_check.specs.lemmas.Families.{within}
 use Rattle.xmcf_check.specs.declared.elements.Given.{Given}
 use Rattle.xmcf_check.proofs.ChanLemmas.{names-capped}
 use Rattle.xmcf_check.proofs.FamilyLemmas.{grandchildren_within}

@@ -9,7 +9,6 @@ use Rattle.xm_conf.specs.declared.plan.Slot.{Slot}
 use Rattle.xm_conf.specs.declared.port.Port.{Port}
 use Rattle.xm_conf.specs.declared.raw.Region.{Region}
 use Rattle.xm_conf.specs.declared.channel.ChanKind.TheVariants as kind
-use Rattle.xmcf_check.specs.Capped.{capped, capped_kind}
 use Rattle.xmcf_check.specs.declared.elements.Carried.{Carried}
 use Rattle.xmcf_check.specs.declared.elements.Given.{Given}
 use Rattle.xmcf_check.specs.declared.elements.Own.{Own}
@@ -104,7 +103,3 @@ carried_of _ = None
 abbrev pub link_element : Element → Option Link
 link_element (element.Ipvi id source dest) = Some record { number = id; source = source; dest = dest }
 link_element _ = None
-
--- what a channel carries, with its numbers capped
-unfoldable pub capped_carried : Carried → Carried
-capped_carried carried = record { kind = capped_kind carried.kind; size = capped 65535 carried.size }

@@ -1,12 +1,5 @@
-pub mod Answered
-pub mod Capped
 pub mod Described
 pub mod Elements
-pub mod Families
-pub mod Gathered
-pub mod Judged
-pub mod Misplaced
-pub mod Numbers
 pub mod Places
-pub mod Reported
 pub mod Verdict
+pub mod lemmas

@@ -5,7 +5,7 @@ ghost use Rattle.xm_conf.specs.Limits.{most_parts};
 ghost use Rattle.xm_conf.specs.Along.{added_by_each, head_of};
 ghost use Rattle.xm_conf.specs.Rules as rules;
 ghost use Rattle.xm_conf.specs.declared.item.Item.TheVariants as item;
-ghost use Rattle.xmcf_check.specs.Answered.{answers_broken};
+ghost use Rattle.xmcf_check.specs.lemmas.Answered.{answers_broken};
 
 use crate::broken::unless;
 use crate::gathered::Answer;
@@ -34,7 +34,7 @@ fn repeated_answer(p: u8, before: &[Answer], answer: &Answer) -> Option<Broken>
 }
 
 /// An answer that is not allowed, that is to the event of one before it, or whose plan is none.
-#[tactic(auto, using(xm_conf::specs::AlongLemmas::in_turn), unfolding(xm_conf::specs::Rules::answer_broken))]
+#[tactic(auto, using(xm_conf::specs::lemmas::AlongLemmas::in_turn), unfolding(xm_conf::specs::Rules::answer_broken))]
 fn answer_broken(plans: usize, p: u8, before: &[Answer], answer: &Answer) -> Option<Broken>
     requires { length before.now ≤ 12 }
     ensures { result ≡ head_of (rules.answer_broken plans p before.now answer.now) }
@@ -52,7 +52,7 @@ fn answer_broken(plans: usize, p: u8, before: &[Answer], answer: &Answer) -> Opt
 }
 
 /// The first answer of a partition that may not stand.
-#[tactic(auto, using(xm_conf::specs::AlongLemmas::along_loop), unfolding(crate::specs::Answered::answers_broken))]
+#[tactic(auto, using(xm_conf::specs::lemmas::AlongLemmas::along_loop), unfolding(crate::specs::lemmas::Answered::answers_broken))]
 fn answers_broken(plans: usize, p: u8, answers: &[Answer]) -> Option<Broken>
     ensures { result ≡ head_of (answers_broken plans p answers.now) }
 {

@@ -2,8 +2,9 @@
 
 ghost use Rattle.std.specs.Prelude.{◌≡◌};
 ghost use Rattle.xm_base.specs.Options.{on};
-ghost use Rattle.xmcf_check.specs.Capped.{capped, capped_link, capped_slot};
-ghost use Rattle.xmcf_check.specs.Elements.{element_area, capped_carried, carried_of, element_frame, element_answer, link_element, mask_of, element_need, element_own, part_id_of, plan_id_of, element_port, processor_of, region_of, element_size, slot_id_of, element_slot, uart_id_of, uart_of};
+ghost use Rattle.xmcf_check.specs.lemmas.Capped.{capped, capped_link, capped_slot};
+ghost use Rattle.xmcf_check.specs.Elements.{element_area, carried_of, element_frame, element_answer, link_element, mask_of, element_need, element_own, part_id_of, plan_id_of, element_port, processor_of, region_of, element_size, slot_id_of, element_slot, uart_id_of, uart_of};
+ghost use Rattle.xmcf_check.specs.lemmas.ElementsTerms.{capped_carried};
 
 use xm_conf::{Action, Area, ChanKind, Event, Link, Name, Need, Port, Region, Slot};
 use xmcf_reader::Element;
@@ -32,7 +33,7 @@ pub(crate) struct Carried {
 }
 
 /// A number as a byte, or the greatest byte.
-#[tactic(auto, unfolding(crate::specs::Capped::capped))]
+#[tactic(auto, unfolding(crate::specs::lemmas::Capped::capped))]
 pub(crate) fn byte(number: u32) -> u8
     ensures { result ≡ capped 255 number }
 {
@@ -40,7 +41,7 @@ pub(crate) fn byte(number: u32) -> u8
 }
 
 /// A number as a half word, or the greatest half word.
-#[tactic(auto, unfolding(crate::specs::Capped::capped))]
+#[tactic(auto, unfolding(crate::specs::lemmas::Capped::capped))]
 pub(crate) fn half_word(number: u32) -> u16
     ensures { result ≡ capped 65535 number }
 {
@@ -48,7 +49,7 @@ pub(crate) fn half_word(number: u32) -> u16
 }
 
 /// A number of an item as a byte, or the greatest byte.
-#[tactic(auto, unfolding(crate::specs::Capped::capped))]
+#[tactic(auto, unfolding(crate::specs::lemmas::Capped::capped))]
 pub(crate) fn item_byte(number: usize) -> u8
     ensures { result ≡ capped 255 number }
 {
@@ -99,7 +100,7 @@ pub(crate) fn plan_id_of(element: &Element) -> Option<u32>
 }
 
 /// A slot, with its partition capped.
-#[tactic(auto, unfolding(crate::specs::Capped::capped_slot))]
+#[tactic(auto, unfolding(crate::specs::lemmas::Capped::capped_slot))]
 pub(crate) fn slot_of(element: &Element) -> Option<Slot>
     ensures { result ≡ on capped_slot (element_slot element.now) }
 {
@@ -257,7 +258,7 @@ pub(crate) fn port_of(element: &Element) -> Option<Port>
 }
 
 /// What a channel carries, with its numbers capped.
-#[tactic(auto, unfolding(crate::specs::Elements::capped_carried, crate::specs::Capped::capped_kind))]
+#[tactic(auto, unfolding(crate::specs::lemmas::ElementsTerms::capped_carried, crate::specs::lemmas::Capped::capped_kind))]
 pub(crate) fn carried_of(element: &Element) -> Option<Carried>
     ensures { result ≡ on capped_carried (carried_of element.now) }
 {
@@ -275,7 +276,7 @@ pub(crate) fn carried_of(element: &Element) -> Option<Carried>
 }
 
 /// A link, with its numbers capped.
-#[tactic(auto, unfolding(crate::specs::Capped::capped_link))]
+#[tactic(auto, unfolding(crate::specs::lemmas::Capped::capped_link))]
 pub(crate) fn link_of(element: &Element) -> Option<Link>
     ensures { result ≡ on capped_link (link_element element.now) }
 {

@@ -3,7 +3,7 @@
 ghost use Rattle.std.specs.Prelude.{◌≡◌, ◌<◌, ◌≤◌, ◌==◌, IfOk, Option, length, nat_le, slice_get};
 ghost use Rattle.std.specs.List.{prefix_len};
 ghost use Rattle.xmcf_check.specs.Described.{among, first_among, is_child, with_grandparent, with_parent};
-ghost use Rattle.xmcf_check.specs.Families.{within};
+ghost use Rattle.xmcf_check.specs.lemmas.Families.{within};
 
 use std::alloc::Global;
 use xm_base::Memory;
@@ -28,7 +28,7 @@ fn count_inside(entries: &[Entry], number: usize) -> usize
 }
 
 /// The entries within the entry of a number.
-#[tactic(auto, unfolding(crate::specs::Families::within))]
+#[tactic(auto, unfolding(crate::specs::lemmas::Families::within))]
 pub(crate) fn within(entries: &[Entry], number: usize) -> &[Entry]
     requires { number < length entries.now }
     ensures { result.now ≡ within number entries.now }

@@ -14,7 +14,7 @@ pub(crate) struct Gathered {
 
 impl Model for Gathered {
     ghost use Rattle.std.specs.Prelude.{map};
-    ghost use Rattle.xmcf_check.specs.Gathered as plain;
+    ghost use Rattle.xmcf_check.specs.lemmas.Gathered as plain;
 
     ghost Value = { plain.Gathered };
 

@@ -10,7 +10,7 @@ mod plans;
 
 ghost use Rattle.std.specs.Prelude.{◌≡◌, IfOk, map};
 ghost use Rattle.xmcf_reader.specs.Drafts.{IsDraft};
-ghost use Rattle.xmcf_check.specs.Capped.{capped_conf};
+ghost use Rattle.xmcf_check.specs.lemmas.Capped.{capped_conf};
 ghost use Rattle.xmcf_check.specs.Described.{described_conf, description_of};
 
 use crate::gathered::Gathered;

@@ -5,7 +5,7 @@ ghost use Rattle.xm_conf.specs.Limits.{most_parts};
 ghost use Rattle.xm_conf.specs.Along.{added_by_each, head_of};
 ghost use Rattle.xm_conf.specs.Rules as rules;
 ghost use Rattle.xm_conf.specs.declared.item.Item.TheVariants as item;
-ghost use Rattle.xmcf_check.specs.Misplaced.{misplace};
+ghost use Rattle.xmcf_check.specs.lemmas.Misplaced.{misplace};
 
 use crate::broken::{alone, unless};
 use crate::gathered::{Ids, PlanIds};
@@ -63,7 +63,7 @@ fn parts_misplaced(ids: &[u32]) -> Option<Broken>
 }
 
 /// A plan whose id is not its place, or the first of its slots.
-#[tactic(auto, using(xm_conf::specs::AlongLemmas::in_turn), unfolding(xm_conf::specs::Rules::plan_misplaced))]
+#[tactic(auto, using(xm_conf::specs::lemmas::AlongLemmas::in_turn), unfolding(xm_conf::specs::Rules::plan_misplaced))]
 fn plan_misplaced(n: u8, ids: &PlanIds) -> Option<Broken>
     requires { length ids.now.slots ≤ 64 }
     ensures { result ≡ head_of (rules.plan_misplaced n ids.now) }
@@ -85,7 +85,7 @@ fn plans_misplaced(ids: &[PlanIds]) -> Option<Broken>
 }
 
 /// The first item whose id is not its place.
-#[tactic(auto, using(xm_conf::specs::AlongLemmas::in_turn), unfolding(xm_conf::specs::Rules::rule_2))]
+#[tactic(auto, using(xm_conf::specs::lemmas::AlongLemmas::in_turn), unfolding(xm_conf::specs::Rules::rule_2))]
 pub(crate) fn rule_2(ids: &Ids) -> Option<Broken>
     requires uarts { length ids.now.uarts ≤ 8 }
     requires plans { length ids.now.plans ≤ 8 }

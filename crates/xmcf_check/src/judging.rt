@@ -4,8 +4,8 @@ ghost use Rattle.std.specs.Prelude.{◌≡◌, false, IfErr, IfOk, None, Some, l
 ghost use Rattle.xm_conf.specs.Description.{Description, described};
 ghost use Rattle.xm_conf.specs.Limits.{most_parts};
 ghost use Rattle.xm_conf.specs.Rules.{first_broken};
-ghost use Rattle.xmcf_check.specs.Judged.{Gathers, HasSizes, Judges, gathered_of};
-ghost use Rattle.xmcf_check.specs.Reported.{HasFew, first_reported, is_within};
+ghost use Rattle.xmcf_check.specs.lemmas.Judged.{Gathers, HasSizes, Judges, gathered_of};
+ghost use Rattle.xmcf_check.specs.lemmas.Reported.{HasFew, first_reported, is_within};
 
 use crate::answers::rule_19;
 use crate::gathered::{Answer, Gathered, Ids};
@@ -23,7 +23,7 @@ fn is_within(last: u8, found: Option<Broken>) -> bool
 }
 
 /// The first broken rule of the ids, the answers and what is found among the other rules.
-#[tactic(auto, unfolding(crate::specs::Reported::first_reported, crate::specs::Reported::reported_among))]
+#[tactic(auto, unfolding(crate::specs::lemmas::Reported::first_reported, crate::specs::lemmas::Reported::reported_among))]
 fn first_reported(
     found: Option<Broken>,
     plans: usize,

@@ -2,7 +2,7 @@
 
 ghost use Rattle.std.specs.Prelude.{◌≡◌, IfOk, OnOk, length, slice_get};
 ghost use Rattle.xmcf_check.specs.Described.{number_named, names_or_none, port_names};
-ghost use Rattle.xmcf_check.specs.Numbers.{HasFirsts, HasNone, HasPortNumbers, HasNumbersForPorts};
+ghost use Rattle.xmcf_check.specs.lemmas.Numbers.{HasFirsts, HasNone, HasPortNumbers, HasNumbersForPorts};
 
 use indexmap::IndexMap;
 use std::alloc::Global;

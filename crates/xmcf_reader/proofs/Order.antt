@@ -3,7 +3,8 @@ use Rattle.std.proofs.Common.{◌≡◌, ℕ, zero, suc, ◌+◌, ◌-◌, ◌<�
 use Rattle.std.specs.Prelude.{nat_eq}
 use Rattle.std.proofs.lemmas.Bool.Decides.{nat_tests}
 use Rattle.xmcf_reader.specs.Draft.{Context, Open, Tag, empty_draft, after_token, attribute_named}
-use Rattle.xmcf_reader.specs.Faults.{cut, cut_at, stopped, when, faults_of, faults_from, element_faults, attribute_faults, value_faults, missing_attributes, missing_children, missing_of, place, rank, comes_before, lesser_fault, least, first_of}
+use Rattle.xmcf_reader.specs.Faults.{cut, cut_at, stopped, when, faults_of, faults_from, element_faults, attribute_faults, value_faults, missing_attributes, missing_children, missing_of, place, rank, comes_before, lesser_fault, least}
+use Rattle.xmcf_reader.specs.lemmas.FaultsTerms.{first_of}
 use Rattle.xmcf_reader.specs.Words.{element_named}
 use Rattle.xmcf_reader.specs.Elements.{Pair}
 use Rattle.xmcf_reader.specs.Tokens.{Token, Blanks, Comment, Declaration, Opening, Name, Equals, Value, TagEnd, EmptyEnd, EndTag, Front, Found, Broken, front}

@@ -2,9 +2,11 @@
 use Rattle.std.proofs.Common.{◌≡◌, ℕ, ◌+◌, ◌<◌, ◌≤◌, List, [], ◌∷◌, ◌++◌, length, Option, Some, None, sym, ap, ◌∙◌, arith, length-append, subst, inr}
 use Rattle.xmcf_reader.specs.Draft.{Context, parent_number, empty_draft, after_token, tag_begun, named_as, valued, entry_added, tag_ended}
 use Rattle.xmcf_reader.specs.Tokens.{Token, Blanks, Comment, Declaration, Opening, Name, Equals, Value, TagEnd, EmptyEnd, EndTag}
-use Rattle.xmcf_reader.specs.Faults.{Cut, cut, faults_of, faults_from, draft_from, IsFirst}
+use Rattle.xmcf_reader.specs.Faults.{Cut, cut, faults_of, faults_from, draft_from}
+use Rattle.xmcf_reader.specs.lemmas.FaultsTerms.{IsFirst}
 use Rattle.xmcf_reader.specs.Faults as faults
-use Rattle.xmcf_reader.specs.FaultsLemmas.{first_more}
+use Rattle.xmcf_reader.specs.lemmas.FaultsTerms as faults_lemmas
+use Rattle.xmcf_reader.specs.lemmas.FaultsLemmas.{first_more}
 use Rattle.xmcf_reader.specs.Words.{element_named}
 use Rattle.xmcf_reader.specs.Draft.{attribute_named}
 use Rattle.xmcf_reader.specs.Elements.{built}
@@ -83,11 +85,11 @@ first_broken text context token at place rest more one so_far item first =
 
 -- a rest that begins no token gives the first fault
 pub rest_broken : (text : List ℕ) (context : Context) (at byte place : ℕ) (rest : List ℕ) (broken one : ReadFault)
-    → Progress text context place rest → cut place 0 rest ≡ faults.Rest at byte broken → Some one ≡ faults.first_of (faults_from context (faults.Rest at byte broken)) → IsFirst one (faults_from empty_draft (cut 0 0 text))
+    → Progress text context place rest → cut place 0 rest ≡ faults.Rest at byte broken → Some one ≡ faults_lemmas.first_of (faults_from context (faults.Rest at byte broken)) → IsFirst one (faults_from empty_draft (cut 0 0 text))
 rest_broken text context at byte place rest broken one so_far item first =
     subst (λ (all : List ReadFault). IsFirst one all) (sym (so_far.broken ∙ ap (faults_from context) item)) (head_first (faults_from context (faults.Rest at byte broken)) first)
   where
-    head_first : (all : List ReadFault) → Some one ≡ faults.first_of all → IsFirst one all
+    head_first : (all : List ReadFault) → Some one ≡ faults_lemmas.first_of all → IsFirst one all
     head_first [] e = cc
     head_first (other ∷ others) e = let same : one ≡ other = cc in inr same
 

@@ -4,8 +4,9 @@ use Rattle.std.specs.Prelude.{nat_lt}
 use Rattle.std.proofs.lemmas.Bool.Decides.{nat_tests}
 use Rattle.std.specs.Str.Lossy.{utf8_valid_len}
 use Rattle.xmcf_reader.specs.Draft.{empty_draft}
-use Rattle.xmcf_reader.specs.Faults.{cut, draft_from, draft_of, faults_from, xmcf_fault, first_of, IsFirst}
-use Rattle.xmcf_reader.specs.Readings.{IsReadingOf}
+use Rattle.xmcf_reader.specs.Faults.{cut, draft_from, draft_of, faults_from, xmcf_fault}
+use Rattle.xmcf_reader.specs.lemmas.FaultsTerms.{first_of, IsFirst}
+use Rattle.xmcf_reader.specs.lemmas.Readings.{IsReadingOf}
 use Rattle.xmcf_reader.specs.declared.draft.Entry.{Entry}
 use Rattle.xmcf_reader.specs.declared.fault.ReadFault.{ReadFault}
 use Rattle.xmcf_reader.specs.declared.fault.ReadFault.TheVariants as fault

@@ -2,7 +2,7 @@
 
 ghost use Rattle.std.specs.Prelude.{◌≡◌, ◌++◌, ◌∷◌, []};
 ghost use Rattle.xmcf_reader.specs.Drafts.{IsDraft};
-ghost use Rattle.xmcf_reader.specs.Faults.{DoesUnlessMemory};
+ghost use Rattle.xmcf_reader.specs.lemmas.FaultsTerms.{DoesUnlessMemory};
 
 use crate::fault::ReadFault;
 use std::marker::Model;

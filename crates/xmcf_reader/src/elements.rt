@@ -2,7 +2,7 @@
 
 ghost use Rattle.std.specs.Prelude.{◌≡◌};
 ghost use Rattle.xmcf_reader.specs.Elements as elements;
-ghost use Rattle.xmcf_reader.specs.Seen.{pairs_of, text_of_option};
+ghost use Rattle.xmcf_reader.specs.lemmas.Seen.{pairs_of, text_of_option};
 
 use crate::draft::Element;
 use crate::values::{access, address, flags, kind, log, number, size, time, way};

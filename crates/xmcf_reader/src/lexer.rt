@@ -3,8 +3,8 @@
 ghost use Rattle.std.specs.Prelude.{◌≡◌, ◌+◌, ◌<◌, ◌≤◌, ◌^◌, length, IfSome};
 ghost use Rattle.std.specs.List.{position, prefix_len};
 ghost use Rattle.xmcf_reader.specs.Bytes.{are_dashes, ends_declaration, ends_value, is_blank, is_digit, is_letter, is_of_name, is_past_ascii, is_quote, pairs};
-ghost use Rattle.xmcf_reader.specs.Cuts.{FrontWithin};
-ghost use Rattle.xmcf_reader.specs.Seen.{prefix_seen, token_of};
+ghost use Rattle.xmcf_reader.specs.lemmas.Cuts.{FrontWithin};
+ghost use Rattle.xmcf_reader.specs.lemmas.Seen.{prefix_seen, token_of};
 ghost use Rattle.xmcf_reader.specs.Tokens as tokens;
 
 use crate::token::{Front, Stop, Token};

@@ -3,9 +3,9 @@
 ghost use Rattle.std.specs.Prelude.{◌≡◌, ◌∷◌, [], ◌++◌};
 ghost use Rattle.std.specs.List.{find};
 ghost use Rattle.xmcf_reader.specs.Draft as draft;
-ghost use Rattle.xmcf_reader.specs.Faults.{DoesUnlessMemory};
+ghost use Rattle.xmcf_reader.specs.lemmas.FaultsTerms.{DoesUnlessMemory};
 ghost use Rattle.xmcf_reader.specs.Table.{attributes, allowed_children};
-ghost use Rattle.xmcf_reader.specs.Seen.{pairs_of};
+ghost use Rattle.xmcf_reader.specs.lemmas.Seen.{pairs_of};
 ghost use Rattle.xmcf_reader.specs.Words.{word_text};
 ghost use Rattle.std.specs.Str.{bytes_eq};
 

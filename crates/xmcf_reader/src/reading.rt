@@ -3,7 +3,7 @@
 ghost use Rattle.std.specs.Prelude.{◌≡◌, ◌<◌, ◌^◌, ◌⊎◌, None, Some, IfErr, IfOk, length};
 ghost use Rattle.xmcf_reader.specs.Draft.{empty_draft};
 ghost use Rattle.xmcf_reader.specs.Faults.{cut, draft_from, draft_of, faults_from, xmcf_fault};
-ghost use Rattle.xmcf_reader.specs.Readings.{IsReadingOf};
+ghost use Rattle.xmcf_reader.specs.lemmas.Readings.{IsReadingOf};
 ghost use Rattle.xmcf_reader.specs.declared.fault.ReadFault.TheVariants as fault;
 
 use crate::draft::Draft;

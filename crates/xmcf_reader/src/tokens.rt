@@ -1,7 +1,7 @@
 //! The tokens of a text, one after the other.
 
 ghost use Rattle.std.specs.Prelude.{◌≡◌, ◌+◌, ◌<◌, ◌^◌};
-ghost use Rattle.xmcf_reader.specs.Cuts.{IsNext, MovesOn, cut_left, text_length};
+ghost use Rattle.xmcf_reader.specs.lemmas.Cuts.{IsNext, MovesOn, cut_left, text_length};
 ghost use Rattle.xmcf_reader.specs.Faults.{stopped};
 
 use crate::fault::ReadFault;
@@ -29,7 +29,7 @@ pub(crate) enum Next<'a> {
 /// The fault of a spelling that stops, in a rest of this many bytes from a place on.
 fn stopped(at: usize, size: usize, stop: Stop) -> ReadFault
     requires small { at + size < 2 ^ 32 }
-    requires within { Rattle.xmcf_reader.specs.Cuts.StopsWithin stop size }
+    requires within { Rattle.xmcf_reader.specs.lemmas.Cuts.StopsWithin stop size }
     ensures { result ≡ stopped at size stop }
 {
     match stop {

@@ -4,10 +4,12 @@ ghost use Rattle.std.specs.Prelude.{◌≡◌, ◌+◌, ◌<◌, ◌^◌, [], �
 ghost use Rattle.xmcf_reader.specs.Draft as draft;
 ghost use Rattle.xmcf_reader.specs.Elements as elements;
 ghost use Rattle.xmcf_reader.specs.Faults as faults;
-ghost use Rattle.xmcf_reader.specs.Faults.{AnswersFirst, Checks, DoesUnlessMemory, when};
-ghost use Rattle.xmcf_reader.specs.Seen.{pairs_of, token_of};
+ghost use Rattle.xmcf_reader.specs.lemmas.FaultsTerms as faults_lemmas;
+ghost use Rattle.xmcf_reader.specs.lemmas.FaultsTerms.{AnswersFirst, Checks, DoesUnlessMemory};
+ghost use Rattle.xmcf_reader.specs.Faults.{when};
+ghost use Rattle.xmcf_reader.specs.lemmas.Seen.{pairs_of, token_of};
 ghost use Rattle.xmcf_reader.specs.Tokens as tokens;
-ghost use Rattle.xmcf_reader.specs.Trees.{context_of};
+ghost use Rattle.xmcf_reader.specs.lemmas.Trees.{context_of};
 ghost use Rattle.xmcf_reader.specs.Words.{element_named};
 ghost use Rattle.xmcf_reader.specs.declared.fault.ReadFault.TheVariants as fault;
 
@@ -73,7 +75,7 @@ fn lacks_child(child: Child, at: usize) -> ReadFault
 }
 
 /// No attribute is missing.
-#[tactic(auto, unfolding(crate::specs::Faults::missing_attributes), using(crate::specs::FaultsLemmas::none_passes, crate::specs::FaultsLemmas::first_passes))]
+#[tactic(auto, unfolding(crate::specs::Faults::missing_attributes), using(crate::specs::lemmas::FaultsLemmas::none_passes, crate::specs::lemmas::FaultsLemmas::first_passes))]
 fn attributes_stand(word: Word, given: &[Pair<'_>], at: usize) -> Result<(), ReadFault>
     ensures { Checks result (faults.missing_attributes word (pairs_of given.now) at) }
 {
@@ -84,7 +86,7 @@ fn attributes_stand(word: Word, given: &[Pair<'_>], at: usize) -> Result<(), Rea
 }
 
 /// No child is missing.
-#[tactic(auto, unfolding(crate::specs::Faults::missing_children), using(crate::specs::FaultsLemmas::none_passes, crate::specs::FaultsLemmas::first_passes))]
+#[tactic(auto, unfolding(crate::specs::Faults::missing_children), using(crate::specs::lemmas::FaultsLemmas::none_passes, crate::specs::lemmas::FaultsLemmas::first_passes))]
 fn children_stand(word: Word, noted: &[Word], at: usize) -> Result<(), ReadFault>
     ensures { Checks result (faults.missing_children word noted.now at) }
 {
@@ -396,7 +398,7 @@ impl<'a> Tree<'a> {
 
     /// The fault of a rest that begins no token, where its spelling breaks so.
     pub(crate) fn broken(&self, at: usize, byte: u8, broken: ReadFault) -> ReadFault
-        ensures { Some result ≡ faults.first_of (faults.faults_from (context_of self.now) (faults.Rest at byte broken)) }
+        ensures { Some result ≡ faults_lemmas.first_of (faults.faults_from (context_of self.now) (faults.Rest at byte broken)) }
     {
         if self.stage.may_begin(byte) {
             broken

@@ -4,7 +4,7 @@ ghost use Rattle.std.specs.Prelude.{◌≡◌, ◌+◌, ◌-◌, ◌*◌, ◌<�
 ghost use Rattle.std.specs.List.{position};
 ghost use Rattle.std.specs.Option.{option_map};
 ghost use Rattle.xmcf_reader.specs.Values as values;
-ghost use Rattle.xmcf_reader.specs.Seen.{flags_of, text_of_option};
+ghost use Rattle.xmcf_reader.specs.lemmas.Seen.{flags_of, text_of_option};
 ghost use Rattle.xm_conf.specs.Name.{is_name};
 
 use crate::table::Form;

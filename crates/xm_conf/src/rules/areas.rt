@@ -3,9 +3,9 @@
 ghost use Rattle.std.specs.Prelude.{◌≡◌, ◌≤◌, length, sum_by};
 ghost use Rattle.std.specs.List.{list_any};
 ghost use Rattle.xm_conf.specs.Along.{added_by_each, head_of};
-ghost use Rattle.xm_conf.specs.Fits.{HasCounts};
+ghost use Rattle.xm_conf.specs.lemmas.FitsTerms.{HasCounts};
 ghost use Rattle.xm_conf.specs.Rules as rules;
-ghost use Rattle.xm_conf.specs.Room.{room_after};
+ghost use Rattle.xm_conf.specs.lemmas.Room.{room_after};
 
 use super::broken::unless;
 use super::memory::is_paged;

@@ -2,7 +2,7 @@
 
 ghost use Rattle.std.specs.Prelude.{◌≡◌, ◌≤◌, IfNone, Some, length, slice_get, option_copied};
 ghost use Rattle.xm_conf.specs.Along.{added_by_each, head_of};
-ghost use Rattle.xm_conf.specs.Fits.{HasCounts, HasFewEnds};
+ghost use Rattle.xm_conf.specs.lemmas.FitsTerms.{HasCounts, HasFewEnds};
 ghost use Rattle.xm_conf.specs.Limits.{most_dests};
 ghost use Rattle.xm_conf.specs.Rules as rules;
 
@@ -83,7 +83,7 @@ fn stray_dests(parts: &[Part], c: u8, dests: &[End]) -> Option<Broken>
 }
 
 /// The first end of a channel that is no port.
-#[tactic(auto, using(crate::specs::AlongLemmas::in_turn), unfolding(crate::specs::Rules::stray_ends))]
+#[tactic(auto, using(crate::specs::lemmas::AlongLemmas::in_turn), unfolding(crate::specs::Rules::stray_ends))]
 fn stray_ends(parts: &[Part], c: u8, chan: &Chan) -> Option<Broken>
     requires { length chan.now.dests ≤ most_dests }
     ensures { result ≡ head_of (rules.stray_ends parts.now c chan.now) }
@@ -162,7 +162,7 @@ fn wrong_dests(parts: &[Part], kind: ChanKind, c: u8, dests: &[End]) -> Option<B
 }
 
 /// The first end of a channel whose port is of another kind or way.
-#[tactic(auto, using(crate::specs::AlongLemmas::in_turn), unfolding(crate::specs::Rules::wrong_ends))]
+#[tactic(auto, using(crate::specs::lemmas::AlongLemmas::in_turn), unfolding(crate::specs::Rules::wrong_ends))]
 fn wrong_ends(parts: &[Part], c: u8, chan: &Chan) -> Option<Broken>
     requires { length chan.now.dests ≤ most_dests }
     ensures { result ≡ head_of (rules.wrong_ends parts.now c chan.now) }

@@ -1,7 +1,7 @@
 //! How many there are of each.
 
 ghost use Rattle.std.specs.Prelude.{◌≡◌, ◌<◌, ◌≤◌, IfNone};
-ghost use Rattle.xm_conf.specs.Fits.{HasCounts};
+ghost use Rattle.xm_conf.specs.lemmas.FitsTerms.{HasCounts};
 ghost use Rattle.xm_conf.specs.Limits.{most_parts};
 ghost use Rattle.xm_conf.specs.Along.{added_by_each, head_of};
 ghost use Rattle.xm_conf.specs.Rules as rules;
@@ -115,7 +115,7 @@ fn chans_counts(chans: &[Chan]) -> Option<Broken>
 }
 
 /// The first item that is missing, or past its limit, where this many partitions are the most.
-#[tactic(auto, using(crate::specs::AlongLemmas::in_turn), unfolding(crate::specs::Rules::rule_1))]
+#[tactic(auto, using(crate::specs::lemmas::AlongLemmas::in_turn), unfolding(crate::specs::Rules::rule_1))]
 fn first_count(most: u8, raw: &RawConf) -> Option<Broken>
     ensures { result ≡ head_of (rules.rule_1 most raw.now) }
 {

@@ -3,10 +3,10 @@
 ghost use Rattle.std.specs.Prelude.{◌≡◌, ◌++◌, ◌<◌, ◌≤◌, All, IfSome, length};
 ghost use Rattle.std.specs.List.{position_from};
 ghost use Rattle.xm_conf.specs.Along.{along, added_by_each, head_of};
-ghost use Rattle.xm_conf.specs.Fits.{HasFewEnds};
+ghost use Rattle.xm_conf.specs.lemmas.FitsTerms.{HasFewEnds};
 ghost use Rattle.xm_conf.specs.Limits.{most_dests};
 ghost use Rattle.xm_conf.specs.Rules as rules;
-ghost use Rattle.xm_conf.specs.Walks as walks;
+ghost use Rattle.xm_conf.specs.lemmas.Walks as walks;
 ghost use Rattle.xm_conf.specs.declared.item.Item.TheVariants as item;
 
 use super::broken::beside;
@@ -32,7 +32,7 @@ fn first_dest(at: &End, dests: &[End]) -> Option<usize>
 }
 
 /// The first destination of a channel that is one port with an end.
-#[tactic(auto, using(crate::proofs::MeetLemmas::first_hit), unfolding(crate::specs::Walks::dest_hits))]
+#[tactic(auto, using(crate::proofs::MeetLemmas::first_hit), unfolding(crate::specs::lemmas::Walks::dest_hits))]
 fn dest_hit(at: &End, c: u8, dests: &[End]) -> Option<Item>
     requires { length dests.now ≤ most_dests }
     ensures { result ≡ head_of (walks.dest_hits at.now c dests.now) }
@@ -44,7 +44,7 @@ fn dest_hit(at: &End, c: u8, dests: &[End]) -> Option<Item>
 }
 
 /// The source of a channel, where it is one port with an end.
-#[tactic(auto, unfolding(crate::specs::Walks::source_hits))]
+#[tactic(auto, unfolding(crate::specs::lemmas::Walks::source_hits))]
 fn source_hit(at: &End, c: u8, source: &End) -> Option<Item>
     ensures { result ≡ head_of (walks.source_hits at.now c source.now) }
 {
@@ -55,7 +55,7 @@ fn source_hit(at: &End, c: u8, source: &End) -> Option<Item>
 }
 
 /// The first end of a channel that is one port with an end.
-#[tactic(auto, using(crate::specs::AlongLemmas::in_turn), unfolding(crate::specs::Walks::chan_hits, crate::specs::Walks::source_hits, crate::specs::Walks::dest_hits, crate::specs::Rules::chan_ends))]
+#[tactic(auto, using(crate::specs::lemmas::AlongLemmas::in_turn), unfolding(crate::specs::lemmas::Walks::chan_hits, crate::specs::lemmas::Walks::source_hits, crate::specs::lemmas::Walks::dest_hits, crate::specs::Rules::chan_ends))]
 fn chan_hit(at: &End, c: u8, chan: &Chan) -> Option<Item>
     requires { length chan.now.dests ≤ most_dests }
     ensures { result ≡ head_of (walks.chan_hits at.now c chan.now) }
@@ -77,7 +77,7 @@ fn chans_hit(at: &End, chans: &[Chan]) -> Option<Item>
 }
 
 /// The first end that stands before a destination and is one port with an end.
-#[tactic(auto, using(crate::specs::AlongLemmas::in_turn))]
+#[tactic(auto, using(crate::specs::lemmas::AlongLemmas::in_turn))]
 fn first_before(at: &End, chans: &[Chan], source: &End, before: &[End]) -> Option<Item>
     requires few { length chans.now ≤ 64 }
     requires dests { All (λ chan. length chan.dests ≤ most_dests) chans.now }
@@ -135,7 +135,7 @@ fn source_meets(chans: &[Chan], source: &End) -> Option<Broken>
 }
 
 /// The first end of a channel that is a port of an end before it.
-#[tactic(auto, using(crate::specs::AlongLemmas::in_turn), unfolding(crate::specs::Walks::chan_meets))]
+#[tactic(auto, using(crate::specs::lemmas::AlongLemmas::in_turn), unfolding(crate::specs::lemmas::Walks::chan_meets))]
 fn chan_meets(before: &[Chan], chan: &Chan) -> Option<Broken>
     requires few { length before.now ≤ 64 }
     requires dests { All (λ chan. length chan.dests ≤ most_dests) before.now }

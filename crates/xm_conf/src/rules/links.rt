@@ -2,7 +2,7 @@
 
 ghost use Rattle.std.specs.Prelude.{◌≡◌, ◌<◌, ◌≤◌, length};
 ghost use Rattle.xm_conf.specs.Along.{head_of};
-ghost use Rattle.xm_conf.specs.Fits.{HasCounts};
+ghost use Rattle.xm_conf.specs.lemmas.FitsTerms.{HasCounts};
 ghost use Rattle.xm_conf.specs.Limits.{most_links};
 ghost use Rattle.xm_conf.specs.Rules as rules;
 ghost use Rattle.xm_conf.specs.declared.item.Item.TheVariants as item;
@@ -57,7 +57,7 @@ fn repeated_link(before: &[Link], link: &Link) -> Option<Broken>
 }
 
 /// The first link that may not stand, or else the first with an earlier one's source and number.
-#[tactic(auto, using(crate::specs::AlongLemmas::in_turn), unfolding(crate::specs::Rules::rule_21, crate::specs::Rules::rule_22, crate::specs::Rules::link_rules))]
+#[tactic(auto, using(crate::specs::lemmas::AlongLemmas::in_turn), unfolding(crate::specs::Rules::rule_21, crate::specs::Rules::rule_22, crate::specs::Rules::link_rules))]
 pub(super) fn links_broken(raw: &RawConf) -> Option<Broken>
     requires { HasCounts raw.now }
     ensures { result ≡ head_of (rules.link_rules raw.now) }

@@ -2,7 +2,7 @@
 
 ghost use Rattle.std.specs.Prelude.{◌≡◌, ◌++◌, ◌≤◌, ◌<◌, length, slice_get};
 ghost use Rattle.xm_conf.specs.Along.{head_of};
-ghost use Rattle.xm_conf.specs.Fits.{HasCounts};
+ghost use Rattle.xm_conf.specs.lemmas.FitsTerms.{HasCounts};
 ghost use Rattle.xm_conf.specs.Rules as rules;
 ghost use Rattle.xm_conf.specs.declared.item.Item.TheVariants as item;
 
@@ -80,7 +80,7 @@ fn rule_6(raw: &RawConf) -> Option<Broken>
 }
 
 /// The first region that is not whole pages or overlaps an earlier one, or the hypervisor.
-#[tactic(auto, using(crate::specs::AlongLemmas::in_turn), unfolding(crate::specs::Rules::rule_4, crate::specs::Rules::rule_5))]
+#[tactic(auto, using(crate::specs::lemmas::AlongLemmas::in_turn), unfolding(crate::specs::Rules::rule_4, crate::specs::Rules::rule_5))]
 pub(super) fn regions_broken(raw: &RawConf) -> Option<Broken>
     requires { HasCounts raw.now }
     ensures { result ≡ head_of (rules.rule_4 raw.now ++ rules.rule_5 raw.now ++ rules.rule_6 raw.now) }

@@ -3,7 +3,7 @@
 ghost use Rattle.std.specs.Prelude.{◌≡◌, ◌<◌, ◌≤◌, All, length};
 ghost use Rattle.std.specs.Str.{bytes_eq};
 ghost use Rattle.xm_conf.specs.Along.{along, head_of};
-ghost use Rattle.xm_conf.specs.Fits.{HasCounts};
+ghost use Rattle.xm_conf.specs.lemmas.FitsTerms.{HasCounts};
 ghost use Rattle.xm_conf.specs.Limits.{most_parts};
 ghost use Rattle.xm_conf.specs.Rules as rules;
 ghost use Rattle.xm_conf.specs.declared.item.Item.TheVariants as item;
@@ -63,7 +63,7 @@ fn same_part(a: &Part, b: &Part) -> bool
 }
 
 /// A partition with an earlier one's name, or its first port with an earlier one's name.
-#[tactic(auto, using(crate::specs::AlongLemmas::in_turn), unfolding(crate::specs::Rules::part_names))]
+#[tactic(auto, using(crate::specs::lemmas::AlongLemmas::in_turn), unfolding(crate::specs::Rules::part_names))]
 fn part_names(before: &[Part], part: &Part) -> Option<Broken>
     requires few { length before.now ≤ most_parts }
     requires ports { length part.now.ports ≤ 32 }
@@ -86,7 +86,7 @@ fn parts_names(parts: &[Part]) -> Option<Broken>
 }
 
 /// The first UART, partition or port with an earlier one's name.
-#[tactic(auto, using(crate::specs::AlongLemmas::in_turn), unfolding(crate::specs::Rules::rule_3))]
+#[tactic(auto, using(crate::specs::lemmas::AlongLemmas::in_turn), unfolding(crate::specs::Rules::rule_3))]
 pub(super) fn rule_3(raw: &RawConf) -> Option<Broken>
     requires { HasCounts raw.now }
     ensures { result ≡ head_of (rules.rule_3 raw.now) }

@@ -2,9 +2,9 @@
 
 ghost use Rattle.std.specs.Prelude.{◌≡◌, ◌++◌, ◌<◌, ◌≤◌, length, map, nat_lt};
 ghost use Rattle.xm_conf.specs.Along.{added_by_each, head_of, unless as unless_of};
-ghost use Rattle.xm_conf.specs.Fits.{HasCounts};
+ghost use Rattle.xm_conf.specs.lemmas.FitsTerms.{HasCounts};
 ghost use Rattle.xm_conf.specs.Rules as rules;
-ghost use Rattle.xm_conf.specs.Walks as walks;
+ghost use Rattle.xm_conf.specs.lemmas.Walks as walks;
 ghost use Rattle.xm_conf.specs.declared.item.Item.TheVariants as item;
 ghost use Rattle.xm_conf.specs.Description.{event_numbered, monitor_of};
 
@@ -68,7 +68,7 @@ fn event_of(n: u8) -> Event
 }
 
 /// An action that is not allowed for its event, or whose plan is none.
-#[tactic(auto, unfolding(crate::specs::Walks::action_broken))]
+#[tactic(auto, unfolding(crate::specs::lemmas::Walks::action_broken))]
 fn action_broken(plans: usize, p: u8, n: u8, action: Action) -> Option<Broken>
     requires { n < 12 }
     ensures { result ≡ head_of (walks.action_broken plans p n action) }
@@ -88,7 +88,7 @@ fn actions_broken(plans: usize, p: u8, actions: &[Action]) -> Option<Broken>
 }
 
 /// A table that logs an event that is none, or the first of its actions that may not stand.
-#[tactic(auto, using(crate::specs::AlongLemmas::in_turn))]
+#[tactic(auto, using(crate::specs::lemmas::AlongLemmas::in_turn))]
 fn table_broken(plans: usize, p: u8, hm: &HmTable) -> Option<Broken>
     ensures first { result ≡ head_of (unless_of (nat_lt hm.now.logged 4096) (rules.alone 19 (item.Part p)) ++ added_by_each (walks.action_broken plans p) hm.now.actions) }
     ensures few { length hm.now.actions ≤ 12 }
@@ -101,7 +101,7 @@ fn table_broken(plans: usize, p: u8, hm: &HmTable) -> Option<Broken>
 }
 
 /// A partition that logs an event that is none, or the first of its actions that may not stand.
-#[tactic(auto, using(crate::proofs::AnswerLemmas::monitor_broken_table), unfolding(crate::specs::Walks::part_monitor))]
+#[tactic(auto, using(crate::proofs::AnswerLemmas::monitor_broken_table), unfolding(crate::specs::lemmas::Walks::part_monitor))]
 fn part_monitor(plans: usize, p: u8, part: &Part) -> Option<Broken>
     ensures { result ≡ head_of (walks.part_monitor plans p part.now) }
 {

@@ -3,10 +3,10 @@
 ghost use Rattle.std.specs.Prelude.{◌≡◌, ◌++◌, ◌<◌, ◌≤◌, All, IfSome, length};
 ghost use Rattle.std.specs.List.{position_from};
 ghost use Rattle.xm_conf.specs.Along.{along, added_by_each, head_of};
-ghost use Rattle.xm_conf.specs.Fits.{HasCounts};
+ghost use Rattle.xm_conf.specs.lemmas.FitsTerms.{HasCounts};
 ghost use Rattle.xm_conf.specs.Limits.{most_parts};
 ghost use Rattle.xm_conf.specs.Rules as rules;
-ghost use Rattle.xm_conf.specs.Walks as walks;
+ghost use Rattle.xm_conf.specs.lemmas.Walks as walks;
 
 use super::broken::beside;
 use super::memory::overlaps;
@@ -39,7 +39,7 @@ fn hypervisor(size: u32, regions: &[Region]) -> Option<Region>
 }
 
 /// The hypervisor, where its memory overlaps a stretch.
-#[tactic(auto, unfolding(crate::specs::Walks::whole_hits))]
+#[tactic(auto, unfolding(crate::specs::lemmas::Walks::whole_hits))]
 fn whole_hit(at: &Region, whole: Option<Region>) -> Option<Item>
     ensures { result ≡ head_of (walks.whole_hits at.now whole) }
 {
@@ -64,7 +64,7 @@ fn first_area(at: &Region, areas: &[Area]) -> Option<usize>
 }
 
 /// The first area of a partition that overlaps a stretch.
-#[tactic(auto, using(crate::proofs::MeetLemmas::first_hit), unfolding(crate::specs::Walks::area_hits))]
+#[tactic(auto, using(crate::proofs::MeetLemmas::first_hit), unfolding(crate::specs::lemmas::Walks::area_hits))]
 fn area_hit(at: &Region, p: u8, areas: &[Area]) -> Option<Item>
     requires { length areas.now ≤ 8 }
     ensures { result ≡ head_of (walks.area_hits at.now p areas.now) }
@@ -85,7 +85,7 @@ fn parts_hit(at: &Region, parts: &[Part]) -> Option<Item>
 }
 
 /// The first area of a partition that overlaps a stretch.
-#[tactic(auto, unfolding(crate::specs::Walks::part_hits, crate::specs::Walks::area_hits, crate::specs::Rules::part_stretches))]
+#[tactic(auto, unfolding(crate::specs::lemmas::Walks::part_hits, crate::specs::lemmas::Walks::area_hits, crate::specs::Rules::part_stretches))]
 fn part_hit(at: &Region, p: u8, part: &Part) -> Option<Item>
     requires { length part.now.areas ≤ 8 }
     ensures { result ≡ head_of (walks.part_hits at.now p part.now) }
@@ -94,7 +94,7 @@ fn part_hit(at: &Region, p: u8, part: &Part) -> Option<Item>
 }
 
 /// The first of what stands before an area and overlaps a stretch.
-#[tactic(auto, using(crate::specs::AlongLemmas::in_turn))]
+#[tactic(auto, using(crate::specs::lemmas::AlongLemmas::in_turn))]
 fn first_before(at: &Region, whole: Option<Region>, parts: &[Part], before: &[Area]) -> Option<Item>
     requires few { length parts.now ≤ most_parts }
     requires areas { All (λ part. length part.areas ≤ 8) parts.now }
@@ -135,7 +135,7 @@ fn areas_meet(whole: Option<Region>, parts: &[Part], areas: &[Area]) -> Option<B
 }
 
 /// The first area of a partition that overlaps one before it.
-#[tactic(auto, unfolding(crate::specs::Walks::part_meets))]
+#[tactic(auto, unfolding(crate::specs::lemmas::Walks::part_meets))]
 fn part_meets(whole: Option<Region>, before: &[Part], part: &Part) -> Option<Broken>
     requires few { length before.now ≤ most_parts }
     requires areas { All (λ part. length part.areas ≤ 8) before.now }

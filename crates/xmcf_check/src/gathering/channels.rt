@@ -4,11 +4,12 @@ ghost use Rattle.std.specs.Prelude.{◌≡◌, ◌<◌, ◌++◌, IfOk, OnOk, le
 ghost use Rattle.xm_base.specs.Options.{on};
 ghost use Rattle.xmcf_reader.specs.Drafts.{IsDraft};
 ghost use Rattle.xm_conf.specs.declared.port.Way.TheVariants as way;
-ghost use Rattle.xmcf_check.specs.Capped.{capped_chan, capped_end};
+ghost use Rattle.xmcf_check.specs.lemmas.Capped.{capped_chan, capped_end};
 ghost use Rattle.xmcf_check.specs.Described.{among, chan_with, chans_by, children, described_end, end_of_way, first_among, port_names, with_parent};
-ghost use Rattle.xmcf_check.specs.Elements.{capped_carried, carried_of};
-ghost use Rattle.xmcf_check.specs.Families.{picked};
-ghost use Rattle.xmcf_check.specs.Numbers.{HasPortNumbers};
+ghost use Rattle.xmcf_check.specs.lemmas.ElementsTerms.{capped_carried};
+ghost use Rattle.xmcf_check.specs.Elements.{carried_of};
+ghost use Rattle.xmcf_check.specs.lemmas.Families.{picked};
+ghost use Rattle.xmcf_check.specs.lemmas.Numbers.{HasPortNumbers};
 
 use crate::elements::{Carried, byte, carried_of, item_byte};
 use crate::family::{is_child, within};
@@ -20,7 +21,7 @@ use xm_conf::{Chan, End, Name, Part, Way};
 use xmcf_reader::{Element, Entry};
 
 /// The end that a partition's number and a port's name denote, with both numbers capped.
-#[tactic(auto, unfolding(crate::specs::Described::described_end, crate::specs::Capped::capped_end))]
+#[tactic(auto, unfolding(crate::specs::Described::described_end, crate::specs::lemmas::Capped::capped_end))]
 fn end_named(
     parts: &[Part],
     numbers: &IndexMap<(usize, &[u8]), usize>,

@@ -4,7 +4,7 @@ ghost use Rattle.std.specs.Prelude.{◌≡◌, ◌<◌, ◌++◌, IfOk, OnOk, le
 ghost use Rattle.xmcf_reader.specs.Drafts.{IsDraft};
 ghost use Rattle.xmcf_check.specs.Described.{among, children, described_ids, plan_ids_with, plans_ids_of, with_parent};
 ghost use Rattle.xmcf_check.specs.Elements.{plan_id_of, slot_id_of};
-ghost use Rattle.xmcf_check.specs.Families.{picked};
+ghost use Rattle.xmcf_check.specs.lemmas.Families.{picked};
 
 use super::lists::{part_ids, processor_id, uart_ids};
 use crate::elements::{plan_id_of, slot_id_of};

@@ -4,7 +4,7 @@ ghost use Rattle.std.specs.Prelude.{◌≡◌, IfOk, unwrap_or};
 ghost use Rattle.xmcf_reader.specs.Drafts.{IsDraft};
 ghost use Rattle.xmcf_check.specs.Described.{among, first_among, hv_size_of, regions_of, system_name, uarts_of};
 ghost use Rattle.xm_base.specs.Options.{on};
-ghost use Rattle.xmcf_check.specs.Capped.{capped_link};
+ghost use Rattle.xmcf_check.specs.lemmas.Capped.{capped_link};
 ghost use Rattle.xmcf_check.specs.Elements.{link_element, part_id_of, processor_of, element_size, uart_id_of};
 
 use crate::elements::{link_of, part_id_of, processor_of, region_of, size_of, uart_id_of, uart_of};

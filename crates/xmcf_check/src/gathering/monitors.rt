@@ -4,7 +4,7 @@ ghost use Rattle.std.specs.Prelude.{◌≡◌, ◌<◌, ◌++◌, IfOk, OnOk, le
 ghost use Rattle.xmcf_reader.specs.Drafts.{IsDraft};
 ghost use Rattle.xmcf_check.specs.Described.{grandchildren, monitor_with, monitors_of};
 ghost use Rattle.xmcf_check.specs.Elements.{part_id_of};
-ghost use Rattle.xmcf_check.specs.Families.{picked};
+ghost use Rattle.xmcf_check.specs.lemmas.Families.{picked};
 
 use super::health::answers;
 use crate::elements::{given_of, part_id_of};

@@ -3,11 +3,11 @@
 ghost use Rattle.std.specs.Prelude.{◌≡◌, ◌<◌, ◌++◌, ◌∷◌, [], IfOk, OnOk, Some, length, map, slice_get};
 ghost use Rattle.xm_base.specs.Options.{on};
 ghost use Rattle.xmcf_reader.specs.Drafts.{IsDraft};
-ghost use Rattle.xmcf_check.specs.Capped.{capped, capped_part};
+ghost use Rattle.xmcf_check.specs.lemmas.Capped.{capped, capped_part};
 ghost use Rattle.xmcf_check.specs.Described.{children, grandchildren, number_named, part_with, parts_by};
 ghost use Rattle.xmcf_check.specs.Elements.{element_own};
-ghost use Rattle.xmcf_check.specs.Families.{picked};
-ghost use Rattle.xmcf_check.specs.Numbers.{HasFirsts};
+ghost use Rattle.xmcf_check.specs.lemmas.Families.{picked};
+ghost use Rattle.xmcf_check.specs.lemmas.Numbers.{HasFirsts};
 
 use super::health::table;
 use crate::elements::{Own, area_of, given_of, item_byte, mask_of, need_of, own_of, port_of};

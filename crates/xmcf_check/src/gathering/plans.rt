@@ -3,10 +3,10 @@
 ghost use Rattle.std.specs.Prelude.{◌≡◌, ◌<◌, ◌++◌, IfOk, OnOk, length, map, slice_get};
 ghost use Rattle.xm_base.specs.Options.{on};
 ghost use Rattle.xmcf_reader.specs.Drafts.{IsDraft};
-ghost use Rattle.xmcf_check.specs.Capped.{capped_plan, capped_slot};
+ghost use Rattle.xmcf_check.specs.lemmas.Capped.{capped_plan, capped_slot};
 ghost use Rattle.xmcf_check.specs.Described.{among, children, plan_of_children, plans_of, with_parent};
 ghost use Rattle.xmcf_check.specs.Elements.{element_frame, element_slot};
-ghost use Rattle.xmcf_check.specs.Families.{picked};
+ghost use Rattle.xmcf_check.specs.lemmas.Families.{picked};
 
 use crate::elements::{frame_of, slot_of};
 use crate::family::{is_child, within};

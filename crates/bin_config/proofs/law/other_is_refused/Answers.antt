@@ -1,4 +1,4 @@
-use Rattle.bin_config.specs.XmcLemmas.{other_refused}
+use Rattle.bin_config.specs.lemmas.XmcLemmas.{other_refused}
 use Rattle.bin_config.proofs.law.other_is_refused.Goals as goal
 
 pub returns : goal.returns

@@ -1,4 +1,4 @@
-use Rattle.bin_config.specs.XmcLemmas.{read_spelled}
+use Rattle.bin_config.specs.lemmas.XmcLemmas.{read_spelled}
 use Rattle.bin_config.proofs.law.read_is_spelled.Goals as goal
 
 pub returns : goal.returns

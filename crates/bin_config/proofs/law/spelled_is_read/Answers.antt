@@ -1,4 +1,4 @@
-use Rattle.bin_config.specs.XmcLemmas.{spelled_read}
+use Rattle.bin_config.specs.lemmas.XmcLemmas.{spelled_read}
 use Rattle.bin_config.proofs.law.spelled_is_read.Goals as goal
 
 pub returns : goal.returns

@@ -1,4 +1,4 @@
-use Rattle.bin_config.specs.XmcLemmas.{xmc_short}
+use Rattle.bin_config.specs.lemmas.XmcLemmas.{xmc_short}
 use Rattle.bin_config.proofs.law.spelling_is_short.Goals as goal
 
 pub returns : goal.returns

@@ -1,8 +1,9 @@
 use Rattle.std.proofs.Common.{◌≡◌, ◌-◌}
 use Rattle.xm_base.specs.Cursor.{Place}
-use Rattle.file_headers.specs.Gives.{GivesAt}
+use Rattle.file_headers.specs.lemmas.GivesTerms.{GivesAt}
 use Rattle.bin_config.specs.Reading.{Read, elements_at}
-use Rattle.bin_config.specs.Gives.{Fails, with_front}
+use Rattle.bin_config.specs.Gives.{Fails}
+use Rattle.bin_config.specs.lemmas.GivesTerms.{with_front}
 use Rattle.bin_config.proofs.reading.each.Given as goal
 
 abbrev pub invariant-loop : goal.invariant-loop

@@ -1,6 +1,6 @@
 use Rattle.std.proofs.Common.{◌≡◌, ◌-◌, length, take}
 use Rattle.bin_config.specs.Reading as reading
-use Rattle.bin_config.specs.Gives.{with_front}
+use Rattle.bin_config.specs.lemmas.GivesTerms.{with_front}
 use Rattle.bin_config.proofs.reading.fill.Given as goal
 
 abbrev pub invariant-loop-n : goal.invariant-loop-n

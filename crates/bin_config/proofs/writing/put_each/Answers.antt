@@ -1,5 +1,5 @@
 use Rattle.std.proofs.Common.{refl, arith}
-use Rattle.bin_config.specs.Puts.{WasPut}
+use Rattle.bin_config.specs.lemmas.Puts.{WasPut}
 use Rattle.bin_config.proofs.PutsLemmas.{put_more, put_within}
 use Rattle.bin_config.proofs.writing.put_each.Goals as goal
 

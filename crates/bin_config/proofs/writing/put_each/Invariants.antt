@@ -1,7 +1,7 @@
 use Rattle.std.proofs.Common.{◌≡◌, ℕ, List, ◌++◌, drop}
 use Rattle.std.specs.Prelude.{flat_map}
 use Rattle.std.specs.List.{AllWithin}
-use Rattle.bin_config.specs.Puts.{Puts, WasPut}
+use Rattle.bin_config.specs.lemmas.Puts.{Puts, WasPut}
 use Rattle.bin_config.proofs.writing.put_each.Given as goal
 
 abbrev pub invariant-loop-element : goal.invariant-loop-element

@@ -1,6 +1,6 @@
 use Rattle.builders.specs.Parsing.{conf_of}
 use Rattle.builders.specs.Grouping.{groups_for, groups_of}
-use Rattle.builders.specs.ParsingLemmas.{unmade_of}
+use Rattle.builders.specs.lemmas.ParsingLemmas.{unmade_of}
 use Rattle.builders.proofs.grouping.groups.Goals as goal
 
 pub returns-in-Err : goal.returns-in-Err

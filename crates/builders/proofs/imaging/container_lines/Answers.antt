@@ -1,6 +1,6 @@
 use Rattle.std.proofs.Common.{refl}
 use Rattle.builders.specs.Imaging.{container_lines_of, container_lines_by}
-use Rattle.builders.specs.ImagingLemmas.{container_unmade}
+use Rattle.builders.specs.lemmas.ImagingLemmas.{container_unmade}
 use Rattle.builders.proofs.imaging.container_lines.Goals as goal
 
 pub returns : goal.returns

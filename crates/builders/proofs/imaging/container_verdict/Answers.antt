@@ -1,6 +1,6 @@
 use Rattle.std.proofs.Common.{refl}
 use Rattle.builders.specs.Imaging.{container_verdict_of, container_verdict_by}
-use Rattle.builders.specs.ImagingLemmas.{container_unmade}
+use Rattle.builders.specs.lemmas.ImagingLemmas.{container_unmade}
 use Rattle.builders.proofs.imaging.container_verdict.Goals as goal
 
 pub returns-in-Err : goal.returns-in-Err

@@ -1,5 +1,5 @@
 use Rattle.builders.specs.Imaging.{image_lines_of}
-use Rattle.builders.specs.ImagingLemmas.{image_unmade}
+use Rattle.builders.specs.lemmas.ImagingLemmas.{image_unmade}
 use Rattle.builders.proofs.imaging.image_lines.Goals as goal
 
 pub returns : goal.returns

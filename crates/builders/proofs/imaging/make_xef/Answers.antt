@@ -1,5 +1,5 @@
 use Rattle.builders.specs.Imaging.{xef_of}
-use Rattle.builders.specs.ImagingLemmas.{program_unmade}
+use Rattle.builders.specs.lemmas.ImagingLemmas.{program_unmade}
 use Rattle.builders.proofs.imaging.make_xef.Goals as goal
 
 pub returns : goal.returns

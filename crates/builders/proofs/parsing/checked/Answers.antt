@@ -1,4 +1,4 @@
-use Rattle.builders.specs.ParsingLemmas.{unfit_makes}
+use Rattle.builders.specs.lemmas.ParsingLemmas.{unfit_makes}
 use Rattle.builders.proofs.parsing.checked.Goals as goal
 
 pub returns-in-Err : goal.returns-in-Err

@@ -2,7 +2,7 @@ use Rattle.std.proofs.Common.{Ok}
 use Rattle.bin_config.specs.Xmc.{xmc}
 use Rattle.bin_config.specs.declared.version.Version.TheVariants.{Two}
 use Rattle.builders.specs.Parsing.{conf_of, xmc_of}
-use Rattle.builders.specs.ParsingLemmas.{unmade_of}
+use Rattle.builders.specs.lemmas.ParsingLemmas.{unmade_of}
 use Rattle.builders.proofs.parsing.make_xmc.Goals as goal
 
 pub returns : goal.returns

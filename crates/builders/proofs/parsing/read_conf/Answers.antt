@@ -1,4 +1,4 @@
-use Rattle.builders.specs.ParsingLemmas.{unread_makes}
+use Rattle.builders.specs.lemmas.ParsingLemmas.{unread_makes}
 use Rattle.builders.proofs.parsing.read_conf.Goals as goal
 
 pub returns-in-Err : goal.returns-in-Err

@@ -1,6 +1,6 @@
 use Rattle.builders.specs.Parsing.{conf_of}
 use Rattle.builders.specs.Planning.{plan_lines_for, plan_lines_of}
-use Rattle.builders.specs.ParsingLemmas.{unmade_of}
+use Rattle.builders.specs.lemmas.ParsingLemmas.{unmade_of}
 use Rattle.builders.proofs.planning.plan_lines.Goals as goal
 
 pub returns-in-Err : goal.returns-in-Err

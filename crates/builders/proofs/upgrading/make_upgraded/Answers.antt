@@ -1,5 +1,5 @@
 use Rattle.builders.specs.Parsing.{upgraded_of}
-use Rattle.builders.specs.ParsingLemmas.{configuration_unmade}
+use Rattle.builders.specs.lemmas.ParsingLemmas.{configuration_unmade}
 use Rattle.builders.proofs.upgrading.make_upgraded.Goals as goal
 
 pub returns-clause-exact : goal.returns-clause-exact

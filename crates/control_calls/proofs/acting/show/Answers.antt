@@ -1,4 +1,4 @@
-use Rattle.system_state.specs.ServedLemmas.{answered_set}
+use Rattle.system_state.specs.lemmas.ServedLemmas.{answered_set}
 use Rattle.control_calls.proofs.ActLemmas.{served_shown}
 use Rattle.control_calls.proofs.acting.show.Goals as goal
 

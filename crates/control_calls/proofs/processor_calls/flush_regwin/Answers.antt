@@ -1,7 +1,7 @@
 use Rattle.std.proofs.Common.{Ok, Err, refl}
 use Rattle.machine_model.specs.Caller.{answering}
 use Rattle.control_calls.proofs.ProcessorLemmas.{flush_answered, undone_changed}
-use Rattle.system_state.specs.ServedLemmas.{served_changed}
+use Rattle.system_state.specs.lemmas.ServedLemmas.{served_changed}
 use Rattle.system_state.specs.State.{areas_in, part_at}
 use Rattle.system_state.specs.Stepping.{after_flush, flushed_in}
 use Rattle.control_calls.proofs.processor_calls.flush_regwin.Goals as goal

@@ -1,6 +1,6 @@
 use Rattle.std.proofs.Common.{Ok, Err, subst}
 use Rattle.machine_model.specs.Caller.{answering, invalid_parameter}
-use Rattle.machine_model.specs.ProcessorCalls.{undone}
+use Rattle.machine_model.specs.OwnEffects.{undone}
 use Rattle.machine_model.specs.Emission.{Unseen}
 use Rattle.virt_traps.specs.declared.delivery.IretFault.TheVariants.{Stack, Unaligned}
 use Rattle.control_calls.proofs.ProcessorLemmas.{return_answered, return_made}

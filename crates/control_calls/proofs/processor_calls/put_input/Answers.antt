@@ -4,7 +4,7 @@ use Rattle.machine_model.specs.Caller.{answering, with_written}
 use Rattle.machine_model.specs.Partition.{PartitionState}
 use Rattle.machine_model.specs.Emission.{Unseen}
 use Rattle.control_calls.proofs.ProcessorLemmas.{words_stay}
-use Rattle.system_state.specs.ServedLemmas.{served_changed}
+use Rattle.system_state.specs.lemmas.ServedLemmas.{served_changed}
 use Rattle.system_state.specs.Serving.{IsServed, caller_of}
 use Rattle.system_state.specs.State.{input_words_of}
 use Rattle.control_calls.proofs.processor_calls.put_input.Goals as goal

@@ -1,5 +1,5 @@
 -- The element of the slice is the plan of the configuration.
-use Rattle.cyclic_plans.specs.PlanLemmas.{stands_at}
+use Rattle.cyclic_plans.specs.lemmas.PlanLemmas.{stands_at}
 use Rattle.cyclic_plans.proofs.clock.plan_of.Goals as goal
 
 pub returns : goal.returns

@@ -1,7 +1,7 @@
 use Rattle.std.proofs.Common.{ap, ◌∙◌}
 use Rattle.sparc_step.specs.Registers.{with_register}
-use Rattle.fast_loop.specs.Effects.{extended_by}
-use Rattle.predecode.specs.Kinds.{load_by_size}
+use Rattle.fast_loop.specs.lemmas.Effects.{extended_by}
+use Rattle.predecode.specs.lemmas.KindsTerms.{load_by_size}
 use Rattle.fast_loop.proofs.TransferLemmas.{load-IsTransferred, load_row}
 use Rattle.fast_loop.proofs.moving.load.Goals as goal
 

@@ -1,8 +1,8 @@
 use Rattle.std.proofs.Common.{refl, ◌∙◌}
 use Rattle.std.proofs.lemmas.Bool.{OnTrue_at, OnTrue_from}
 use Rattle.sparc_step.specs.Registers.{Registers, register_at}
-use Rattle.predecode.specs.Kinds.{store_by_size}
-use Rattle.fast_loop.specs.PlacedLemmas.{register_at-placed}
+use Rattle.predecode.specs.lemmas.KindsTerms.{store_by_size}
+use Rattle.fast_loop.specs.lemmas.PlacedLemmas.{register_at-placed}
 use Rattle.fast_loop.proofs.TransferLemmas.{store-IsTransferred, store_row}
 use Rattle.fast_loop.proofs.moving.store_register.Goals as goal
 

@@ -3,7 +3,7 @@ use Rattle.guest_bus.specs.Words.{word_address}
 use Rattle.fast_loop.proofs.ComingLemmas.{came_after_slot, came_after_slot_shifted}
 use Rattle.fast_loop.proofs.WordLemmas.{row_here}
 use Rattle.predecode.specs.Kept.{word_there}
-use Rattle.predecode.specs.KeptLemmas.{row_stands, row_used}
+use Rattle.predecode.specs.lemmas.KeptLemmas.{row_stands, row_used}
 use Rattle.fast_loop.proofs.one.after_slot.Goals as goal
 
 pub returns-in-Next-clause-came : goal.returns-in-Next-clause-came

@@ -2,7 +2,7 @@ use Rattle.guest_bus.specs.Words.{word_address}
 use Rattle.fast_loop.proofs.ComingLemmas.{came_call, came_gone, came_jump, came_next, came_shifted, came_turned}
 use Rattle.fast_loop.proofs.WordLemmas.{row_here}
 use Rattle.predecode.specs.Kept.{word_there}
-use Rattle.predecode.specs.KeptLemmas.{row_stands, row_used}
+use Rattle.predecode.specs.lemmas.KeptLemmas.{row_stands, row_used}
 use Rattle.fast_loop.proofs.one.one.Goals as goal
 
 pub returns-in-Next-clause-came : goal.returns-in-Next-clause-came

@@ -1,6 +1,6 @@
 use Rattle.std.proofs.Common.{ℕ, ◌<◌, refl, ap, ◌∙◌, subst, arith}
 use Rattle.sparc_step.specs.Registers.{register_at}
-use Rattle.fast_loop.specs.Effects.{worked_by_kind}
+use Rattle.fast_loop.specs.lemmas.Effects.{worked_by_kind}
 use Rattle.fast_loop.proofs.StepLemmas.{more_go}
 use Rattle.fast_loop.proofs.simple.more.Goals as goal
 

@@ -1,5 +1,5 @@
 use Rattle.std.proofs.Common.{◌++◌}
-use Rattle.xm_outside.specs.Growth.{writes_then}
+use Rattle.xm_outside.specs.lemmas.GrowthLemmas.{writes_then}
 use Rattle.file_commands.specs.Ending.{after_file}
 use Rattle.file_commands.proofs.complaint.name_text_line.Goals as goal
 

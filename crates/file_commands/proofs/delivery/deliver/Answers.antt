@@ -1,4 +1,4 @@
-use Rattle.file_commands.specs.CommandLemmas.{unmade_comes}
+use Rattle.file_commands.specs.lemmas.CommandLemmas.{unmade_comes}
 use Rattle.file_commands.proofs.delivery.deliver.Goals as goal
 
 pub returns-in-Ok : goal.returns-in-Ok

@@ -1,4 +1,4 @@
-use Rattle.file_commands.specs.CommandLemmas.{unmade_reports}
+use Rattle.file_commands.specs.lemmas.CommandLemmas.{unmade_reports}
 use Rattle.file_commands.proofs.delivery.print_made.Goals as goal
 
 pub returns-in-Ok : goal.returns-in-Ok

@@ -1,7 +1,7 @@
 use Rattle.std.proofs.Common.{refl}
 use Rattle.command_line.specs.Words.{BuildImage}
 use Rattle.builders.specs.Imaging.{xef_of}
-use Rattle.file_commands.specs.CommandLemmas.{one-long, one-short, refused_comes}
+use Rattle.file_commands.specs.lemmas.CommandLemmas.{one-long, one-short, refused_comes}
 use Rattle.file_commands.proofs.imaging.build_bytes.Goals as goal
 
 pub returns-then-bytes-gt-FILE_BYTES : goal.returns-then-bytes-gt-FILE_BYTES

@@ -2,10 +2,11 @@ use Rattle.std.proofs.Common.{◌∷◌, map, drop}
 use Rattle.command_line.specs.Seen.{seen_files}
 use Rattle.command_line.specs.Words.{Pack}
 use Rattle.file_commands.specs.Outcome.{content, first_long}
-use Rattle.file_commands.specs.Packing.{container_of, limited, file_names}
+use Rattle.file_commands.specs.Packing.{container_of, file_names}
+use Rattle.file_commands.specs.lemmas.PackingTerms.{limited}
 use Rattle.file_commands.specs.EndingValues.{vector_bytes, ending_of}
 use Rattle.file_commands.proofs.PackingLemmas.{comes_packed}
-use Rattle.file_commands.specs.CommandLemmas.{done_by, not_all_read_done}
+use Rattle.file_commands.specs.lemmas.CommandLemmas.{done_by, not_all_read_done}
 use Rattle.file_commands.proofs.packing.pack_files.Goals as goal
 
 pub returns-in-Ok : goal.returns-in-Ok

@@ -1,7 +1,7 @@
 use Rattle.std.proofs.Common.{refl}
 use Rattle.command_line.specs.Words.{Parse}
 use Rattle.builders.specs.Parsing.{xmc_of}
-use Rattle.file_commands.specs.CommandLemmas.{one-long, one-short, refused_comes}
+use Rattle.file_commands.specs.lemmas.CommandLemmas.{one-long, one-short, refused_comes}
 use Rattle.file_commands.proofs.parsing.parse_text.Goals as goal
 
 pub returns-then-text-gt-FILE_BYTES : goal.returns-then-text-gt-FILE_BYTES

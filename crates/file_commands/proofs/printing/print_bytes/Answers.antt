@@ -1,7 +1,7 @@
 use Rattle.builders.specs.Printout.{printout_text}
 use Rattle.file_commands.specs.Printout.{command_printing}
 use Rattle.file_commands.proofs.PrintingLemmas.{one_printed, printed_so}
-use Rattle.file_commands.specs.CommandLemmas.{one-long, one-short, refused_reports}
+use Rattle.file_commands.specs.lemmas.CommandLemmas.{one-long, one-short, refused_reports}
 use Rattle.file_commands.proofs.printing.print_bytes.Goals as goal
 
 pub returns-then-bytes-gt-FILE_BYTES : goal.returns-then-bytes-gt-FILE_BYTES

@@ -3,8 +3,8 @@ use Rattle.file_commands.specs.Outcome.{outcome_of}
 use Rattle.file_commands.specs.Printout.{command_printing}
 use Rattle.file_commands.specs.EndingValues.{ending_of}
 use Rattle.file_commands.proofs.PrintingLemmas.{none_later, none_written, one_printed}
-use Rattle.file_commands.specs.CommandLemmas.{comes_by_report, comes_from, done_by_one, no-writes, not_read_done}
-use Rattle.file_commands.specs.LaterLemmas.{no-later}
+use Rattle.file_commands.specs.lemmas.CommandLemmas.{comes_by_report, comes_from, done_by_one, no-writes, not_read_done}
+use Rattle.file_commands.specs.lemmas.LaterLemmas.{no-later}
 use Rattle.file_commands.proofs.printing.print_file.Goals as goal
 
 pub returns-in-Ok : goal.returns-in-Ok

@@ -1,7 +1,7 @@
 use Rattle.std.proofs.Common.{map, ap, ◌∙◌, arith}
 use Rattle.std.proofs.lemmas.List.{drop_all}
 use Rattle.file_commands.specs.EndingValues.{vector_bytes}
-use Rattle.file_commands.specs.CommandLemmas.{none_long}
+use Rattle.file_commands.specs.lemmas.CommandLemmas.{none_long}
 use Rattle.file_commands.proofs.reading.first_long_for_parts.Goals as goal
 
 pub returns : goal.returns

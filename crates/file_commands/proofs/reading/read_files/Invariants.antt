@@ -5,7 +5,7 @@ use Rattle.command_line.specs.Seen.{seen_files}
 use Rattle.file_commands.specs.Packing.{file_names}
 use Rattle.file_commands.specs.EndingValues.{vector_bytes}
 use Rattle.file_commands.specs.Work.{outside}
-use Rattle.file_commands.specs.Read.{HasRead}
+use Rattle.file_commands.specs.lemmas.Read.{HasRead}
 use Rattle.file_commands.proofs.reading.read_files.Given as goal
 
 abbrev pub invariant-loop-bytes : goal.invariant-loop-bytes

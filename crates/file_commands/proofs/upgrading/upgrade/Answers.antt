@@ -2,7 +2,7 @@ use Rattle.std.proofs.Common.{[], ◌∷◌, refl}
 use Rattle.command_line.specs.Words.{Upgrade}
 use Rattle.file_commands.specs.Outcome.{outcome_of}
 use Rattle.file_commands.specs.EndingValues.{ending_of}
-use Rattle.file_commands.specs.CommandLemmas.{comes_from, done_by_one, not_read_done}
+use Rattle.file_commands.specs.lemmas.CommandLemmas.{comes_from, done_by_one, not_read_done}
 use Rattle.file_commands.proofs.upgrading.upgrade.Goals as goal
 
 pub returns-in-Ok : goal.returns-in-Ok

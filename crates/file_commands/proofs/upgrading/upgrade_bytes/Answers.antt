@@ -1,7 +1,7 @@
 use Rattle.std.proofs.Common.{refl}
 use Rattle.command_line.specs.Words.{Upgrade}
 use Rattle.builders.specs.Parsing.{upgraded_of}
-use Rattle.file_commands.specs.CommandLemmas.{one-long, one-short, refused_comes}
+use Rattle.file_commands.specs.lemmas.CommandLemmas.{one-long, one-short, refused_comes}
 use Rattle.file_commands.proofs.upgrading.upgrade_bytes.Goals as goal
 
 pub returns-then-bytes-gt-FILE_BYTES : goal.returns-then-bytes-gt-FILE_BYTES

@@ -1,6 +1,6 @@
 use Rattle.std.proofs.Common.{sym, subst}
 use Rattle.machine_model.specs.Machine.{Machine}
-use Rattle.generated_runs.specs.Short.{AreShort}
+use Rattle.generated_runs.specs.lemmas.Short.{AreShort}
 use Rattle.generated_runs.proofs.CountLemmas.{are_short}
 use Rattle.generated_runs.proofs.counting.exec_in.Goals as goal
 

@@ -1,7 +1,7 @@
 use Rattle.std.proofs.Common.{ℕ, ◌*◌, refl, ap, ◌∙◌, arith, length}
 use Rattle.std.specs.Int.{to_be_bytes, w32}
 use Rattle.std.specs.Prelude.{slice_index}
-use Rattle.guest_bus.specs.AccessLemmas.{length-bytes_high_first}
+use Rattle.guest_bus.specs.lemmas.AccessLemmas.{length-bytes_high_first}
 use Rattle.guest_bus.specs.Words.{bytes_of}
 use Rattle.guest_memory.proofs.FlatLemmas.{length-put_mid}
 use Rattle.guest_memory.proofs.SixteenLemmas.{word_put}

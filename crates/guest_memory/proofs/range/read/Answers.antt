@@ -1,6 +1,6 @@
 use Rattle.std.proofs.Common.{◌+◌, length, arith}
 use Rattle.guest_bus.specs.Memory.{is_readable}
-use Rattle.guest_bus.specs.MemoryLemmas.{all_from-each}
+use Rattle.guest_bus.specs.lemmas.MemoryLemmas.{all_from-each}
 use Rattle.guest_memory.specs.Flat.{listed, memory_in}
 use Rattle.guest_memory.proofs.RangeLemmas.{read_more}
 use Rattle.guest_memory.proofs.range.read.Goals as goal

@@ -1,6 +1,6 @@
 use Rattle.std.proofs.Common.{◌∙◌, arith}
 use Rattle.guest_memory.specs.Flat.{listed}
-use Rattle.guest_memory.specs.Memories.{allows_byte}
+use Rattle.guest_memory.specs.lemmas.MemoriesTerms.{allows_byte}
 use Rattle.guest_memory.proofs.RangeLemmas.{all_from-front, first_refused-on}
 use Rattle.guest_memory.proofs.range.refused.Goals as goal
 

@@ -1,6 +1,7 @@
 use Rattle.std.proofs.Common.{◌≡◌, ◌+◌, ◌≤◌, ◌^◌}
 use Rattle.guest_memory.specs.Flat.{listed}
-use Rattle.guest_memory.specs.Memories.{allows_byte, first_refused}
+use Rattle.guest_memory.specs.lemmas.MemoriesTerms.{allows_byte}
+use Rattle.guest_memory.specs.Memories.{first_refused}
 use Rattle.guest_memory.proofs.range.refused.Given as goal
 
 abbrev pub invariant-loop-left : goal.invariant-loop-left

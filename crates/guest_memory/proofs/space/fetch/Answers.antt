@@ -1,5 +1,5 @@
 use Rattle.std.proofs.Common.{sym}
-use Rattle.guest_bus.specs.AccessLemmas.{fetched_refused}
+use Rattle.guest_bus.specs.lemmas.AccessLemmas.{fetched_refused}
 use Rattle.guest_memory.proofs.AccessLemmas.{bytes_within, fetched_in}
 use Rattle.guest_memory.proofs.space.fetch.Goals as goal
 

@@ -1,7 +1,7 @@
 use Rattle.std.proofs.Common.{sym}
 use Rattle.std.specs.Int.{byte_len}
 use Rattle.guest_bus.specs.Access.{width_of}
-use Rattle.guest_bus.specs.AccessLemmas.{loaded_refused}
+use Rattle.guest_bus.specs.lemmas.AccessLemmas.{loaded_refused}
 use Rattle.guest_memory.proofs.AccessLemmas.{bytes_within, loaded_in}
 use Rattle.guest_memory.proofs.space.load.Goals as goal
 

@@ -1,4 +1,4 @@
-use Rattle.guest_memory.specs.LoadingLemmas.{image_lies}
+use Rattle.guest_memory.specs.lemmas.LoadingLemmas.{image_lies}
 use Rattle.guest_memory.proofs.tests.reload.Goals as goal
 
 pub reload-requires-clause-inside : goal.reload-requires-clause-inside

@@ -1,4 +1,4 @@
-use Rattle.tick_steps.specs.ReachLemmas.{other_left, other_reach, own_obeyed, own_reach}
+use Rattle.tick_steps.specs.lemmas.ReachLemmas.{other_left, other_reach, own_obeyed, own_reach}
 use Rattle.hypercalls.proofs.calling.give_order.Goals as goal
 
 pub returns-then-id-p-clause-done : goal.returns-then-id-p-clause-done

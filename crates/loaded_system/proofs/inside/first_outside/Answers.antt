@@ -4,7 +4,7 @@ use Rattle.std.proofs.lemmas.List.{take_all}
 use Rattle.std.proofs.lemmas.List.Elements.{All-more}
 use Rattle.xef_images.specs.Image.{Image, IsImage}
 use Rattle.loaded_system.specs.Inside.{first_outside}
-use Rattle.loaded_system.specs.InsideLemmas.{outside_on, outside_here, outside_done}
+use Rattle.loaded_system.specs.lemmas.InsideLemmas.{outside_on, outside_here, outside_done}
 use Rattle.loaded_system.proofs.inside.first_outside.Goals as goal
 
 pub returns-in-Some-clause-value : goal.returns-in-Some-clause-value

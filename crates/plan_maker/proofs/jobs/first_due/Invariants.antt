@@ -1,6 +1,6 @@
 -- The first of the jobs so far, and those that follow.
 use Rattle.std.proofs.Common.{◌≡◌, None, drop, fold}
-use Rattle.plan_maker.specs.Turns.{sooner_due}
+use Rattle.plan_maker.specs.lemmas.Turns.{sooner_due}
 use Rattle.plan_maker.proofs.jobs.first_due.Given as goal
 
 abbrev pub invariant-loop-job : goal.invariant-loop-job

@@ -1,6 +1,6 @@
 -- One more job is changed.
 use Rattle.std.proofs.Common.{arith}
-use Rattle.plan_maker.specs.Turns.{renewed}
+use Rattle.plan_maker.specs.lemmas.Turns.{renewed}
 use Rattle.plan_maker.proofs.EachLemmas.{pass_more}
 use Rattle.plan_maker.proofs.jobs.renew.Goals as goal
 

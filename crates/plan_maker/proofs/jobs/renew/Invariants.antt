@@ -1,6 +1,6 @@
 -- The jobs so far are those of the tick.
 use Rattle.std.proofs.Common.{◌≡◌, ◌++◌, drop, map, take}
-use Rattle.plan_maker.specs.Turns.{renewed}
+use Rattle.plan_maker.specs.lemmas.Turns.{renewed}
 use Rattle.plan_maker.proofs.jobs.renew.Given as goal
 
 abbrev pub invariant-loop-job : goal.invariant-loop-job

@@ -1,6 +1,6 @@
 -- No job so far is of the partition.
 use Rattle.std.proofs.Common.{◌≡◌, ◌++◌, drop, take}
-use Rattle.plan_maker.specs.Turns.{spent_first}
+use Rattle.plan_maker.specs.lemmas.Turns.{spent_first}
 use Rattle.plan_maker.proofs.jobs.spend.Given as goal
 
 abbrev pub invariant-loop-job : goal.invariant-loop-job

@@ -2,7 +2,7 @@
 use Rattle.std.proofs.Common.{◌-◌, ◌<◌, ◌≤◌, List, length, ap, sym, ◌∙◌, subst, arith}
 use Rattle.xm_conf.specs.declared.plan.Slot.{Slot}
 use Rattle.plan_maker.specs.Course.{Course, slots_so_far}
-use Rattle.plan_maker.specs.Turns.{IsMoment, Moment}
+use Rattle.plan_maker.specs.lemmas.Turns.{IsMoment, Moment}
 use Rattle.plan_maker.proofs.TurnLemmas.{begun_moment, frame_done, frame_few, moment_going, turned_next}
 use Rattle.plan_maker.proofs.making.frame_slots.Goals as goal
 

@@ -1,6 +1,6 @@
 -- The plan so far is that of its tick.
 use Rattle.std.proofs.Common.{◌-◌, ◌≤◌}
-use Rattle.plan_maker.specs.Turns.{IsMoment}
+use Rattle.plan_maker.specs.lemmas.Turns.{IsMoment}
 use Rattle.plan_maker.proofs.making.frame_slots.Given as goal
 
 abbrev pub invariant-loop-moment : goal.invariant-loop-moment

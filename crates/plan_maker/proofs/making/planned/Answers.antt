@@ -1,5 +1,5 @@
 -- Each requirement is possible.
-use Rattle.plan_maker.specs.Needed.{IsPossible}
+use Rattle.plan_maker.specs.lemmas.NeededTerms.{IsPossible}
 use Rattle.plan_maker.proofs.EachLemmas.{all_from_each}
 use Rattle.plan_maker.proofs.ServedLemmas.{each_possible}
 use Rattle.plan_maker.proofs.making.planned.Goals as goal

@@ -1,7 +1,7 @@
 -- What is lacking shows whether the time in the window is too little.
 use Rattle.std.proofs.Common.{◌≡◌, ◌+◌, ◌-◌, ◌*◌, List, sum_by, ap, ◌∙◌, rules}
 use Rattle.xm_conf.specs.declared.plan.Slot.{Slot}
-use Rattle.plan_maker.specs.Served.{shared}
+use Rattle.plan_maker.specs.lemmas.ServedTerms.{shared}
 use Rattle.plan_maker.proofs.SharedLemmas.{lacks_window}
 use Rattle.plan_maker.proofs.meeting.lacks.Goals as goal
 

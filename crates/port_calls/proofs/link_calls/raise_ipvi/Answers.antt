@@ -3,7 +3,7 @@ use Rattle.xm_conf.specs.Configuration.{Conf}
 use Rattle.xm_conf.specs.View.{link_of}
 use Rattle.machine_model.specs.Caller.{a_of}
 use Rattle.system_state.specs.Serving.{caller_of}
-use Rattle.system_state.specs.ServedLemmas.{served_as}
+use Rattle.system_state.specs.lemmas.ServedLemmas.{served_as}
 use Rattle.port_calls.proofs.LinkCallLemmas.{is_refused}
 use Rattle.port_calls.proofs.link_calls.raise_ipvi.Goals as goal
 

@@ -5,7 +5,7 @@ use Rattle.xm_conf.specs.Configuration.{Conf}
 use Rattle.xm_conf.specs.Description.{described}
 use Rattle.xm_conf.specs.Fits.{Fits}
 use Rattle.machine_model.specs.Lists.{and_then}
-use Rattle.port_calls.specs.MadePorts.{HasKind, found_in, port_in}
+use Rattle.port_calls.specs.lemmas.MadePortsTerms.{HasKind, found_in, port_in}
 use Rattle.system_state.specs.Serving.{caller_of}
 use Rattle.port_calls.proofs.MadePortLemmas.{AtPort, chan_held, kind_found, made_found, none_found, port_found, port_made, table_is}
 use Rattle.port_calls.proofs.made_ports.made_port.Goals as goal

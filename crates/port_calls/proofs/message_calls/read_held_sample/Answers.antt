@@ -1,8 +1,8 @@
 use Rattle.std.proofs.Common.{ap, refl, sym}
-use Rattle.machine_model.specs.PortCalls.{held_read}
-use Rattle.port_calls.specs.MadePorts.{port_in}
+use Rattle.machine_model.specs.PortEffects.{held_read}
+use Rattle.port_calls.specs.lemmas.MadePortsTerms.{port_in}
 use Rattle.system_state.specs.Serving.{caller_of}
-use Rattle.system_state.specs.ServedLemmas.{served_as}
+use Rattle.system_state.specs.lemmas.ServedLemmas.{served_as}
 use Rattle.port_calls.proofs.message_calls.read_held_sample.Goals as goal
 
 pub returns-in_default : goal.returns-in_default

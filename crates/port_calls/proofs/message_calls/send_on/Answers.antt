@@ -1,8 +1,8 @@
 use Rattle.std.proofs.Common.{refl, sym, ◌∙◌}
-use Rattle.port_calls.specs.MadePorts.{port_in}
+use Rattle.port_calls.specs.lemmas.MadePortsTerms.{port_in}
 use Rattle.system_state.specs.Serving.{caller_of}
 use Rattle.port_calls.proofs.MessageLemmas.{put_few, put_full, put_passed, put_refused, room_for}
-use Rattle.system_state.specs.ServedLemmas.{served_as}
+use Rattle.system_state.specs.lemmas.ServedLemmas.{served_as}
 use Rattle.port_calls.proofs.message_calls.send_on.Goals as goal
 
 pub returns-in-Some : goal.returns-in-Some

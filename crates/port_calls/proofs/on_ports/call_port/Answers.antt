@@ -1,8 +1,8 @@
 use Rattle.std.proofs.Common.{refl}
-use Rattle.port_calls.specs.MadePorts.{port_in}
+use Rattle.port_calls.specs.lemmas.MadePortsTerms.{port_in}
 use Rattle.port_calls.specs.declared.on_ports.PortWork.TheVariants as work
 use Rattle.system_state.specs.Serving.{caller_of}
-use Rattle.system_state.specs.ServedLemmas.{served_as}
+use Rattle.system_state.specs.lemmas.ServedLemmas.{served_as}
 use Rattle.port_calls.proofs.OnPortLemmas.{call_made, call_unmade}
 use Rattle.port_calls.proofs.on_ports.call_port.Goals as goal
 

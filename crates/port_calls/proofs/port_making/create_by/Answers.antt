@@ -1,8 +1,8 @@
 use Rattle.std.proofs.Common.{◌∙◌, ap, subst, length, Option, List, ℕ}
 use Rattle.machine_model.specs.Caller.{caller_bytes}
-use Rattle.machine_model.specs.PortCalls.{creating}
+use Rattle.machine_model.specs.PortEffects.{creating}
 use Rattle.machine_model.specs.Emission.{Unseen}
-use Rattle.port_calls.specs.PortNames.{name_in}
+use Rattle.port_calls.specs.lemmas.PortNamesTerms.{name_in}
 use Rattle.system_state.specs.Serving.{IsServed, caller_of}
 use Rattle.port_calls.proofs.PortMakingLemmas.{name_read}
 use Rattle.port_calls.proofs.port_making.create_by.Goals as goal

@@ -3,12 +3,12 @@ use Rattle.std.specs.Prelude.{Result}
 use Rattle.xm_ports.specs.Ports.{with_port}
 use Rattle.xm_ports.specs.declared.ports.CreateFault.{CreateFault}
 use Rattle.machine_model.specs.Caller.{answering}
-use Rattle.machine_model.specs.PortCalls.{by_created}
+use Rattle.machine_model.specs.PortEffects.{by_created}
 use Rattle.machine_model.specs.Emission.{Unseen}
 use Rattle.system_state.specs.Serving.{IsServed, caller_of}
 use Rattle.system_state.specs.State.{SysState, part_at}
 use Rattle.port_calls.proofs.PortMakingLemmas.{created_seen}
-use Rattle.system_state.specs.ServedLemmas.{served_changed}
+use Rattle.system_state.specs.lemmas.ServedLemmas.{served_changed}
 use Rattle.port_calls.proofs.port_making.create_named.Goals as goal
 
 pub returns-in-Ok : goal.returns-in-Ok

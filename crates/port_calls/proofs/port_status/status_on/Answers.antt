@@ -1,8 +1,8 @@
 use Rattle.std.proofs.Common.{◌≡◌, length, ap, refl, ◌∙◌}
-use Rattle.port_calls.specs.MadePorts.{port_in}
-use Rattle.port_calls.specs.OnPorts.{status_bytes}
+use Rattle.port_calls.specs.lemmas.MadePortsTerms.{port_in}
+use Rattle.port_calls.specs.lemmas.OnPortsTerms.{status_bytes}
 use Rattle.system_state.specs.Serving.{caller_of}
-use Rattle.system_state.specs.ServedLemmas.{served_as}
+use Rattle.system_state.specs.lemmas.ServedLemmas.{served_as}
 use Rattle.port_calls.proofs.PortStatusLemmas.{status_given, status_written}
 use Rattle.port_calls.proofs.port_status.status_on.Goals as goal
 

@@ -1,6 +1,6 @@
 use Rattle.std.proofs.Common.{◌≡◌, drop}
 use Rattle.system_state.specs.State.{part_at}
-use Rattle.port_calls.specs.Traffic.{hears_from, is_on}
+use Rattle.port_calls.specs.lemmas.Traffic.{hears_from, is_on}
 use Rattle.port_calls.proofs.traffic.one_hears.Given as goal
 
 abbrev pub invariant-loop-r : goal.invariant-loop-r

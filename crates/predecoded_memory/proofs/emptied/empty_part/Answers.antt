@@ -1,5 +1,5 @@
 use Rattle.std.proofs.Common.{◌≡◌, ℕ, ◌+◌, ◌-◌, arith, subst}
-use Rattle.predecoded_memory.specs.Shares.{AreEmptied}
+use Rattle.predecoded_memory.specs.lemmas.SharesTerms.{AreEmptied}
 use Rattle.predecoded_memory.proofs.emptied.empty_part.Goals as goal
 
 pub returns : goal.returns

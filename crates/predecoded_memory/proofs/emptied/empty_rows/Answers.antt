@@ -1,5 +1,5 @@
 use Rattle.std.proofs.Common.{◌+◌, ◌<◌, List, length, arith, subst, sym}
-use Rattle.predecoded_memory.specs.Shares.{AreEmptied}
+use Rattle.predecoded_memory.specs.lemmas.SharesTerms.{AreEmptied}
 use Rattle.predecoded_memory.proofs.EmptiedLemmas.{more_emptied, one_emptied}
 use Rattle.predecode.specs.declared.rows.Row.{Row}
 use Rattle.predecoded_memory.proofs.emptied.empty_rows.Goals as goal

@@ -1,5 +1,5 @@
 use Rattle.std.proofs.Common.{◌-◌, ◌+◌, ◌≤◌}
-use Rattle.predecoded_memory.specs.Shares.{AreEmptied}
+use Rattle.predecoded_memory.specs.lemmas.SharesTerms.{AreEmptied}
 use Rattle.predecoded_memory.proofs.emptied.empty_rows.Given as goal
 
 abbrev pub invariant-loop-done : goal.invariant-loop-done

@@ -1,6 +1,6 @@
 use Rattle.std.proofs.Common.{Option, arith, subst}
 use Rattle.cue_scripts.specs.Values.{event_value}
-use Rattle.replay_tick.specs.LoneSpan.{HasWorked}
+use Rattle.replay_tick.specs.lemmas.LoneSpanTerms.{HasWorked}
 use Rattle.replay_tick.specs.declared.work.LoneWork.{LoneWork}
 use Rattle.replay_tick.proofs.SpanEndLemmas.{work_ended, work_missed}
 use Rattle.replay_tick.proofs.span.end_work.Goals as goal

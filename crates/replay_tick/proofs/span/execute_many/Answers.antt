@@ -1,7 +1,7 @@
 use Rattle.std.proofs.Common.{List, [], refl, subst, sym, true}
 use Rattle.xm_report.specs.Report.{ReportLine}
 use Rattle.sparc_step.specs.declared.outcome.Turn.TheVariants.{Call, Trap}
-use Rattle.replay_tick.specs.LoneSpan.{DoesSpan}
+use Rattle.replay_tick.specs.lemmas.LoneSpanTerms.{DoesSpan}
 use Rattle.replay_tick.specs.declared.span.LoneSpan.{LoneSpan}
 use Rattle.replay_tick.proofs.SpanEndLemmas.{call_serves, turned_takes}
 use Rattle.replay_tick.proofs.SpanLemmas.{steps_few, steps_room, steps_span, steps_turned, went_span}

@@ -1,5 +1,5 @@
 use Rattle.std.proofs.Common.{[], arith, subst, sym, true}
-use Rattle.replay_tick.specs.LoneSpan.{DoesSpan}
+use Rattle.replay_tick.specs.lemmas.LoneSpanTerms.{DoesSpan}
 use Rattle.replay_tick.specs.declared.span.LoneSpan.{LoneSpan}
 use Rattle.replay_tick.proofs.SpanLemmas.{resting_span}
 use Rattle.replay_tick.proofs.span.rest_in_slots.Goals as goal

@@ -4,7 +4,7 @@ use Rattle.cyclic_plans.specs.PlanClock.{ended}
 use Rattle.machine_model.specs.Machine.{booted_part}
 use Rattle.machine_model.specs.Partition.{PartitionState}
 use Rattle.system_state.specs.State.{with_machine}
-use Rattle.replay_tick.specs.LoneSpan.{DoesSpan, NoneDueAfter}
+use Rattle.replay_tick.specs.lemmas.LoneSpanTerms.{DoesSpan, NoneDueAfter}
 use Rattle.span_model.specs.Passes.{part_at}
 use Rattle.replay_tick.specs.declared.span.LoneSpan.{LoneSpan}
 use Rattle.replay_tick.proofs.SpanLemmas.{idle_span}

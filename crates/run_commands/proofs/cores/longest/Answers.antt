@@ -1,5 +1,5 @@
 use Rattle.std.proofs.Common.{arith}
-use Rattle.run_commands.specs.CoreLemmas.{fits_more, fits_none, inside_next}
+use Rattle.run_commands.specs.lemmas.CoreLemmas.{fits_more, fits_none, inside_next}
 use Rattle.run_commands.proofs.cores.longest.Goals as goal
 
 pub core_length-requires : goal.core_length-requires

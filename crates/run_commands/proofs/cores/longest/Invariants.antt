@@ -1,6 +1,6 @@
 use Rattle.std.proofs.Common.{ℕ, ◌≤◌, length}
 use Rattle.command_line.specs.Seen.{seen_files}
-use Rattle.run_commands.specs.Cores.{AreForPartitions, FitInto}
+use Rattle.run_commands.specs.lemmas.Cores.{AreForPartitions, FitInto}
 use Rattle.run_commands.proofs.cores.longest.Given as goal
 
 abbrev pub invariant-loop-first : goal.invariant-loop-first

@@ -1,7 +1,7 @@
 use Rattle.std.proofs.Common.{Some, None}
 use Rattle.command_line.specs.Seen.{seen_file, seen_files}
 use Rattle.file_commands.specs.Work.{outside}
-use Rattle.run_commands.specs.CoreLemmas.{fits_next, inside_next, lost_next, saves_next, saves_none}
+use Rattle.run_commands.specs.lemmas.CoreLemmas.{fits_next, inside_next, lost_next, saves_next, saves_none}
 use Rattle.run_commands.proofs.cores.write_cores.Goals as goal
 
 pub write_core-requires-clause-inside : goal.write_core-requires-clause-inside

@@ -1,6 +1,6 @@
 use Rattle.std.proofs.Common.{ℕ, List, Option, length}
 use Rattle.command_line.specs.Seen.{seen_files}
-use Rattle.run_commands.specs.Cores.{AreForPartitions, FitInto}
+use Rattle.run_commands.specs.lemmas.Cores.{AreForPartitions, FitInto}
 use Rattle.file_commands.specs.Outcome.{core_outputs}
 use Rattle.file_commands.specs.Work.{Outside, SavesAll, outside}
 use Rattle.run_commands.proofs.cores.write_cores.Given as goal

@@ -1,5 +1,5 @@
 use Rattle.command_line.specs.Seen.{seen_file}
-use Rattle.run_commands.specs.InputLemmas.{words_given}
+use Rattle.run_commands.specs.lemmas.InputLemmas.{words_given}
 use Rattle.run_commands.proofs.inputs.give.Goals as goal
 
 pub returns-in-Ok-clause-given : goal.returns-in-Ok-clause-given

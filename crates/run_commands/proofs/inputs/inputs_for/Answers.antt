@@ -1,6 +1,6 @@
 use Rattle.std.proofs.Common.{sym}
 use Rattle.command_line.specs.Seen.{seen_options}
-use Rattle.run_commands.specs.CoreLemmas.{always_ok, cores_inside, inputs_inside, scripts_inside}
+use Rattle.run_commands.specs.lemmas.CoreLemmas.{always_ok, cores_inside, inputs_inside, scripts_inside}
 use Rattle.run_commands.proofs.inputs.inputs_for.Goals as goal
 
 pub read_inputs-requires-clause-inside : goal.read_inputs-requires-clause-inside

@@ -1,7 +1,7 @@
 use Rattle.std.proofs.Common.{map, ap, sym, ◌∙◌, arith}
 use Rattle.std.proofs.lemmas.List.{drop_all}
 use Rattle.file_commands.specs.EndingValues.{vector_bytes}
-use Rattle.run_commands.specs.InputLemmas.{no_more_inputs}
+use Rattle.run_commands.specs.lemmas.InputLemmas.{no_more_inputs}
 use Rattle.run_commands.proofs.inputs.read_inputs.Goals as goal
 
 pub returns-clause-value : goal.returns-clause-value

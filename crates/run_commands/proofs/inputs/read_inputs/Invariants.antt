@@ -1,6 +1,6 @@
 use Rattle.std.proofs.Common.{◌≡◌, map, drop, length, None}
 use Rattle.command_line.specs.Seen.{seen_files}
-use Rattle.run_commands.specs.Cores.{AreForPartitions}
+use Rattle.run_commands.specs.lemmas.Cores.{AreForPartitions}
 use Rattle.file_commands.specs.Inputs.{inputs_with, no_inputs}
 use Rattle.file_commands.specs.Outcome.{first_long}
 use Rattle.file_commands.specs.Packing.{file_names}

@@ -1,7 +1,7 @@
 use Rattle.std.proofs.Common.{map}
 use Rattle.command_line.specs.Seen.{seen_files}
 use Rattle.file_commands.specs.Outcome.{core_outputs}
-use Rattle.run_commands.specs.Scripts.{made_output}
+use Rattle.run_commands.specs.lemmas.Scripts.{made_output}
 use Rattle.file_commands.specs.EndingValues.{ending_of}
 use Rattle.run_commands.proofs.ScriptLemmas.{not_saved_before, saved_after}
 use Rattle.run_commands.proofs.later.write_later.Goals as goal

@@ -1,7 +1,7 @@
 -- A configuration has a plan.
 use Rattle.std.proofs.Common.{ap, arith, sym, ◌∙◌}
 use Rattle.xm_conf.specs.Configuration.{Plan}
-use Rattle.cyclic_plans.specs.PlanLemmas.{stands_at}
+use Rattle.cyclic_plans.specs.lemmas.PlanLemmas.{stands_at}
 use Rattle.run_commands.proofs.WorkLemmas.{has_plan}
 use Rattle.run_commands.proofs.readiness.first_frame.Goals as goal
 

@@ -3,7 +3,7 @@ use Rattle.xm_base.specs.declared.limits.TheConstants.{IMAGE_BYTES}
 use Rattle.command_line.specs.Words.{Bare}
 use Rattle.file_commands.specs.Ending.{length_text}
 use Rattle.file_commands.specs.Outcome.{Outcome, command_refused}
-use Rattle.file_commands.specs.CommandLemmas.{one-long, refused_comes}
+use Rattle.file_commands.specs.lemmas.CommandLemmas.{one-long, refused_comes}
 use Rattle.run_commands.proofs.WorkLemmas.{outcome-length, outcome-image}
 use Rattle.run_commands.proofs.running.run_bytes.Goals as goal
 

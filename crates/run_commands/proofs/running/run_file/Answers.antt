@@ -2,8 +2,8 @@ use Rattle.std.proofs.Common.{[], ◌∷◌, refl}
 use Rattle.command_line.specs.Words.{Bare}
 use Rattle.file_commands.specs.Outcome.{outcome_of}
 use Rattle.file_commands.specs.EndingValues.{ending_of}
-use Rattle.run_commands.specs.AccountLemmas.{accounted_by, accounted_not_one}
-use Rattle.file_commands.specs.CommandLemmas.{comes_from}
+use Rattle.run_commands.specs.lemmas.AccountLemmas.{accounted_by, accounted_not_one}
+use Rattle.file_commands.specs.lemmas.CommandLemmas.{comes_from}
 use Rattle.run_commands.proofs.running.run_file.Goals as goal
 
 pub returns-in-Ok : goal.returns-in-Ok

@@ -2,9 +2,9 @@ use Rattle.std.proofs.Common.{◌++◌, map}
 use Rattle.command_line.specs.Seen.{seen_files}
 use Rattle.file_commands.specs.Outcome.{core_outputs}
 use Rattle.file_commands.specs.EndingValues.{ending_of}
-use Rattle.run_commands.specs.Scripts.{made_output}
-use Rattle.run_commands.specs.BoardLemmas.{left_by_ending, left_cut}
-use Rattle.run_commands.specs.CoreLemmas.{run_fits, run_inside}
+use Rattle.run_commands.specs.lemmas.Scripts.{made_output}
+use Rattle.run_commands.specs.lemmas.BoardLemmas.{left_by_ending, left_cut}
+use Rattle.run_commands.specs.lemmas.CoreLemmas.{run_fits, run_inside}
 use Rattle.run_commands.proofs.WorkLemmas.{run_and_after, unwritten}
 use Rattle.run_commands.proofs.running.run_into.Goals as goal
 

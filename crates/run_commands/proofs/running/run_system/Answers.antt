@@ -2,7 +2,7 @@ use Rattle.std.proofs.Common.{◌∙◌, ap}
 use Rattle.machine_model.specs.Machine.{Machine}
 use Rattle.system_state.specs.State.{with_inputs}
 use Rattle.command_line.specs.Seen.{seen_files}
-use Rattle.run_commands.specs.CoreLemmas.{booted_inside}
+use Rattle.run_commands.specs.lemmas.CoreLemmas.{booted_inside}
 use Rattle.run_commands.proofs.WorkLemmas.{started-ticks, started-halted}
 use Rattle.run_commands.proofs.running.run_system.Goals as goal
 

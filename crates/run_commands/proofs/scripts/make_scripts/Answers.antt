@@ -2,9 +2,9 @@ use Rattle.std.proofs.Common.{ap, map}
 use Rattle.system_state.specs.State.{with_inputs}
 use Rattle.command_line.specs.Seen.{seen_file, seen_options}
 use Rattle.command_line.specs.Words.{scripts_in}
-use Rattle.run_commands.specs.Scripts.{made_output}
+use Rattle.run_commands.specs.lemmas.Scripts.{made_output}
 use Rattle.file_commands.specs.EndingValues.{ending_of}
-use Rattle.run_commands.specs.CoreLemmas.{inside_next}
+use Rattle.run_commands.specs.lemmas.CoreLemmas.{inside_next}
 use Rattle.run_commands.proofs.NumberLemmas.{received_all, received_begun, received_next}
 use Rattle.run_commands.proofs.ScriptLemmas.{all_made, next_denied, next_made, scripts_begun}
 use Rattle.run_commands.proofs.scripts.make_scripts.Goals as goal

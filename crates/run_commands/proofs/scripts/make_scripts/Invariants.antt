@@ -2,11 +2,11 @@ use Rattle.std.proofs.Common.{◌≡◌, ℕ, List, length, map, drop, Ok}
 use Rattle.system_state.specs.State.{with_inputs}
 use Rattle.command_line.specs.Seen.{seen_files, seen_options}
 use Rattle.command_line.specs.Words.{scripts_in}
-use Rattle.run_commands.specs.Cores.{AreForPartitions}
+use Rattle.run_commands.specs.lemmas.Cores.{AreForPartitions}
 use Rattle.file_commands.specs.Inputs.{inputs_for}
 use Rattle.run_commands.specs.Numbers.{AllReceiveNumbers}
 use Rattle.file_commands.specs.Outcome.{scripts_for}
-use Rattle.run_commands.specs.Scripts.{made_output}
+use Rattle.run_commands.specs.lemmas.Scripts.{made_output}
 use Rattle.file_commands.specs.EndingValues.{vector_bytes}
 use Rattle.run_commands.proofs.ScriptLemmas.{scripts_before}
 use Rattle.run_commands.proofs.scripts.make_scripts.Given as goal

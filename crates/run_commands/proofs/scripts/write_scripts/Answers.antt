@@ -1,6 +1,6 @@
 use Rattle.std.proofs.Common.{Some, None, arith, map, ap}
 use Rattle.std.proofs.lemmas.List.{drop_all}
-use Rattle.run_commands.specs.Scripts.{made_output}
+use Rattle.run_commands.specs.lemmas.Scripts.{made_output}
 use Rattle.file_commands.specs.Work.{outside}
 use Rattle.run_commands.proofs.ScriptLemmas.{next_left, no_script_left, script_lost, script_saved}
 use Rattle.run_commands.proofs.scripts.write_scripts.Goals as goal

@@ -1,5 +1,5 @@
 use Rattle.std.proofs.Common.{ℕ, List, Option, map, drop}
-use Rattle.run_commands.specs.Scripts.{made_output}
+use Rattle.run_commands.specs.lemmas.Scripts.{made_output}
 use Rattle.file_commands.specs.Work.{Outside, SavesAll, outside}
 use Rattle.run_commands.proofs.scripts.write_scripts.Given as goal
 

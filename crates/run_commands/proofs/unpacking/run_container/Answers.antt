@@ -2,8 +2,8 @@ use Rattle.std.proofs.Common.{map}
 use Rattle.command_line.specs.Seen.{seen_options}
 use Rattle.command_line.specs.Words.{Run}
 use Rattle.file_commands.specs.EndingValues.{vector_bytes, ending_of}
-use Rattle.run_commands.specs.AccountLemmas.{accounted_by, accounted_unread}
-use Rattle.file_commands.specs.CommandLemmas.{comes_from}
+use Rattle.run_commands.specs.lemmas.AccountLemmas.{accounted_by, accounted_unread}
+use Rattle.file_commands.specs.lemmas.CommandLemmas.{comes_from}
 use Rattle.run_commands.proofs.NumberLemmas.{received_whole, unread_unmade}
 use Rattle.run_commands.proofs.unpacking.run_container.Goals as goal
 

@@ -2,7 +2,7 @@ use Rattle.std.proofs.Common.{map, codes, sym}
 use Rattle.command_line.specs.Seen.{seen_options}
 use Rattle.command_line.specs.Words.{Run}
 use Rattle.file_commands.specs.EndingValues.{vector_bytes}
-use Rattle.file_commands.specs.CommandLemmas.{outcome-long, outcome-short, refused_comes}
+use Rattle.file_commands.specs.lemmas.CommandLemmas.{outcome-long, outcome-short, refused_comes}
 use Rattle.run_commands.proofs.unpacking.run_files.Goals as goal
 
 pub returns-in-Some-clause-comes : goal.returns-in-Some-clause-comes

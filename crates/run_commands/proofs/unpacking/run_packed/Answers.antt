@@ -4,9 +4,9 @@ use Rattle.command_line.specs.Words.{inputs_in}
 use Rattle.file_commands.specs.Outcome.{run_outcome}
 use Rattle.file_commands.specs.Packing.{file_names}
 use Rattle.file_commands.specs.EndingValues.{vector_bytes}
-use Rattle.run_commands.specs.BoardLemmas.{unmade_leaves}
-use Rattle.builders.specs.ImagingLemmas.{container_unmade}
-use Rattle.run_commands.specs.InputLemmas.{rest_short}
+use Rattle.run_commands.specs.lemmas.BoardLemmas.{unmade_leaves}
+use Rattle.builders.specs.lemmas.ImagingLemmas.{container_unmade}
+use Rattle.run_commands.specs.lemmas.InputLemmas.{rest_short}
 use Rattle.run_commands.proofs.NumberLemmas.{never_unpacked, received_system}
 use Rattle.run_commands.proofs.WorkLemmas.{fault_text_by, outcome-unpacked, unmade_runs}
 use Rattle.run_commands.proofs.unpacking.run_packed.Goals as goal

@@ -1,5 +1,5 @@
 use Rattle.std.proofs.Common.{◌≡◌, ◌+◌, ◌≤◌, ◌++◌, length}
-use Rattle.tick_steps.specs.Work.{reset_lines}
+use Rattle.tick_steps.specs.lemmas.WorkTerms.{reset_lines}
 use Rattle.span_engine.proofs.ending.put_reset.Given as goal
 
 abbrev pub invariant-loop-p : goal.invariant-loop-p

@@ -3,7 +3,7 @@ use Rattle.system_state.specs.State.{SysState}
 use Rattle.machine_model.specs.Partition.{reset}
 use Rattle.machine_model.specs.View.{view_of}
 use Rattle.span_model.specs.Passes.{part_at}
-use Rattle.tick_steps.specs.PassLemmas.{passed_end, passed_length, passed_more}
+use Rattle.tick_steps.specs.lemmas.PassLemmas.{passed_end, passed_length, passed_more}
 use Rattle.span_engine.proofs.ending.reset_parts.Goals as goal
 
 pub reset-requires : goal.reset-requires

@@ -1,7 +1,7 @@
 use Rattle.std.proofs.Common.{◌≡◌}
 use Rattle.machine_model.specs.Partition.{reset}
 use Rattle.machine_model.specs.View.{view_of}
-use Rattle.tick_steps.specs.PassLemmas.{each_passed}
+use Rattle.tick_steps.specs.lemmas.PassLemmas.{each_passed}
 use Rattle.span_engine.proofs.ending.reset_parts.Given as goal
 
 abbrev pub invariant-loop-p : goal.invariant-loop-p

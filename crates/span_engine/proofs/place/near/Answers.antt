@@ -3,7 +3,7 @@ use Rattle.std.specs.Prelude.{IfSome}
 use Rattle.xm_conf.specs.Configuration.{Plan}
 use Rattle.span_engine.specs.Place.{IsPlace}
 use Rattle.span_engine.specs.declared.place.Place.{Place}
-use Rattle.span_engine.specs.PlaceLemmas.{near_is}
+use Rattle.span_engine.specs.lemmas.PlaceLemmas.{near_is}
 use Rattle.span_engine.proofs.place.near.Goals as goal
 
 pub returns-in-Some : goal.returns-in-Some

@@ -1,6 +1,6 @@
 use Rattle.std.proofs.Common.{◌<◌, ap, arith, length, sym, ◌∙◌}
 use Rattle.cyclic_plans.specs.PlanClock.{CyclicClock}
-use Rattle.cyclic_plans.specs.PlanLemmas.{stands_at}
+use Rattle.cyclic_plans.specs.lemmas.PlanLemmas.{stands_at}
 use Rattle.cyclic_plans.specs.Slots.{slots_of}
 use Rattle.xm_conf.specs.Configuration.{Conf}
 use Rattle.span_engine.proofs.place.plan_here.Goals as goal

@@ -1,6 +1,6 @@
 use Rattle.std.proofs.Common.{subst, sym}
 use Rattle.system_state.specs.declared.served.Note.TheVariants as note
-use Rattle.tick_steps.specs.Span.{AreDoneFrom}
+use Rattle.tick_steps.specs.lemmas.SpanTerms.{AreDoneFrom}
 use Rattle.tick_steps.specs.declared.beyond.Beyond.TheVariants as beyond
 use Rattle.tick_steps.specs.declared.span.Span.{Span}
 use Rattle.span_engine.proofs.SpanLemmas.{can_work, stands, worked_can_end, worked_frame}

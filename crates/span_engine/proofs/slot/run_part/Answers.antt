@@ -1,6 +1,6 @@
 use Rattle.std.proofs.Common.{arith}
 use Rattle.span_engine.proofs.HereLemmas.{can_take, gap_is, owned_here, slot_of, some_part}
-use Rattle.span_engine.specs.PlaceLemmas.{fewer_ticks}
+use Rattle.span_engine.specs.lemmas.PlaceLemmas.{fewer_ticks}
 use Rattle.span_engine.proofs.slot.run_part.Goals as goal
 
 pub run_slot-requires-clause-take : goal.run_slot-requires-clause-take

@@ -1,6 +1,6 @@
 use Rattle.std.proofs.Common.{◌≡◌, ℕ, ◌+◌, ◌-◌, ◌≤◌, arith, subst}
 use Rattle.std.proofs.Math.Nat.{min-le_left}
-use Rattle.tick_steps.specs.KeptLemmas.{kept_ticks}
+use Rattle.tick_steps.specs.lemmas.KeptLemmas.{kept_ticks}
 use Rattle.span_engine.proofs.SilentLemmas.{AreSilent, HaveEnded, ended, its_state, its_ticks, later_on, silent_begins, silent_on, still_runs}
 use Rattle.span_engine.proofs.slot.run_span.Goals as goal
 

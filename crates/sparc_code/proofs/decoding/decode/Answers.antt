@@ -1,5 +1,5 @@
 use Rattle.std.proofs.Common.{sym, subst}
-use Rattle.sparc_code.specs.DecodedLemmas.{spells-decoded}
+use Rattle.sparc_code.specs.lemmas.DecodedLemmas.{spells-decoded}
 use Rattle.sparc_code.proofs.RangeLemmas.{in_range-spells}
 use Rattle.sparc_code.specs.Spells.{Spells}
 use Rattle.sparc_code.proofs.decoding.decode.Goals as goal

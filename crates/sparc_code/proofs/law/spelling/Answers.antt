@@ -1,6 +1,6 @@
 use Rattle.sparc_code.specs.Decoded.{decoded}
-use Rattle.sparc_code.specs.Encoded.{encoded}
-use Rattle.sparc_code.specs.DecodedLemmas.{spells-decoded, spells-unique, illegal-spells}
+use Rattle.sparc_code.specs.lemmas.Encoded.{encoded}
+use Rattle.sparc_code.specs.lemmas.DecodedLemmas.{spells-decoded, spells-unique, illegal-spells}
 use Rattle.sparc_code.proofs.EncodedLemmas.{spells-encoded}
 use Rattle.sparc_code.proofs.RangeLemmas.{in_range-spells}
 use Rattle.sparc_code.proofs.law.spelling.Goals as goal

@@ -1,4 +1,4 @@
-use Rattle.sparc_step.specs.CachedLemmas.{front_written}
+use Rattle.sparc_step.specs.lemmas.CachedLemmas.{front_written}
 use Rattle.sparc_step.proofs.processor.take_globals.Goals as goal
 
 pub returns : goal.returns

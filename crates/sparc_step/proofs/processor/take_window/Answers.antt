@@ -1,6 +1,6 @@
 use Rattle.std.proofs.Common.{ap}
 use Rattle.std.specs.Prelude.{◌*◌}
-use Rattle.sparc_step.specs.CachedLemmas.{taken_in_two}
+use Rattle.sparc_step.specs.lemmas.CachedLemmas.{taken_in_two}
 use Rattle.sparc_step.proofs.processor.take_window.Goals as goal
 
 pub returns-clause-windows : goal.returns-clause-windows

@@ -1,6 +1,6 @@
 use Rattle.std.proofs.Common.{ap}
 use Rattle.std.specs.Prelude.{◌*◌}
-use Rattle.sparc_step.specs.CachedLemmas.{written_in_two}
+use Rattle.sparc_step.specs.lemmas.CachedLemmas.{written_in_two}
 use Rattle.sparc_step.proofs.processor.write_window.Goals as goal
 
 pub returns : goal.returns

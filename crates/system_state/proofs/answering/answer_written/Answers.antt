@@ -1,5 +1,5 @@
 use Rattle.std.proofs.Common.{refl}
-use Rattle.system_state.specs.ServedLemmas.{answered_set}
+use Rattle.system_state.specs.lemmas.ServedLemmas.{answered_set}
 use Rattle.system_state.proofs.answering.answer_written.Goals as goal
 
 pub returns : goal.returns

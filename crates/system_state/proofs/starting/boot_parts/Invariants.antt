@@ -1,6 +1,6 @@
 use Rattle.std.proofs.Common.{◌≡◌, ◌≤◌, length, map, take, vec_capacity}
 use Rattle.xef_images.specs.Image.{Image}
-use Rattle.system_state.specs.State.{booted_own}
+use Rattle.system_state.specs.lemmas.StateTerms.{booted_own}
 use Rattle.system_state.proofs.starting.boot_parts.Given as goal
 
 abbrev pub invariant-loop-p : goal.invariant-loop-p

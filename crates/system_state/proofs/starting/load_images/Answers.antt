@@ -1,7 +1,7 @@
 use Rattle.std.proofs.Common.{length, arith, ap, ◌∙◌}
 use Rattle.std.proofs.lemmas.List.{length-set}
 use Rattle.guest_memory.specs.Loading.{areas_with_image}
-use Rattle.guest_memory.specs.LoadingLemmas.{image_lies}
+use Rattle.guest_memory.specs.lemmas.LoadingLemmas.{image_lies}
 use Rattle.guest_memory.specs.Memories.{Memories, areas_at}
 use Rattle.system_state.proofs.BootLemmas.{load_end, load_more}
 use Rattle.system_state.proofs.starting.load_images.Goals as goal

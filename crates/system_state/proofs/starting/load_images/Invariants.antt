@@ -1,6 +1,6 @@
 use Rattle.std.proofs.Common.{◌≡◌, ℕ, ◌<◌, length, get_or}
 use Rattle.std.specs.FinMap.{empty}
-use Rattle.system_state.specs.State.{loaded_all}
+use Rattle.system_state.specs.lemmas.StateTerms.{loaded_all}
 use Rattle.system_state.proofs.starting.load_images.Given as goal
 
 abbrev pub invariant-loop-p : goal.invariant-loop-p

@@ -1,5 +1,5 @@
 use Rattle.std.proofs.Common.{arith, ap, refl, sym, suc, ◌≡◌, ◌≢◌, ◌+◌, ◌-◌, ◌%◌, ◌∙◌}
-use Rattle.machine_model.specs.ProcessorCalls.{flushed}
+use Rattle.machine_model.specs.OwnEffects.{flushed}
 use Rattle.virt_traps.specs.Moves.{move_made}
 use Rattle.system_state.proofs.StepLemmas.{fault_is, flush_ended, flush_more, flush_refused, moved_as}
 use Rattle.system_state.proofs.stepping.flush.Goals as goal

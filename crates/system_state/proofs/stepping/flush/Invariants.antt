@@ -1,5 +1,5 @@
 use Rattle.std.proofs.Common.{◌≡◌, ◌-◌}
-use Rattle.machine_model.specs.ProcessorCalls.{flushed}
+use Rattle.machine_model.specs.OwnEffects.{flushed}
 use Rattle.virt_traps.specs.Moves.{move_made}
 use Rattle.system_state.proofs.stepping.flush.Given as goal
 

@@ -1,5 +1,5 @@
 use Rattle.guest_memory.specs.Memories.{areas_at, map_at}
-use Rattle.machine_model.specs.ProcessorCalls.{flushed}
+use Rattle.machine_model.specs.OwnEffects.{flushed}
 use Rattle.virt_traps.specs.Moves.{move_made}
 use Rattle.system_state.proofs.StepLemmas.{selected_became}
 use Rattle.system_state.proofs.stepping.flush_part.Goals as goal

@@ -1,4 +1,4 @@
-use Rattle.tick_steps.specs.HealthLemmas.{interrupt_made, interrupt_refused}
+use Rattle.tick_steps.specs.lemmas.HealthLemmas.{interrupt_made, interrupt_refused}
 use Rattle.tick_steps.proofs.health.deliver_interrupt.Goals as goal
 
 pub returns-in-Ok-clause-done : goal.returns-in-Ok-clause-done

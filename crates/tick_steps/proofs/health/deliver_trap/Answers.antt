@@ -1,4 +1,4 @@
-use Rattle.tick_steps.specs.HealthLemmas.{trap_made, trap_refused}
+use Rattle.tick_steps.specs.lemmas.HealthLemmas.{trap_made, trap_refused}
 use Rattle.tick_steps.proofs.health.deliver_trap.Goals as goal
 
 pub returns-in-Ok-clause-done : goal.returns-in-Ok-clause-done

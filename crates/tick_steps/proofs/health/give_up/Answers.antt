@@ -1,4 +1,4 @@
-use Rattle.tick_steps.specs.HealthLemmas.{gives_up}
+use Rattle.tick_steps.specs.lemmas.HealthLemmas.{gives_up}
 use Rattle.tick_steps.proofs.health.give_up.Goals as goal
 
 pub returns-clause-done : goal.returns-clause-done

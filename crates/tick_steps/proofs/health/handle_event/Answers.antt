@@ -1,5 +1,5 @@
 use Rattle.std.proofs.Common.{rules}
-use Rattle.tick_steps.specs.HealthLemmas.{handled, handled_act}
+use Rattle.tick_steps.specs.lemmas.HealthLemmas.{handled, handled_act}
 use Rattle.tick_steps.proofs.health.handle_event.Goals as goal
 
 pub returns-clause-done : goal.returns-clause-done

@@ -1,5 +1,5 @@
 use Rattle.machine_model.specs.Partition.{reset}
-use Rattle.tick_steps.specs.WorkLemmas.{state_then}
+use Rattle.tick_steps.specs.lemmas.WorkLemmas.{state_then}
 use Rattle.tick_steps.proofs.order.reset.Goals as goal
 
 pub returns : goal.returns

@@ -2,7 +2,7 @@ use Rattle.std.proofs.Common.{◌≡◌, ◌<◌, ◌≤◌, length, Bool, true,
 use Rattle.machine_model.specs.Lists.{is_number}
 use Rattle.machine_model.specs.Partition.{rested}
 use Rattle.span_model.specs.Passes.{part_at}
-use Rattle.tick_steps.specs.PassLemmas.{passed_end, passed_length, passed_more, passed_skip}
+use Rattle.tick_steps.specs.lemmas.PassLemmas.{passed_end, passed_length, passed_more, passed_skip}
 use Rattle.tick_steps.proofs.resting.rest_each.Goals as goal
 use Rattle.tick_steps.proofs.resting.rest_each.Goals.{then-not-is_working, else-not-is_working}
 

@@ -1,7 +1,7 @@
 use Rattle.std.proofs.Common.{◌≡◌, if◌then◌else◌}
 use Rattle.machine_model.specs.Lists.{is_number}
 use Rattle.machine_model.specs.Partition.{rested}
-use Rattle.tick_steps.specs.PassLemmas.{each_passed}
+use Rattle.tick_steps.specs.lemmas.PassLemmas.{each_passed}
 use Rattle.tick_steps.proofs.resting.rest_each.Given as goal
 
 abbrev pub invariant-loop-p : goal.invariant-loop-p

@@ -1,7 +1,7 @@
 use Rattle.std.specs.Prelude.{Some}
 use Rattle.machine_model.specs.Health.{event_handled}
 use Rattle.tick_steps.specs.declared.beyond.Beyond.TheVariants as beyond
-use Rattle.tick_steps.specs.ReachLemmas.{worked_after}
+use Rattle.tick_steps.specs.lemmas.ReachLemmas.{worked_after}
 use Rattle.tick_steps.proofs.traps.meet_trap.Goals as goal
 
 pub returns-clause-worked : goal.returns-clause-worked

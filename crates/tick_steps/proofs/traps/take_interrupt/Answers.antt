@@ -1,6 +1,6 @@
 use Rattle.machine_model.specs.Health.{interrupt_delivered}
 use Rattle.tick_steps.specs.declared.beyond.Beyond.TheVariants as beyond
-use Rattle.tick_steps.specs.ReachLemmas.{interrupt_act, worked_after}
+use Rattle.tick_steps.specs.lemmas.ReachLemmas.{interrupt_act, worked_after}
 use Rattle.tick_steps.proofs.traps.take_interrupt.Goals as goal
 
 pub returns-clause-worked : goal.returns-clause-worked

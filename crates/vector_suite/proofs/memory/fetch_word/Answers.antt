@@ -1,5 +1,5 @@
 use Rattle.std.proofs.Common.{sym, ◌∙◌, ap, Ok, arith}
-use Rattle.guest_bus.specs.AccessLemmas.{fetched_at, fetched_refused}
+use Rattle.guest_bus.specs.lemmas.AccessLemmas.{fetched_at, fetched_refused}
 use Rattle.vector_suite.proofs.AreaLemmas.{whole}
 use Rattle.vector_suite.proofs.memory.fetch_word.Goals as goal
 

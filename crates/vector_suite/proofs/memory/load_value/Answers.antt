@@ -1,5 +1,5 @@
 use Rattle.std.proofs.Common.{sym, ◌∙◌, ap, Ok, arith}
-use Rattle.guest_bus.specs.AccessLemmas.{loaded_at, loaded_refused}
+use Rattle.guest_bus.specs.lemmas.AccessLemmas.{loaded_at, loaded_refused}
 use Rattle.vector_suite.proofs.AreaLemmas.{whole}
 use Rattle.vector_suite.proofs.memory.load_value.Goals as goal
 

@@ -1,6 +1,6 @@
 use Rattle.std.proofs.Common.{sym, refl, ◌∙◌, ap, arith}
-use Rattle.guest_bus.specs.AccessLemmas.{stored_at, stored_refused}
-use Rattle.guest_bus.specs.Memory.{memory_of_bytes}
+use Rattle.guest_bus.specs.lemmas.AccessLemmas.{stored_at, stored_refused}
+use Rattle.guest_bus.specs.lemmas.MemoryFacts.{memory_of_bytes}
 use Rattle.guest_bus.specs.declared.bus.BusFault.TheVariants.{Outside}
 use Rattle.vector_suite.specs.declared.memory.TheConstants.{AREA_START}
 use Rattle.vector_suite.proofs.AreaLemmas.{free_writable, refused_either, refused_read_only, whole}

@@ -1,7 +1,7 @@
 use Rattle.std.proofs.Common.{◌≡◌, ◌+◌, ◌-◌, ◌*◌, ◌%◌, ◌==◌, true, sym, ◌∙◌, arith}
 use Rattle.std.proofs.lemmas.Bool.Decides.{nat_tests}
 use Rattle.guest_bus.specs.declared.bus.Size.TheVariants.{Eight}
-use Rattle.guest_bus.specs.WholeLemmas.{bytes_at-below}
+use Rattle.guest_bus.specs.lemmas.WholeLemmas.{bytes_at-below}
 use Rattle.virt_traps.proofs.AccessLemmas.{bytes_stand, loaded_value, loaded_where}
 use Rattle.virt_traps.proofs.RangeLemmas.{part}
 use Rattle.virt_traps.proofs.WindowLemmas.{loaded_none, loaded_two}

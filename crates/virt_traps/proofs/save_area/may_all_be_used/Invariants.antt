@@ -1,6 +1,6 @@
 use Rattle.std.proofs.Common.{◌≡◌, ◌*◌, true}
 use Rattle.guest_bus.specs.Words.{allows}
-use Rattle.virt_traps.specs.SaveArea.{allowed_for}
+use Rattle.virt_traps.specs.lemmas.SaveAreaTerms.{allowed_for}
 use Rattle.virt_traps.proofs.save_area.may_all_be_used.Given as goal
 
 abbrev pub invariant-loop-i : goal.invariant-loop-i

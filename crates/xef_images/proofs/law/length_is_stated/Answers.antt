@@ -1,4 +1,4 @@
-use Rattle.xef_images.specs.XefLemmas.{length-xef_text}
+use Rattle.xef_images.specs.lemmas.XefLemmas.{length-xef_text}
 use Rattle.xef_images.proofs.law.length_is_stated.Goals as goal
 
 pub returns : goal.returns

@@ -1,6 +1,6 @@
 use Rattle.std.proofs.Common.{refl}
 use Rattle.xef_images.specs.Texts.{xef_lines}
-use Rattle.xef_images.specs.XefLemmas.{digest_at_end}
+use Rattle.xef_images.specs.lemmas.XefLemmas.{digest_at_end}
 use Rattle.xef_images.proofs.lines.describe.Goals as goal
 
 pub stored_digest-requires : goal.stored_digest-requires

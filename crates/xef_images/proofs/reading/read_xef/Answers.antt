@@ -3,9 +3,9 @@ use Rattle.std.proofs.lemmas.Result.{err_from_is_err_and}
 use Rattle.xef_images.specs.Gives.{Fails}
 use Rattle.xef_images.specs.Image.{Image}
 use Rattle.xef_images.specs.Reading.{xef, xef_faults}
-use Rattle.xef_images.specs.XefLemmas.{xef_takes, xef_again}
+use Rattle.xef_images.specs.lemmas.XefLemmas.{xef_takes, xef_again}
 use Rattle.std.proofs.Common.{codes}
-use Rattle.file_headers.specs.DigestLemmas.{reports_moved, reports_other}
+use Rattle.file_headers.specs.lemmas.DigestLemmas.{reports_moved, reports_other}
 use Rattle.xef_images.proofs.reading.read_xef.Goals as goal
 
 pub returns-in_err-entry-clause-only : goal.returns-in_err-entry-clause-only

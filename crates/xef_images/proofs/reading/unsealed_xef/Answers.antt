@@ -1,7 +1,7 @@
 use Rattle.std.proofs.Common.{codes}
 use Rattle.std.proofs.lemmas.Result.{err_from_is_err_and}
 use Rattle.file_headers.specs.Known.{head_faults}
-use Rattle.file_headers.specs.LiftedLemmas.{refused_so, unsealed_so}
+use Rattle.file_headers.specs.lemmas.LiftedLemmas.{refused_so, unsealed_so}
 use Rattle.fault_messages.specs.OfHeads.{xef_fault}
 use Rattle.xef_images.proofs.reading.unsealed_xef.Goals as goal
 

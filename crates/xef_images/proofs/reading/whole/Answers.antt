@@ -1,6 +1,6 @@
 use Rattle.std.proofs.lemmas.Result.{err_from_is_err_and}
 use Rattle.std.proofs.Common.{codes}
-use Rattle.file_headers.specs.DigestLemmas.{unsealed_fails}
+use Rattle.file_headers.specs.lemmas.DigestLemmas.{unsealed_fails}
 use Rattle.xef_images.proofs.DigestLemmas.{apart, reports_given}
 use Rattle.xef_images.specs.Reading.{xef_faults}
 use Rattle.xef_images.proofs.reading.whole.Goals as goal

@@ -1,5 +1,5 @@
 use Rattle.std.proofs.Common.{◌≡◌, drop}
-use Rattle.xef_images.specs.Tests.{are_placed}
+use Rattle.xef_images.specs.lemmas.TestsTerms.{are_placed}
 use Rattle.xef_images.proofs.xef.are_placed.Given as goal
 
 abbrev pub invariant-loop-segment : goal.invariant-loop-segment

@@ -1,5 +1,5 @@
 use Rattle.std.proofs.Common.{◌∙◌}
-use Rattle.xm_alone.specs.Cues.{cues_left}
+use Rattle.xm_alone.specs.lemmas.Cues.{cues_left}
 use Rattle.xm_alone.proofs.NextLemmas.{next_cut, next_is, next_played, next_runs, next_ticks, next_unwritten, rose_from}
 use Rattle.xm_alone.proofs.alone.play_cues.Goals as goal
 

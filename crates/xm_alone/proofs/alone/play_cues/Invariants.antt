@@ -1,6 +1,6 @@
 use Rattle.std.proofs.Common.{◌≡◌, length}
 use Rattle.uart_board.specs.contracts.views.BoardViewBoard.TheImpl.{ghosts}
-use Rattle.xm_alone.specs.Cues.{cues_left}
+use Rattle.xm_alone.specs.lemmas.Cues.{cues_left}
 use Rattle.xm_alone.proofs.PlayLemmas.{IsPlaying}
 use Rattle.xm_alone.proofs.alone.play_cues.Given as goal
 

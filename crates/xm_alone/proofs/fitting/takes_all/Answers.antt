@@ -1,5 +1,5 @@
 use Rattle.std.proofs.Common.{Some, sym, ap, ◌∙◌, arith}
-use Rattle.xm_alone.specs.Cues.{cues_left}
+use Rattle.xm_alone.specs.lemmas.Cues.{cues_left}
 use Rattle.xm_alone.proofs.NextLemmas.{next_is, next_refused, next_runs, next_ticks, next_tried}
 use Rattle.xm_alone.proofs.SilentLemmas.{all_tried, none_tried}
 use Rattle.xm_alone.proofs.fitting.takes_all.Goals as goal

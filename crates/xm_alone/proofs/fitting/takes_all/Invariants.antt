@@ -1,5 +1,5 @@
 use Rattle.std.proofs.Common.{length}
-use Rattle.xm_alone.specs.Cues.{cues_left}
+use Rattle.xm_alone.specs.lemmas.Cues.{cues_left}
 use Rattle.xm_alone.proofs.SilentLemmas.{IsTrying}
 use Rattle.xm_alone.proofs.fitting.takes_all.Given as goal
 

@@ -1,5 +1,5 @@
 use Rattle.std.proofs.Common.{rules}
-use Rattle.xm_base.specs.Bytes.{number_8}
+use Rattle.xm_base.specs.lemmas.BytesLemmas.{number_8}
 use Rattle.xm_base.proofs.cursor.double_word.Goals as goal
 
 pub returns : goal.returns

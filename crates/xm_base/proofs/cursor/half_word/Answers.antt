@@ -1,5 +1,5 @@
 use Rattle.std.proofs.Common.{rules}
-use Rattle.xm_base.specs.Bytes.{number_2}
+use Rattle.xm_base.specs.lemmas.BytesLemmas.{number_2}
 use Rattle.xm_base.proofs.cursor.half_word.Goals as goal
 
 pub returns : goal.returns

@@ -1,5 +1,5 @@
 use Rattle.std.proofs.Common.{rules}
-use Rattle.xm_base.specs.Bytes.{number_4}
+use Rattle.xm_base.specs.lemmas.BytesLemmas.{number_4}
 use Rattle.xm_base.proofs.cursor.word.Goals as goal
 
 pub returns : goal.returns

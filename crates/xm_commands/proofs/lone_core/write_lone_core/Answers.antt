@@ -1,5 +1,5 @@
 use Rattle.std.proofs.Common.{[], refl}
-use Rattle.xm_commands.specs.Replaying.{lone_output}
+use Rattle.xm_commands.specs.lemmas.Replaying.{lone_output}
 use Rattle.xm_commands.proofs.lone_core.write_lone_core.Goals as goal
 
 pub returns-in-Ok : goal.returns-in-Ok

@@ -2,7 +2,7 @@ use Rattle.std.proofs.Common.{map, option_copied}
 use Rattle.recording_model.specs.Lone.{booted_alone}
 use Rattle.file_commands.specs.Outcome.{name_if_any}
 use Rattle.file_commands.specs.EndingValues.{ending_of}
-use Rattle.xm_commands.specs.Replaying.{lone_output}
+use Rattle.xm_commands.specs.lemmas.Replaying.{lone_output}
 use Rattle.xm_commands.proofs.ReplayLemmas.{after_replay, cut_comes, lone_after, lone_cut}
 use Rattle.xm_commands.proofs.replaying.play_into.Goals as goal
 

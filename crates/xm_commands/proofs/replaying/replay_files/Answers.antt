@@ -2,7 +2,7 @@ use Rattle.std.proofs.Common.{map, codes, sym}
 use Rattle.command_line.specs.Seen.{seen_further}
 use Rattle.command_line.specs.Words.{Replay}
 use Rattle.file_commands.specs.EndingValues.{vector_bytes}
-use Rattle.file_commands.specs.CommandLemmas.{outcome-long, outcome-short, refused_comes}
+use Rattle.file_commands.specs.lemmas.CommandLemmas.{outcome-long, outcome-short, refused_comes}
 use Rattle.xm_commands.proofs.replaying.replay_files.Goals as goal
 
 pub returns-in-Some-clause-comes : goal.returns-in-Some-clause-comes

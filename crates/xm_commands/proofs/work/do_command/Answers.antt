@@ -2,7 +2,7 @@ use Rattle.file_commands.specs.EndingValues.{ending_of}
 use Rattle.command_line.specs.Seen.{seen_files}
 use Rattle.command_line.specs.Words.{Parse, Upgrade, BuildImage, ReadImage, Pack, ListContainer, CheckContainer, MakePlan, CheckPlan, ListGroups, Generate}
 use Rattle.xm_commands.proofs.BoardLemmas.{build_runs, check_plan_runs, check_runs, generate_runs, list_runs, make_plan_runs, pack_runs, parse_runs, read_runs, list_groups_runs, upgrade_runs}
-use Rattle.run_commands.specs.AccountLemmas.{still_accounted}
+use Rattle.run_commands.specs.lemmas.AccountLemmas.{still_accounted}
 use Rattle.xm_commands.proofs.GeneratingLemmas.{generate_done}
 use Rattle.xm_commands.proofs.work.do_command.Goals as goal
 

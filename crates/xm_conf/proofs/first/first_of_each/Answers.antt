@@ -1,5 +1,5 @@
 use Rattle.std.proofs.Common.{rules, refl, sym, ◌∙◌, ◌≤◌, ◌<◌, length}
-use Rattle.xm_conf.specs.AlongLemmas.{each_goes_on, each_stops, each_ends}
+use Rattle.xm_conf.specs.lemmas.AlongLemmas.{each_goes_on, each_stops, each_ends}
 use Rattle.xm_conf.proofs.first.first_of_each.Goals as goal
 
 pub loop-n-init : goal.loop-n-init

@@ -1,5 +1,5 @@
 use Rattle.std.proofs.Common.{ap, ◌∙◌, ◌++◌}
-use Rattle.xef_images.specs.XefLemmas.{digest_at_end}
+use Rattle.xef_images.specs.lemmas.XefLemmas.{digest_at_end}
 use Rattle.xm_container.proofs.LineLemmas.{spelled_line}
 use Rattle.xm_container.proofs.lines.put_image.Goals as goal
 

@@ -1,7 +1,7 @@
 use Rattle.std.proofs.Common.{codes}
 use Rattle.std.proofs.lemmas.Result.{err_from_is_err_and}
 use Rattle.file_headers.specs.Known.{head_faults}
-use Rattle.file_headers.specs.LiftedLemmas.{version_refused_so, version_so}
+use Rattle.file_headers.specs.lemmas.LiftedLemmas.{version_refused_so, version_so}
 use Rattle.fault_messages.specs.OfHeads.{box_fault}
 use Rattle.xm_container.proofs.reading.found_version.Goals as goal
 

@@ -1,7 +1,7 @@
 use Rattle.std.proofs.Common.{sym, ap, ◌∙◌, subst, List}
 use Rattle.std.specs.Prelude.{All}
 use Rattle.xm_conf.specs.Configuration.{Chan, Conf}
-use Rattle.xm_flows.specs.Masks.{HasLowEnds}
+use Rattle.xm_flows.specs.lemmas.MasksTerms.{HasLowEnds}
 use Rattle.xm_flows.proofs.ClosureLemmas.{low_ends}
 use Rattle.xm_flows.proofs.closure.chans_of.Goals as goal
 

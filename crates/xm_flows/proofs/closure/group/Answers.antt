@@ -1,7 +1,8 @@
 use Rattle.std.proofs.Common.{◌≡◌, ℕ, Bool, sym, ap, ◌∙◌, subst, List}
 use Rattle.xm_conf.specs.Configuration.{Chan}
 use Rattle.xm_conf.specs.declared.link.Link.{Link}
-use Rattle.xm_flows.specs.Masks.{IsClosureOf, group_of, has_no_system, members_of}
+use Rattle.xm_flows.specs.lemmas.MasksTerms.{IsClosureOf}
+use Rattle.xm_flows.specs.Masks.{group_of, has_no_system, members_of}
 use Rattle.xm_flows.proofs.ClosureLemmas.{closed_is, group_within, is_group, low_part, plain_is}
 use Rattle.xm_flows.proofs.RoundLemmas.{group_mask_is, group_with}
 use Rattle.xm_flows.proofs.closure.group.Goals as goal

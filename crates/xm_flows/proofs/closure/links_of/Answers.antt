@@ -2,7 +2,7 @@ use Rattle.std.proofs.Common.{sym, ap, ◌∙◌, subst, List}
 use Rattle.std.specs.Prelude.{All}
 use Rattle.xm_conf.specs.Configuration.{Conf}
 use Rattle.xm_conf.specs.declared.link.Link.{Link}
-use Rattle.xm_flows.specs.Masks.{HasLowSource}
+use Rattle.xm_flows.specs.lemmas.MasksTerms.{HasLowSource}
 use Rattle.xm_flows.proofs.ClosureLemmas.{low_sources}
 use Rattle.xm_flows.proofs.closure.links_of.Goals as goal
 

@@ -1,5 +1,5 @@
 use Rattle.std.proofs.Common.{◌≡◌, ◌≤◌, length, vec_capacity}
-use Rattle.xm_ports.specs.Kept.{AreRooms}
+use Rattle.xm_ports.specs.lemmas.KeptTerms.{AreRooms}
 use Rattle.xm_ports.proofs.queuing.rooms.Given as goal
 
 abbrev pub invariant-loop : goal.invariant-loop

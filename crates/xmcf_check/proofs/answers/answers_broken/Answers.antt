@@ -1,6 +1,6 @@
 use Rattle.std.proofs.Common.{sym, ◌∙◌}
 use Rattle.xm_conf.specs.Rules as rules
-use Rattle.xm_conf.specs.AlongLemmas.{along_goes_on}
+use Rattle.xm_conf.specs.lemmas.AlongLemmas.{along_goes_on}
 use Rattle.xmcf_check.proofs.OnceLemmas.{once_few, once_goes_on}
 use Rattle.xmcf_check.proofs.answers.answers_broken.Goals as goal
 

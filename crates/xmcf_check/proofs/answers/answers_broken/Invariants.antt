@@ -1,7 +1,7 @@
 use Rattle.std.proofs.Common.{◌≡◌, take, drop}
 use Rattle.xm_conf.specs.Along.{along_from, head_of}
 use Rattle.xm_conf.specs.Rules as rules
-use Rattle.xmcf_check.specs.Answered.{answers_broken}
+use Rattle.xmcf_check.specs.lemmas.Answered.{answers_broken}
 use Rattle.xmcf_check.proofs.OnceLemmas.{IsOnce}
 use Rattle.xmcf_check.proofs.answers.answers_broken.Given as goal
 

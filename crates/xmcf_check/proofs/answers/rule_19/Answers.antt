@@ -1,6 +1,6 @@
 use Rattle.std.proofs.Common.{sym, ap, ◌∙◌}
 use Rattle.xm_conf.specs.Along.{head_of}
-use Rattle.xmcf_check.specs.Answered.{answers_broken}
+use Rattle.xmcf_check.specs.lemmas.Answered.{answers_broken}
 use Rattle.xmcf_check.proofs.ListLemmas.{each_from-map}
 use Rattle.xmcf_check.proofs.answers.rule_19.Goals as goal
 

@@ -1,7 +1,7 @@
 use Rattle.std.proofs.Common.{◌∙◌, ap, map, List}
 use Rattle.xm_conf.specs.Description.{Monitor}
 use Rattle.xmcf_reader.specs.declared.draft.Entry.{Entry}
-use Rattle.xmcf_check.specs.Capped.{capped_conf}
+use Rattle.xmcf_check.specs.lemmas.Capped.{capped_conf}
 use Rattle.xmcf_check.specs.Described.{described_conf, described_ids, description_of, monitors_of}
 use Rattle.xmcf_check.proofs.gathering.gather.Goals as goal
 

@@ -1,5 +1,5 @@
 use Rattle.std.proofs.Common.{◌≤◌, length, drop}
-use Rattle.xmcf_check.specs.Numbers.{HasNumbersForPorts}
+use Rattle.xmcf_check.specs.lemmas.Numbers.{HasNumbersForPorts}
 use Rattle.xmcf_check.proofs.numbers.add_ports.Given as goal
 
 abbrev pub invariant-loop-left : goal.invariant-loop-left

@@ -1,5 +1,5 @@
 use Rattle.std.proofs.Common.{◌≤◌, length, drop}
-use Rattle.xmcf_check.specs.Numbers.{HasFirsts}
+use Rattle.xmcf_check.specs.lemmas.Numbers.{HasFirsts}
 use Rattle.xmcf_check.proofs.numbers.name_numbers.Given as goal
 
 abbrev pub invariant-loop-left : goal.invariant-loop-left

@@ -1,7 +1,7 @@
 use Rattle.std.proofs.Common.{◌∙◌, ap, ℕ, List, Option, length}
 use Rattle.std.specs.Prelude.{slice_get, unwrap_or}
 use Rattle.xmcf_check.specs.Described.{number_named, names_or_none, port_names}
-use Rattle.xmcf_check.specs.Numbers.{first_from}
+use Rattle.xmcf_check.specs.lemmas.Numbers.{first_from}
 use Rattle.xmcf_check.proofs.numbers.port_number.Goals as goal
 
 pub returns-in-Some : goal.returns-in-Some

@@ -1,5 +1,5 @@
 use Rattle.std.proofs.Common.{◌≤◌, length}
-use Rattle.xmcf_check.specs.Numbers.{HasAllPorts}
+use Rattle.xmcf_check.specs.lemmas.Numbers.{HasAllPorts}
 use Rattle.xmcf_check.proofs.numbers.port_numbers.Given as goal
 
 abbrev pub invariant-loop-left : goal.invariant-loop-left

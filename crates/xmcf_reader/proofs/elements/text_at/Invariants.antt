@@ -1,6 +1,6 @@
 use Rattle.std.proofs.Common.{◌≡◌, drop}
 use Rattle.xmcf_reader.specs.Elements.{attribute_text}
-use Rattle.xmcf_reader.specs.Seen.{pairs_of}
+use Rattle.xmcf_reader.specs.lemmas.Seen.{pairs_of}
 use Rattle.xmcf_reader.proofs.elements.text_at.Given as goal
 
 abbrev pub invariant-loop-pair : goal.invariant-loop-pair

@@ -1,8 +1,8 @@
 use Rattle.std.proofs.Common.{◌∙◌}
 use Rattle.std.proofs.lemmas.Result.{err_from_is_err_and}
-use Rattle.xmcf_reader.specs.Seen.{token_of}
-use Rattle.xmcf_reader.specs.Trees.{context_of}
-use Rattle.xmcf_reader.specs.Cuts.{cut_left}
+use Rattle.xmcf_reader.specs.lemmas.Seen.{token_of}
+use Rattle.xmcf_reader.specs.lemmas.Trees.{context_of}
+use Rattle.xmcf_reader.specs.lemmas.Cuts.{cut_left}
 use Rattle.xmcf_reader.proofs.Faultless.{entries_drafted}
 use Rattle.xmcf_reader.proofs.Progress.{progress, first_broken, end_whole}
 use Rattle.xmcf_reader.proofs.reading.read_tokens.Goals as goal

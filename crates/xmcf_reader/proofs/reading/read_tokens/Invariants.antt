@@ -1,5 +1,5 @@
 use Rattle.std.proofs.Common.{length}
-use Rattle.xmcf_reader.specs.Trees.{context_of}
+use Rattle.xmcf_reader.specs.lemmas.Trees.{context_of}
 use Rattle.xmcf_reader.proofs.Progress.{Progress}
 use Rattle.xmcf_reader.proofs.reading.read_tokens.Given as goal
 

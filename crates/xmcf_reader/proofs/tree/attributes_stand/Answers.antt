@@ -1,7 +1,7 @@
 use Rattle.xmcf_reader.specs.Draft.{lacks_attribute}
 use Rattle.xmcf_reader.specs.Faults.{missing_attributes}
-use Rattle.xmcf_reader.specs.FaultsLemmas.{first_passes}
-use Rattle.xmcf_reader.specs.Seen.{pairs_of}
+use Rattle.xmcf_reader.specs.lemmas.FaultsLemmas.{first_passes}
+use Rattle.xmcf_reader.specs.lemmas.Seen.{pairs_of}
 use Rattle.xmcf_reader.specs.Table.{attributes}
 use Rattle.xmcf_reader.specs.declared.fault.ReadFault.TheVariants as fault
 use Rattle.xmcf_reader.proofs.tree.attributes_stand.Goals as goal

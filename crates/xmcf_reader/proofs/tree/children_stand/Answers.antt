@@ -1,6 +1,6 @@
 use Rattle.xmcf_reader.specs.Draft.{lacks_child}
 use Rattle.xmcf_reader.specs.Faults.{missing_children}
-use Rattle.xmcf_reader.specs.FaultsLemmas.{first_passes}
+use Rattle.xmcf_reader.specs.lemmas.FaultsLemmas.{first_passes}
 use Rattle.xmcf_reader.specs.Table.{allowed_children}
 use Rattle.xmcf_reader.specs.declared.fault.ReadFault.TheVariants as fault
 use Rattle.xmcf_reader.proofs.tree.children_stand.Goals as goal

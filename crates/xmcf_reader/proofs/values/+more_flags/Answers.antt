@@ -1,6 +1,6 @@
 use Rattle.std.proofs.Common.{sym, ◌∙◌}
 use Rattle.std.proofs.lemmas.List.{take_rest}
-use Rattle.xmcf_reader.specs.Seen.{flags_of}
+use Rattle.xmcf_reader.specs.lemmas.Seen.{flags_of}
 use Rattle.xmcf_reader.proofs.Words.{last_flag, no_flag, one_flag}
 use Rattle.xmcf_reader.proofs.values.«+more_flags».Goals as goal
 

@@ -1,7 +1,8 @@
 use Rattle.std.proofs.Common.{◌≡◌, ◌≢◌, ℕ, List, ◌++◌, length, take, drop, refl, ap, ◌∙◌, arith}
 use Rattle.std.proofs.lemmas.Grind.{common_steps}
 use Rattle.guest_bus.specs.Memory.{Memory, with_bytes}
-use Rattle.guest_memory.specs.Flat.{memories_in, memory_of_part}
+use Rattle.guest_memory.specs.Flat.{memories_in}
+use Rattle.guest_memory.specs.lemmas.FlatTerms.{memory_of_part}
 use Rattle.guest_memory.specs.Memories.{map_at, with_map}
 use Rattle.guest_memory.proofs.MemoriesLemmas.{kept_on, memories_changed, on_err, on_ok, part_at, same_elsewhere}
 use Rattle.guest_memory.proofs.ram.Ram.copy_out.Goals as goal

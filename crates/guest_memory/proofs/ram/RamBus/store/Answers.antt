@@ -1,6 +1,7 @@
 use Rattle.std.proofs.Common.{◌≡◌, ◌++◌, length, take, drop, refl, ap, ◌∙◌, arith}
 use Rattle.std.proofs.lemmas.Grind.{common_steps}
-use Rattle.guest_memory.specs.Flat.{memories_in, memory_of_part}
+use Rattle.guest_memory.specs.Flat.{memories_in}
+use Rattle.guest_memory.specs.lemmas.FlatTerms.{memory_of_part}
 use Rattle.guest_memory.specs.Memories.{map_at, others_of}
 use Rattle.guest_memory.proofs.MemoriesLemmas.{kept_on, map_at-with_map, memories_changed, others-with_map, part_at}
 use Rattle.guest_memory.proofs.ram.RamBus.store.Goals as goal

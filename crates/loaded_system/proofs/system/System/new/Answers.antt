@@ -1,6 +1,6 @@
 use Rattle.std.proofs.Common.{◌≡◌, refl, rules, Some}
 use Rattle.loaded_system.specs.Inside.{first_outside}
-use Rattle.loaded_system.specs.InsideLemmas.{inside_if_none, none_if_inside}
+use Rattle.loaded_system.specs.lemmas.InsideLemmas.{inside_if_none, none_if_inside}
 use Rattle.loaded_system.proofs.system.System.new.Goals as goal
 
 pub invariant_of-result : goal.invariant_of-result

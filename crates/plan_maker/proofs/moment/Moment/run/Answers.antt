@@ -1,6 +1,6 @@
 -- The jobs that spent their ticks have room.
 use Rattle.std.proofs.Common.{sym, subst}
-use Rattle.plan_maker.specs.Turns.{HaveWindowRoom, Moment}
+use Rattle.plan_maker.specs.lemmas.Turns.{HaveWindowRoom, Moment}
 use Rattle.plan_maker.proofs.SpentLemmas.{spent_room}
 use Rattle.plan_maker.proofs.moment.Moment.run.Goals as goal
 

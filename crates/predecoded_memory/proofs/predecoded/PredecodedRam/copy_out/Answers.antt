@@ -1,7 +1,8 @@
 use Rattle.std.proofs.Common.{◌≡◌, ◌*◌, ℕ, List, length, ap, ◌∙◌, arith, subst, sym}
 use Rattle.std.proofs.lemmas.List.{with_items_is}
 use Rattle.std.specs.Vec.{with_items}
-use Rattle.predecoded_memory.specs.Shares.{AreKept, first_address, word_after}
+use Rattle.predecoded_memory.specs.Shares.{AreKept, first_address}
+use Rattle.predecoded_memory.specs.lemmas.SharesTerms.{word_after}
 use Rattle.guest_memory.specs.Memories.{areas_at}
 use Rattle.predecoded_memory.proofs.KeptLemmas.{copied_kept, part_at, reached_moved}
 use Rattle.predecoded_memory.proofs.ShareLemmas.{share_fits}

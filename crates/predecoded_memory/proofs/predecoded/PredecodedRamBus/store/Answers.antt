@@ -1,7 +1,8 @@
 use Rattle.std.proofs.Common.{◌≡◌, List, length, ap, refl, ◌∙◌, arith, subst, sym}
 use Rattle.std.proofs.lemmas.List.{with_items_is}
 use Rattle.std.specs.Vec.{with_items}
-use Rattle.predecoded_memory.specs.Shares.{AreKept, word_after, words_written}
+use Rattle.predecoded_memory.specs.Shares.{AreKept}
+use Rattle.predecoded_memory.specs.lemmas.SharesTerms.{word_after, words_written}
 use Rattle.predecoded_memory.proofs.KeptLemmas.{reached_moved}
 use Rattle.predecoded_memory.proofs.SelectedLemmas.{store_kept, top_fits}
 use Rattle.predecode.specs.declared.rows.Row.{Row}

@@ -2,7 +2,7 @@ use Rattle.std.proofs.Common.{◌≡◌, ◌≤◌, ap, arith, length, rules, sy
 use Rattle.std.proofs.lemmas.List.{with_items_is}
 use Rattle.std.specs.Vec.{with_items}
 use Rattle.system_state.specs.State.{memory_of}
-use Rattle.tick_steps.specs.Kept.{bytes_noted}
+use Rattle.tick_steps.specs.lemmas.KeptTerms.{bytes_noted}
 use Rattle.span_engine.proofs.NotedLemmas.{few_noted, kept_so}
 use Rattle.span_engine.proofs.engine.Engine.run.Goals as goal
 

@@ -1,5 +1,5 @@
 use Rattle.std.proofs.Common.{arith}
-use Rattle.sparc_step.specs.CachedLemmas.{apart_seen, windows_seen}
+use Rattle.sparc_step.specs.lemmas.CachedLemmas.{apart_seen, windows_seen}
 use Rattle.sparc_step.specs.Registers.{window_filled, with_inv, register_at}
 use Rattle.sparc_step.proofs.processor.Processor.enter_filled.Goals as goal
 

@@ -1,4 +1,4 @@
-use Rattle.sparc_step.specs.CachedLemmas.{gathered_from}
+use Rattle.sparc_step.specs.lemmas.CachedLemmas.{gathered_from}
 use Rattle.sparc_step.proofs.processor.Processor.of.Goals as goal
 
 pub returns : goal.returns

@@ -1,5 +1,5 @@
 use Rattle.std.proofs.Common.{ℕ, refl, ap, ◌+◌, ◌*◌}
-use Rattle.sparc_step.specs.CachedLemmas.{saved_seen, windows_seen}
+use Rattle.sparc_step.specs.lemmas.CachedLemmas.{saved_seen, windows_seen}
 use Rattle.sparc_step.proofs.processor.Processor.saved.Goals as goal
 
 pub returns-clause-saved : goal.returns-clause-saved

@@ -1,6 +1,6 @@
 use Rattle.std.proofs.Common.{ℕ, ◌+◌, ◌*◌, ap}
 use Rattle.std.specs.Prelude.{slice_index}
-use Rattle.sparc_step.specs.CachedLemmas.{stack_seen}
+use Rattle.sparc_step.specs.lemmas.CachedLemmas.{stack_seen}
 use Rattle.sparc_step.proofs.processor.Processor.stack_of.Goals as goal
 
 pub returns : goal.returns

@@ -1,6 +1,6 @@
 use Rattle.std.proofs.Common.{rules}
 use Rattle.sparc_step.specs.Execution.{turned}
-use Rattle.sparc_step.specs.Undone.{called_pieces, undone_pieces}
+use Rattle.sparc_step.specs.lemmas.UndoneLemmas.{called_pieces, undone_pieces}
 use Rattle.sparc_step.proofs.processor.Processor.turn.Goals as goal
 
 pub returns-in-Ok-clause-turn : goal.returns-in-Ok-clause-turn

@@ -1,4 +1,4 @@
-use Rattle.guest_memory.specs.LoadingLemmas.{image_lies}
+use Rattle.guest_memory.specs.lemmas.LoadingLemmas.{image_lies}
 use Rattle.system_state.proofs.InsideLemmas.{is_in_conf, is_in_memories, is_reloaded}
 use Rattle.system_state.proofs.sys.Sys.reload.Goals as goal
 

@@ -4,7 +4,7 @@ use Rattle.virt_traps.specs.Settled.{settled}
 use Rattle.system_state.specs.State.{OwnState, SysState, part_at, with_memory}
 use Rattle.system_state.specs.contracts.own_state.PartState.{the_view}
 use Rattle.system_state.proofs.InsideLemmas.{is_at, is_become, is_in_memories, is_kept, seen_with, stays_kept_with}
-use Rattle.system_state.specs.StateLemmas.{part_set}
+use Rattle.system_state.specs.lemmas.StateLemmas.{part_set}
 use Rattle.system_state.proofs.StepLemmas.{called_seen}
 use Rattle.system_state.proofs.sys.Sys.step_core.Goals as goal
 

@@ -4,7 +4,7 @@ use Rattle.machine_model.specs.Partition.{PartitionState}
 use Rattle.system_state.specs.State.{OwnState, SysState, part_at, with_machine, with_memory, with_part}
 use Rattle.system_state.specs.contracts.own_state.PartState.{the_view}
 use Rattle.system_state.proofs.InsideLemmas.{is_at, is_in_memories, is_kept, is_stepped, seen_with, stays_kept_with}
-use Rattle.system_state.specs.StateLemmas.{part_set}
+use Rattle.system_state.specs.lemmas.StateLemmas.{part_set}
 use Rattle.system_state.proofs.StepLemmas.{gone_seen, turned_seen}
 use Rattle.system_state.proofs.sys.Sys.step_many.Goals as goal
 

@@ -4,7 +4,7 @@ use Rattle.machine_model.specs.LocalTick.{clocked}
 use Rattle.machine_model.specs.Partition.{PartitionState}
 use Rattle.virt_clocks.specs.Clocks.{PartitionClocks}
 use Rattle.system_state.specs.State.{OwnState, is_timed, with_memory}
-use Rattle.system_state.specs.StateLemmas.{part_set}
+use Rattle.system_state.specs.lemmas.StateLemmas.{part_set}
 use Rattle.system_state.specs.contracts.own_state.PartState.{the_view}
 use Rattle.system_state.proofs.InsideLemmas.{is_kept, is_part, is_turned, stays_kept}
 use Rattle.system_state.proofs.sys.engine.count_tick.Goals as goal

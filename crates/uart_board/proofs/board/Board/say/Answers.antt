@@ -1,5 +1,5 @@
 use Rattle.std.proofs.Common.{inl, inr}
-use Rattle.uart_board.specs.Heard.{heard_write}
+use Rattle.uart_board.specs.lemmas.HeardLemmas.{heard_write}
 use Rattle.uart_board.proofs.HeardLemmas.{given_up, none_heard, of_the_one, one_heard, put_back}
 use Rattle.uart_board.proofs.board.Board.say.Goals as goal
 

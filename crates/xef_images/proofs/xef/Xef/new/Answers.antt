@@ -1,8 +1,8 @@
 use Rattle.std.proofs.Common.{refl, rules}
 use Rattle.std.proofs.lemmas.Bool.Decides.{not_from_Decides}
 use Rattle.xef_images.specs.Image.{Image}
-use Rattle.xef_images.specs.Tests.{is_image}
-use Rattle.xef_images.specs.ImageLemmas.{is_image-Decides}
+use Rattle.xef_images.specs.lemmas.TestsTerms.{is_image}
+use Rattle.xef_images.specs.lemmas.ImageLemmas.{is_image-Decides}
 use Rattle.xef_images.proofs.xef.Xef.new.Goals as goal
 
 pub returns-then-not-is_image-clause-refused : goal.returns-then-not-is_image-clause-refused

@@ -1,5 +1,5 @@
 use Rattle.std.proofs.Common.{◌≡◌, length}
-use Rattle.xm_alone.specs.Cues.{cues_left}
+use Rattle.xm_alone.specs.lemmas.Cues.{cues_left}
 use Rattle.xm_alone.proofs.cues.Cues.next.Given as goal
 
 abbrev pub invariant-loop-rest : goal.invariant-loop-rest

@@ -1,7 +1,7 @@
 use Rattle.std.proofs.Common.{refl, rules}
 use Rattle.std.proofs.lemmas.Bool.Decides.{not_from_Decides}
 use Rattle.xm_conf.specs.Name.{is_name}
-use Rattle.xm_conf.specs.NameLemmas.{is_name-Decides, kept_over_zeros}
+use Rattle.xm_conf.specs.lemmas.NameLemmas.{is_name-Decides, kept_over_zeros}
 use Rattle.xm_conf.proofs.name.Name.new.Goals as goal
 
 pub returns-then-not-is_name-clause-refused : goal.returns-then-not-is_name-clause-refused

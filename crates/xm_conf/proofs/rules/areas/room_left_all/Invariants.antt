@@ -1,5 +1,5 @@
 use Rattle.std.proofs.Common.{◌≡◌, drop, sum_by}
-use Rattle.xm_conf.specs.Room.{room_after}
+use Rattle.xm_conf.specs.lemmas.Room.{room_after}
 use Rattle.xm_conf.specs.Rules as rules
 use Rattle.xm_conf.proofs.rules.areas.room_left_all.Given as goal
 

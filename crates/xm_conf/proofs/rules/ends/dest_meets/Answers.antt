@@ -1,7 +1,7 @@
 use Rattle.std.proofs.Common.{ap, sym, ◌∙◌, ◌+◌, length}
 use Rattle.xm_conf.specs.Along.{head_of}
 use Rattle.xm_conf.specs.Rules.{beside}
-use Rattle.xm_conf.specs.Walks.{dest_meets, before_dests}
+use Rattle.xm_conf.specs.lemmas.Walks.{dest_meets, before_dests}
 use Rattle.xm_conf.specs.declared.item.Item.TheVariants as item
 use Rattle.xm_conf.proofs.MeetLemmas.{dest-hits}
 use Rattle.xm_conf.proofs.rules.ends.dest_meets.Goals as goal

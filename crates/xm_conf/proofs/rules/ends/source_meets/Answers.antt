@@ -1,7 +1,7 @@
 use Rattle.std.proofs.Common.{ap, sym, ◌∙◌, length}
 use Rattle.xm_conf.specs.Along.{head_of}
 use Rattle.xm_conf.specs.Rules.{beside, chan_ends, same_end}
-use Rattle.xm_conf.specs.Walks.{chan_hits}
+use Rattle.xm_conf.specs.lemmas.Walks.{chan_hits}
 use Rattle.xm_conf.specs.declared.item.Item.TheVariants as item
 use Rattle.xm_conf.proofs.MeetLemmas.{items_where-each}
 use Rattle.xm_conf.proofs.rules.ends.source_meets.Goals as goal

@@ -1,7 +1,7 @@
 use Rattle.std.proofs.Common.{ap, ◌∙◌}
 use Rattle.xm_base.specs.Options.{on}
 use Rattle.xm_conf.specs.Rules.{overlaps, stretch}
-use Rattle.xm_conf.specs.Walks.{area_hits}
+use Rattle.xm_conf.specs.lemmas.Walks.{area_hits}
 use Rattle.xm_conf.specs.declared.item.Item.TheVariants as item
 use Rattle.xm_conf.proofs.MeetLemmas.{first_hit}
 use Rattle.xm_conf.proofs.rules.stretches.area_hit.Goals as goal

@@ -1,7 +1,7 @@
 use Rattle.std.proofs.Common.{ap, sym, ◌∙◌, length}
 use Rattle.xm_conf.specs.Along.{head_of}
 use Rattle.xm_conf.specs.Rules.{beside, stretch}
-use Rattle.xm_conf.specs.Walks.{area_meets}
+use Rattle.xm_conf.specs.lemmas.Walks.{area_meets}
 use Rattle.xm_conf.specs.declared.item.Item.TheVariants as item
 use Rattle.xm_conf.proofs.MeetLemmas.{area-hits}
 use Rattle.xm_conf.proofs.rules.stretches.area_meets.Goals as goal

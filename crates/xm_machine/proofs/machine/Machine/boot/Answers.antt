@@ -1,5 +1,5 @@
 use Rattle.system_state.specs.State.{with_inputs}
-use Rattle.tick_steps.specs.KeptLemmas.{kept_boot}
+use Rattle.tick_steps.specs.lemmas.KeptLemmas.{kept_boot}
 use Rattle.xm_machine.proofs.machine.Machine.boot.Goals as goal
 
 pub invariant_of-result : goal.invariant_of-result

@@ -1,4 +1,4 @@
-use Rattle.tick_steps.specs.KeptLemmas.{kept_reset_all}
+use Rattle.tick_steps.specs.lemmas.KeptLemmas.{kept_reset_all}
 use Rattle.xm_machine.proofs.machine.Machine.reset_all.Goals as goal
 
 pub invariant_of-self : goal.invariant_of-self

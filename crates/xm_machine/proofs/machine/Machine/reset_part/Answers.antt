@@ -1,6 +1,6 @@
 use Rattle.std.proofs.Common.{subst, sym}
 use Rattle.tick_steps.specs.Machine.{IsMachine}
-use Rattle.tick_steps.specs.KeptLemmas.{kept_reset}
+use Rattle.tick_steps.specs.lemmas.KeptLemmas.{kept_reset}
 use Rattle.xm_machine.proofs.machine.Machine.reset_part.Goals as goal
 
 pub invariant_of-self : goal.invariant_of-self

@@ -2,10 +2,11 @@ use Rattle.std.proofs.Common.{◌∙◌, ap, arith, refl, subst, ℕ}
 use Rattle.std.proofs.Math.Nat.{min-le_left}
 use Rattle.std.proofs.lemmas.Result.{err_from_is_err_and}
 use Rattle.cyclic_plans.specs.PlanClock.{ticks_left}
-use Rattle.xm_machine.specs.Cues.{KeepsLastTick}
+use Rattle.xm_machine.specs.lemmas.CuesTerms.{KeepsLastTick}
 use Rattle.tick_steps.specs.Machine.{IsCounted}
 use Rattle.xm_machine.specs.Machine.{Meaning}
-use Rattle.xm_machine.specs.Stretch.{AreStepped, IsStretchCut}
+use Rattle.xm_machine.specs.lemmas.StretchTerms.{AreStepped}
+use Rattle.xm_machine.specs.Stretch.{IsStretchCut}
 use Rattle.xm_machine.proofs.HeardLemmas.{heard_on, none_heard}
 use Rattle.xm_machine.proofs.StretchLemmas.{left_is, some_left, stretch_begins, stretch_counted, stretch_cut, stretch_cut_kept, stretch_on, stretch_out, stretch_runs}
 use Rattle.xm_machine.proofs.machine.Machine.run_stretch.Goals as goal

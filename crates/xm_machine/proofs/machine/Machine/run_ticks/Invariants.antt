@@ -1,7 +1,7 @@
 use Rattle.std.proofs.Common.{◌≡◌}
 use Rattle.uart_board.specs.contracts.views.BoardViewBoard.TheImpl.{ghosts}
 use Rattle.xm_machine.specs.Heard.{IsRunHeard}
-use Rattle.xm_machine.specs.Cues.{KeepsUpTo}
+use Rattle.xm_machine.specs.lemmas.CuesTerms.{KeepsUpTo}
 use Rattle.xm_machine.proofs.GoingLemmas.{Goes, to_come}
 use Rattle.xm_machine.proofs.machine.Machine.run_ticks.Given as goal
 

@@ -1,7 +1,7 @@
 use Rattle.xm_machine.proofs.CuedLemmas.{keeps_so}
 use Rattle.xm_machine.proofs.GoingLemmas.{cause_so, few_so, step_so}
 use Rattle.xm_machine.proofs.HeardLemmas.{span_heard}
-use Rattle.tick_steps.specs.KeptLemmas.{kept_ticks}
+use Rattle.tick_steps.specs.lemmas.KeptLemmas.{kept_ticks}
 use Rattle.xm_machine.proofs.machine.Machine.step.Goals as goal
 
 pub invariant_of-self : goal.invariant_of-self

@@ -1,5 +1,5 @@
 use Rattle.std.proofs.Common.{◌∙◌, ap, map, arith}
-use Rattle.xmcf_check.specs.Capped.{capped_chan}
+use Rattle.xmcf_check.specs.lemmas.Capped.{capped_chan}
 use Rattle.xmcf_check.specs.Described.{described_chan, chan_with, chans_by, children, port_names}
 use Rattle.xmcf_check.specs.Elements.{carried_of}
 use Rattle.xmcf_check.proofs.PassLemmas.{each-all, one_pass}

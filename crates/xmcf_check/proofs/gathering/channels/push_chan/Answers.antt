@@ -3,7 +3,7 @@ use Rattle.std.specs.Prelude.{slice_get}
 use Rattle.xm_conf.specs.Configuration.{Chan}
 use Rattle.xmcf_check.specs.Described.{port_names}
 use Rattle.xmcf_check.specs.Elements.{carried_of}
-use Rattle.xmcf_check.specs.Families.{picked}
+use Rattle.xmcf_check.specs.lemmas.Families.{picked}
 use Rattle.xmcf_check.proofs.ChanLemmas.{chan_gathered}
 use Rattle.xmcf_check.proofs.gathering.channels.push_chan.Goals as goal
 

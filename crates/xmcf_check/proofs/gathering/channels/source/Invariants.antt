@@ -1,7 +1,7 @@
 use Rattle.std.proofs.Common.{◌≡◌, drop}
 use Rattle.xm_base.specs.Options.{on}
 use Rattle.xm_conf.specs.declared.port.Way.TheVariants as way
-use Rattle.xmcf_check.specs.Capped.{capped_end}
+use Rattle.xmcf_check.specs.lemmas.Capped.{capped_end}
 use Rattle.xmcf_check.specs.Described.{end_of_way, first_among, port_names, with_parent}
 use Rattle.xmcf_check.proofs.gathering.channels.source.Given as goal
 

@@ -4,7 +4,7 @@ use Rattle.xm_conf.specs.Description.{PlanIds}
 use Rattle.xmcf_reader.specs.declared.draft.Entry.{Entry}
 use Rattle.xmcf_check.specs.Described.{among, with_parent}
 use Rattle.xmcf_check.specs.Elements.{plan_id_of, slot_id_of}
-use Rattle.xmcf_check.specs.Families.{picked}
+use Rattle.xmcf_check.specs.lemmas.Families.{picked}
 use Rattle.xmcf_check.proofs.PlanLemmas.{plan_ids_gathered}
 use Rattle.xmcf_check.proofs.gathering.id_lists.push_plan_ids.Goals as goal
 

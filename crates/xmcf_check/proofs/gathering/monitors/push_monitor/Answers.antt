@@ -1,7 +1,7 @@
 use Rattle.std.proofs.Common.{◌≡◌, ◌∙◌, sym, rules, Some}
 use Rattle.std.specs.Prelude.{slice_get}
 use Rattle.xmcf_check.specs.Elements.{element_answer, part_id_of}
-use Rattle.xmcf_check.specs.Families.{picked}
+use Rattle.xmcf_check.specs.lemmas.Families.{picked}
 use Rattle.xmcf_check.proofs.PassLemmas.{seen_more}
 use Rattle.xmcf_check.proofs.WholeLemmas.{monitor_gathered}
 use Rattle.xmcf_check.proofs.gathering.monitors.push_monitor.Goals as goal

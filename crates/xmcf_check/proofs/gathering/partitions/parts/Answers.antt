@@ -1,5 +1,5 @@
 use Rattle.std.proofs.Common.{◌∙◌, ap, map, arith}
-use Rattle.xmcf_check.specs.Capped.{capped_part}
+use Rattle.xmcf_check.specs.lemmas.Capped.{capped_part}
 use Rattle.xmcf_check.specs.Described.{children, grandchildren, described_part, part_with, parts_by}
 use Rattle.xmcf_check.specs.Elements.{element_own}
 use Rattle.xmcf_check.proofs.PassLemmas.{each-all, one_pass}

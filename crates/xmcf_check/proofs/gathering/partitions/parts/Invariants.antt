@@ -1,6 +1,6 @@
 use Rattle.std.proofs.Common.{◌≡◌, map, take}
 use Rattle.xm_conf.specs.Along.{added_by_each}
-use Rattle.xmcf_check.specs.Capped.{capped_part}
+use Rattle.xmcf_check.specs.lemmas.Capped.{capped_part}
 use Rattle.xmcf_check.specs.Described.{described_part}
 use Rattle.xmcf_check.proofs.gathering.partitions.parts.Given as goal
 

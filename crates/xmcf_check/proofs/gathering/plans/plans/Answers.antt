@@ -1,5 +1,5 @@
 use Rattle.std.proofs.Common.{◌∙◌, ap, map, arith}
-use Rattle.xmcf_check.specs.Capped.{capped_plan}
+use Rattle.xmcf_check.specs.lemmas.Capped.{capped_plan}
 use Rattle.xmcf_check.specs.Described.{children, described_plan, plan_of_children, plans_of}
 use Rattle.xmcf_check.specs.Elements.{element_frame}
 use Rattle.xmcf_check.proofs.PassLemmas.{each-all, one_pass}

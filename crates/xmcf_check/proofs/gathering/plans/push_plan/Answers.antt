@@ -3,10 +3,10 @@ use Rattle.std.specs.Prelude.{slice_get}
 use Rattle.xm_base.specs.Options.{on}
 use Rattle.xm_conf.specs.Configuration.{Plan}
 use Rattle.xmcf_reader.specs.declared.draft.Entry.{Entry}
-use Rattle.xmcf_check.specs.Capped.{capped_slot}
+use Rattle.xmcf_check.specs.lemmas.Capped.{capped_slot}
 use Rattle.xmcf_check.specs.Described.{among, with_parent}
 use Rattle.xmcf_check.specs.Elements.{element_frame, element_slot}
-use Rattle.xmcf_check.specs.Families.{picked}
+use Rattle.xmcf_check.specs.lemmas.Families.{picked}
 use Rattle.xmcf_check.proofs.PlanLemmas.{plan_gathered}
 use Rattle.xmcf_check.proofs.gathering.plans.push_plan.Goals as goal
 

@@ -1,6 +1,6 @@
 use Rattle.std.proofs.Common.{ap, sym, ◌∙◌, ◌+◌}
 use Rattle.xmcf_reader.specs.Faults.{Item, Rest, cut}
-use Rattle.xmcf_reader.specs.Seen.{token_of}
+use Rattle.xmcf_reader.specs.lemmas.Seen.{token_of}
 use Rattle.xmcf_reader.proofs.CutLemmas.{next_found, next_stops, next_ends}
 use Rattle.xmcf_reader.proofs.tokens.Tokens.next.Goals as goal
 

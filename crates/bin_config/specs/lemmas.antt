@@ -1,0 +1,9 @@
+pub mod FieldLemmas
+pub mod FrontLemmas
+pub mod GivesTerms
+pub mod Puts
+pub mod RangeLemmas
+pub mod RecordLemmas
+pub mod ShortLemmas
+pub mod SpelledTerms
+pub mod XmcLemmas

@@ -1,0 +1,4 @@
+pub mod GroupingTerms
+pub mod ImagingLemmas
+pub mod MakesTerms
+pub mod ParsingLemmas

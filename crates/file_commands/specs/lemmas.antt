@@ -1,0 +1,7 @@
+pub mod CommandLemmas
+pub mod EndingValuesTerms
+pub mod LaterLemmas
+pub mod OutputLemmas
+pub mod PackingTerms
+pub mod Read
+pub mod WorkTerms

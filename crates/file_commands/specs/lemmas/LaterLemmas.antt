@@ -1,0 +1,179 @@
+-- The files that a command writes after its report are those that its words name.
+use Rattle.std.proofs.Common.{◌≡◌, ℕ, ◌≤◌, ◌⊎◌, inl, inr, ⊎_elim, Bool, true, false, nat_lt, ◌==◌, ◌||◌, if◌then◌else◌, List, [], ◌∷◌, ◌++◌, length, map, drop, Option, Some, None, Result, Ok, Err, refl, sym, ap, ◌∙◌, arith}
+use Rattle.std.proofs.lemmas.List.{length-map, map-append}
+use Rattle.xm_base.specs.declared.limits.TheConstants.{IMAGE_BYTES, TICKS}
+use Rattle.xm_container.specs.Reading.{unpacked}
+use Rattle.fault_messages.specs.declared.fault.BoxFault.{BoxFault}
+use Rattle.loaded_system.specs.Bare.{bare_system}
+use Rattle.loaded_system.specs.System.{System}
+use Rattle.machine_model.specs.Machine.{Machine}
+use Rattle.machine_model.specs.View.{System as Booted}
+use Rattle.system_state.specs.State.{with_inputs}
+use Rattle.command_line.specs.Words.{Command, PartFile, RunOption, Bare, Parse, Upgrade, BuildImage, ReadImage, Pack, ListContainer, CheckContainer, MakePlan, CheckPlan, ListGroups, Generate, Run, Replay, ReplayFiles, cores_in, replay_core, replay_input, scripts_in, span_in}
+use Rattle.builders.specs.Ready.{Replay as Readied, Unready, replay_of}
+use Rattle.file_commands.specs.Denial.{Denial}
+use Rattle.file_commands.specs.Ending.{length_text, ticks_text}
+use Rattle.builders.specs.Grouping.{groups_of}
+use Rattle.builders.specs.Imaging.{container_lines_of, container_verdict_of, image_lines_of, xef_of}
+use Rattle.file_commands.specs.Inputs.{no_inputs}
+use Rattle.file_commands.specs.Outcome.{Output, bare_outcome, content, core_outputs, first_long, input_bytes, inputs_of, later_of, file_made, name_if_any, outcome_of, output_of, packed_to, played, outcome_of_run, ran_for, ran_scripted, ran_with, ran_within, command_refused, replay_outcome_by, replay_outcome, replay_output, run_by, run_outcome, script_before, script_denial, script_output, scripts_for, ticks_asked, text_reported, unless_denied, unless_long, outcome_of_contents}
+use Rattle.file_commands.specs.Packing.{container_of, file_names}
+use Rattle.builders.specs.Parsing.{upgraded_of, xmc_of}
+use Rattle.builders.specs.Planning.{plan_lines_of, verdicts_of}
+use Rattle.file_commands.specs.Work.{file_in}
+use Rattle.file_commands.specs.lemmas.OutputLemmas.{output-named}
+
+-- The names of the files.
+
+-- the names of files that are written
+abbrev pub output_names : List Output → List (List ℕ)
+output_names outputs = map (λ (output : Output). output.file) outputs
+
+-- the files are those that are named, or there are none
+abbrev pub AreNamed : List (List ℕ) → List Output → Type 0
+AreNamed names outputs = (output_names outputs ≡ names) ⊎ (outputs ≡ [])
+
+-- files that were made are those that are named
+abbrev IsNamed : List (List ℕ) → Result (List Output) Denial → Type 0
+IsNamed names (Ok outputs) = output_names outputs ≡ names
+IsNamed names (Err refusal) = Unit {0}
+
+-- so they are no more
+pub named_few : (names : List (List ℕ)) (outputs : List Output) → AreNamed names outputs → length outputs ≤ length names
+named_few names outputs are = ⊎_elim
+    (λ same. (let count : length outputs ≡ length names = sym (length-map outputs (λ (output : Output). output.file)) ∙ ap length same in omega (arith, count)))
+    (λ none. (let count : length outputs ≡ 0 = ap length none in omega (arith, count)))
+    are
+
+-- core files are named as the words name them
+core_outputs-files : (g : Machine) (cores : List PartFile) → output_names (core_outputs g cores) ≡ file_names cores
+unfolding core_outputs
+core_outputs-files g [] = refl
+core_outputs-files g (named ∷ cores) = ap (λ (files : List (List ℕ)). named.file ∷ files) (core_outputs-files g cores)
+
+-- and so are scripts, or one is refused
+scripts_named : (system : Booted) (ticks : ℕ) (names : List PartFile) → IsNamed (file_names names) (scripts_for system ticks names)
+scripts_named system ticks [] = refl
+scripts_named system ticks (named ∷ names) = at (script_denial system ticks named) (scripts_for system ticks names) (scripts_named system ticks names)
+  where
+    at : (refusal : Option Denial) (later : Result (List Output) Denial) → IsNamed (file_names names) later
+        → IsNamed (named.file ∷ file_names names) (unless_denied refusal (script_before (script_output system ticks named) later))
+    at (Some refusal) later are = tt
+    at None (Ok outputs) are = ap (λ (files : List (List ℕ)). named.file ∷ files) are
+    at None (Err refusal) are = tt
+
+ran-later : (ticks : ℕ) (cores : List PartFile) (scripts : List Output) (names : List (List ℕ)) (system : System) (inputs : List (List ℕ)) → output_names scripts ≡ names
+    → AreNamed (file_names cores ++ names) (outcome_of_run ticks cores scripts system inputs).later
+unfolding outcome_of_run
+ran-later ticks cores scripts names system inputs are =
+    inl (map-append (λ (output : Output). output.file) (core_outputs _ cores) scripts ∙ ap (λ (files : List (List ℕ)). files ++ output_names scripts) (core_outputs-files _ cores)
+    ∙ ap (λ (files : List (List ℕ)). file_names cores ++ files) are)
+
+bare-later : (file : List ℕ) (ticks : ℕ) (image : List ℕ) → AreNamed [] (bare_outcome file ticks image).later
+unfolding bare_outcome
+bare-later file ticks image = at ((length image == 0) || nat_lt IMAGE_BYTES (length image))
+  where
+    at : (t : Bool) → AreNamed [] (if t then command_refused file (length_text (length image)) else outcome_of_run ticks [] [] (bare_system image) (no_inputs 1)).later
+    at true = inr refl
+    at false = ran-later ticks [] [] [] (bare_system image) (no_inputs 1) refl
+
+-- the names of the core files and the scripts of a run
+abbrev run_names : List RunOption → List (List ℕ)
+run_names options = file_names (cores_in options) ++ file_names (scripts_in options)
+
+scripted-later : (ticks : ℕ) (options : List RunOption) (system : System) (inputs : List (List ℕ)) (scripts : Result (List Output) Denial) → IsNamed (file_names (scripts_in options)) scripts
+    → AreNamed (run_names options) (ran_scripted ticks (cores_in options) system inputs scripts).later
+scripted-later ticks options system inputs (Ok scripts) are = ran-later ticks (cores_in options) scripts (file_names (scripts_in options)) system inputs are
+scripted-later ticks options system inputs (Err refusal) are = inr refl
+
+within-later : (file : List ℕ) (options : List RunOption) (system : System) (inputs : List (List ℕ)) → AreNamed (run_names options) (ran_within file options system inputs).later
+unfolding ran_within
+within-later file options system inputs = at (ticks_asked (span_in options) system.conf)
+  where
+    by : (asked : ℕ) (t : Bool) (scripts : Result (List Output) Denial) → IsNamed (file_names (scripts_in options)) scripts
+        → AreNamed (run_names options) (if t then command_refused file (ticks_text asked) else ran_scripted asked (cores_in options) system inputs scripts).later
+    by asked true scripts are = inr refl
+    by asked false scripts are = scripted-later asked options system inputs scripts are
+
+    at : (asked : ℕ) → AreNamed (run_names options) (ran_for file asked options system inputs).later
+    at asked = by asked (nat_lt TICKS asked) _ (scripts_named (with_inputs system inputs) asked (scripts_in options))
+
+with-later : (file : List ℕ) (options : List RunOption) (system : System) (read : Result (List (List ℕ)) Denial) → AreNamed (run_names options) (ran_with file options system read).later
+with-later file options system (Ok inputs) = within-later file options system inputs
+with-later file options system (Err refusal) = inr refl
+
+run-later : (file : List ℕ) (options : List RunOption) (bytes : List ℕ) (contents : List (List ℕ)) → AreNamed (run_names options) (run_outcome file options bytes contents).later
+unfolding run_outcome
+run-later file options bytes contents = at (unpacked bytes)
+  where
+    at : (read : Result System BoxFault) → AreNamed (run_names options) (run_by file options contents read).later
+    at (Ok system) = with-later file options system _
+    at (Err fault) = inr refl
+
+made-later : (input file : List ℕ) (made_of : Result (List ℕ) (List ℕ)) → (file_made input file made_of).later ≡ []
+made-later input file (Ok bytes) = refl
+made-later input file (Err text) = refl
+
+packed-later : (file : List ℕ) (packed : Result (List ℕ) Denial) → (packed_to file packed).later ≡ []
+packed-later file (Ok bytes) = refl
+packed-later file (Err refusal) = refl
+
+reported-later : (file : List ℕ) (text : Result (List ℕ) (List ℕ)) → (text_reported file text).later ≡ []
+reported-later file (Ok text) = refl
+reported-later file (Err text) = refl
+
+-- the core file of a replay
+replay_output-files : (replay : Readied) (core : Option (List ℕ)) → output_names (map (replay_output replay) (name_if_any core)) ≡ name_if_any core
+replay_output-files replay None = refl
+replay_output-files replay (Some file) = refl
+
+played-later : (core : Option (List ℕ)) (replay : Readied) → AreNamed (name_if_any core) (played core replay).later
+unfolding played
+played-later core replay = inl (replay_output-files replay core)
+
+replay-later : (container : List ℕ) (part : ℕ) (script : List ℕ) (further : ReplayFiles) (bytes received input : List ℕ) → AreNamed (name_if_any (replay_core further)) (replay_outcome container part script further bytes received input).later
+unfolding replay_outcome
+replay-later container part script further bytes received input = at (replay_of bytes part received input)
+  where
+    at : (made_of : Result Readied Unready) → AreNamed (name_if_any (replay_core further)) (replay_outcome_by container part script further made_of).later
+    at (Ok replay) = played-later (replay_core further) replay
+    at (Err why) = inr refl
+
+-- the files after the report are those that the words name, or none
+pub later-named : (command : Command) (contents : List (List ℕ)) → AreNamed (later_of command) (outcome_of command contents).later
+unfolding outcome_of
+later-named command contents = at command (first_long (inputs_of command) contents)
+  where
+    at : (command : Command) (long : Option (List ℕ)) → AreNamed (later_of command) (unless_long long (outcome_of_contents command contents)).later
+    at command (Some file) = inr refl
+    at (Bare image ticks) None = bare-later image ticks (content 0 contents)
+    at (Parse description out) None = inr (made-later description out (xmc_of (content 0 contents)))
+    at (Upgrade configuration out) None = inr (made-later configuration out (upgraded_of (content 0 contents)))
+    at (BuildImage program out) None = inr (made-later program out (xef_of (content 0 contents)))
+    at (ReadImage image) None = inr (reported-later image (image_lines_of (content 0 contents)))
+    at (Pack configuration out images) None = inr (packed-later out (container_of configuration (content 0 contents) images (drop 1 contents)))
+    at (ListContainer container) None = inr (reported-later container (container_lines_of (content 0 contents)))
+    at (CheckContainer container) None = inr (reported-later container (container_verdict_of (content 0 contents)))
+    at (MakePlan description) None = inr (reported-later description (plan_lines_of (content 0 contents)))
+    at (CheckPlan description) None = inr (reported-later description (verdicts_of (content 0 contents)))
+    at (ListGroups description) None = inr (reported-later description (groups_of (content 0 contents)))
+    at (Generate number) None = inr refl
+    at (Run container options) None = run-later container options (content 0 contents) (drop 1 contents)
+    at (Replay container part script further) None = replay-later container part script further (content 0 contents) (content 1 contents) (input_bytes (replay_input further) (content 2 contents))
+
+-- a command whose words name none of them has none
+pub no-later : (command : Command) (contents : List (List ℕ)) → later_of command ≡ [] → (outcome_of command contents).later ≡ []
+no-later command contents none =
+    empty _ (named_few (later_of command) (outcome_of command contents).later (later-named command contents)) none
+  where
+    empty : (outputs : List Output) → length outputs ≤ length (later_of command) → later_of command ≡ [] → outputs ≡ []
+    empty [] few none = refl
+    empty (output ∷ outputs) few none = (let zero : length (later_of command) ≡ 0 = ap length none in absurd (omega (arith, few, zero)))
+
+-- the file before the report is the one that the words name, or none
+pub first-named : (command : Command) (contents : List (List ℕ)) → AreNamed (name_if_any (output_of command)) (file_in (outcome_of command contents).output)
+first-named command contents = at (outcome_of command contents).output (output-named command contents)
+  where
+    at : (o : Option Output) → ((output : Output) → o ≡ Some output → output_of command ≡ Some output.file) → AreNamed (name_if_any (output_of command)) (file_in o)
+    at None named = inr refl
+    at (Some output) named = inl (sym (ap name_if_any (named output refl)))

@@ -1,0 +1,9 @@
+pub mod DigestLemmas
+pub mod FaultsTerms
+pub mod FieldLemmas
+pub mod GivesTerms
+pub mod HeadLemmas
+pub mod HeadsTerms
+pub mod LiftedLemmas
+pub mod LiftedTerms
+pub mod StepLemmas

@@ -1,0 +1,4 @@
+pub mod AccessLemmas
+pub mod MemoryFacts
+pub mod MemoryLemmas
+pub mod WholeLemmas

@@ -1,0 +1,12 @@
+pub mod CallLemmas
+pub mod EndLemmas
+pub mod LinkLemmas
+pub mod ListLemmas
+pub mod ListsTerms
+pub mod LocalTickTerms
+pub mod LogCallsTerms
+pub mod MachineTerms
+pub mod NameLemmas
+pub mod PortCallsTerms
+pub mod TickLemmas
+pub mod TimeCallsTerms

@@ -1,0 +1,3 @@
+pub mod NeededTerms
+pub mod ServedTerms
+pub mod Turns

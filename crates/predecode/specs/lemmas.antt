@@ -1,0 +1,4 @@
+pub mod KeptLemmas
+pub mod KindsTerms
+pub mod RowsLemmas
+pub mod Sources

@@ -1,0 +1,2 @@
+pub mod LoneSpanTerms
+pub mod LoneWorkTerms

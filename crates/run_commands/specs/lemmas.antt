@@ -1,0 +1,10 @@
+pub mod AccountLemmas
+pub mod BoardLemmas
+pub mod ContentLemmas
+pub mod CoreLemmas
+pub mod Cores
+pub mod EndsAfterLemmas
+pub mod InputLemmas
+pub mod NumbersTerms
+pub mod ReadyRuns
+pub mod Scripts

@@ -1,0 +1,35 @@
+-- For proofs and private clauses: what partitions receive in a run that makes scripts of it.
+use Rattle.std.specs.Prelude.{◌≡◌, ℕ, List, ◌∷◌, Option, Some, None}
+use Rattle.xm_outside.specs.Files.{Files}
+use Rattle.machine_model.specs.Cue.{script}
+use Rattle.command_line.specs.Words.{Command, RunOption, Bare, Parse, Upgrade, BuildImage, ReadImage, Pack, ListContainer, CheckContainer, MakePlan, CheckPlan, ListGroups, Generate, Run, Replay, inputs_in}
+use Rattle.file_commands.specs.Outcome.{first_long}
+use Rattle.file_commands.specs.Packing.{file_names}
+use Rattle.run_commands.specs.Numbers.{ReceivesIn, ReceivesOf}
+
+-- they are, and none of the files is too long
+pub record ReceivesShort (container : List ℕ) (options : List RunOption) (contents : List (List ℕ)) : Type 0 where
+  pub short : first_long (container ∷ file_names (inputs_in options)) contents ≡ None
+  pub received : ReceivesIn options contents
+
+-- the same of a command; only a run of a container makes scripts
+abbrev pub CommandReceives : Command → Option Files → Type 0
+CommandReceives (Bare image ticks) known = Unit {0}
+CommandReceives (Parse description output) known = Unit {0}
+CommandReceives (Upgrade configuration output) known = Unit {0}
+CommandReceives (BuildImage program output) known = Unit {0}
+CommandReceives (ReadImage image) known = Unit {0}
+CommandReceives (Pack configuration output images) known = Unit {0}
+CommandReceives (ListContainer container) known = Unit {0}
+CommandReceives (CheckContainer container) known = Unit {0}
+CommandReceives (MakePlan description) known = Unit {0}
+CommandReceives (CheckPlan description) known = Unit {0}
+CommandReceives (ListGroups description) known = Unit {0}
+CommandReceives (Generate number) known = Unit {0}
+CommandReceives (Run container options) known = ReceivesOf container options known
+CommandReceives (Replay container part script further) known = Unit {0}
+
+-- and of words
+abbrev pub WordsReceive : Option Command → Option Files → Type 0
+WordsReceive None known = Unit {0}
+WordsReceive (Some command) known = CommandReceives command known

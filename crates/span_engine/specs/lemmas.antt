@@ -1,0 +1,4 @@
+pub mod Ending
+pub mod LaterLemmas
+pub mod PlaceLemmas
+pub mod PlaceTerms

@@ -1,0 +1,2 @@
+pub mod MeetingTerms
+pub mod RunLemmas

@@ -1,0 +1,6 @@
+pub mod CachedLemmas
+pub mod CachedTerms
+pub mod ExecutionTerms
+pub mod TransfersTerms
+pub mod UndoneLemmas
+pub mod WindowTraps

@@ -1,0 +1,15 @@
+pub mod GoesOnLemmas
+pub mod HealthLemmas
+pub mod InstructionLemmas
+pub mod KeptLemmas
+pub mod KeptTerms
+pub mod ListLemmas
+pub mod PartLemmas
+pub mod PassLemmas
+pub mod QuietRunLemmas
+pub mod ReachLemmas
+pub mod SightLemmas
+pub mod SlotLemmas
+pub mod SpanTerms
+pub mod WorkLemmas
+pub mod WorkTerms

@@ -1,0 +1,2 @@
+pub mod MovesTerms
+pub mod SaveAreaTerms

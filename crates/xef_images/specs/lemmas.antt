@@ -1,0 +1,4 @@
+pub mod ImageLemmas
+pub mod TableLemmas
+pub mod TestsTerms
+pub mod XefLemmas

@@ -1,0 +1,2 @@
+pub mod MasksTerms
+pub mod RightsTerms

@@ -1,0 +1,6 @@
+pub mod AloneStepTerms
+pub mod CuesTerms
+pub mod HeardTerms
+pub mod OutcomeTerms
+pub mod StepsTerms
+pub mod StretchTerms

@@ -1,0 +1,2 @@
+pub mod KeptTerms
+pub mod Tried

@@ -1,0 +1,9 @@
+pub mod Answered
+pub mod Capped
+pub mod ElementsTerms
+pub mod Families
+pub mod Gathered
+pub mod Judged
+pub mod Misplaced
+pub mod Numbers
+pub mod Reported
