@@ -21,7 +21,7 @@ use crate::law::{read_is_spelled, spelled_is_read};
 use crate::version::Version;
 use fault_messages::XmcFault;
 use std::alloc::Global;
-use xm_base::Cursor;
+use xm_base::{Cursor, proof};
 use xm_conf::{
     Action, Area, Chan, ChanKind, Conf, End, HmTable, Kind, Link, Name, Need, Part, Plan, Port,
     RawConf, Region, Slot, Way, broken_unless_fits,
@@ -515,7 +515,7 @@ fn fields(alloc: Global, version: Version, cursor: &mut Cursor<'_>) -> Result<Ra
 fn unbroken(version: Version, raw: RawConf) -> Result<Conf, XmcFault>
     ensures { Gives Fails (λ value. value) result (reading.unbroken raw (first_broken (parts_in_version version) (described raw))) }
 {
-    broken_unless_fits();
+    proof! { broken_unless_fits(); }
     match Conf::within(version.parts(), raw) {
         Ok(conf) => Ok(conf),
         Err(broken) => Err(XmcFault::NotFit { rule: broken.rule }),
@@ -544,8 +544,10 @@ pub fn read_xmc(alloc: Global, bytes: &[u8]) -> Result<Conf, XmcFault>
     // A fault is the first one.
     ensures exact { Gives Fails (λ found. found) result (reading.read_of bytes.now) }
 {
-    read_is_spelled();
-    spelled_is_read();
+    proof! {
+        read_is_spelled();
+        spelled_is_read();
+    }
     read_within(alloc, None, bytes)
 }
 
@@ -558,7 +560,9 @@ pub fn read_version(alloc: Global, version: Version, bytes: &[u8]) -> Result<Con
     // A fault is the first one.
     ensures exact { Gives Fails (λ found. found) result (reading.read_as version bytes.now) }
 {
-    read_is_spelled();
-    spelled_is_read();
+    proof! {
+        read_is_spelled();
+        spelled_is_read();
+    }
     read_within(alloc, Some(version), bytes)
 }

@@ -16,7 +16,7 @@ use crate::law::spelled_is_read;
 use crate::put::{append, put_byte, put_half_word, put_word};
 use crate::version::Version;
 use std::alloc::Global;
-use xm_base::Memory;
+use xm_base::{Memory, proof};
 use xm_conf::{
     Action, Area, Chan, ChanKind, Conf, End, HmTable, Kind, Link, Name, Need, Part, Plan, Port,
     RawConf, Region, Slot, Way,
@@ -361,7 +361,7 @@ pub fn write_xmc(alloc: Global, conf: &Conf) -> Result<Vec<u8>, Memory>
     ensures ranges { OnOk result (spelled.HasConfRanges conf.now) }
     ensures read { IfOk result (λ bytes. read_of bytes.items ≡ Ok conf.now) }
 {
-    spelled_is_read();
+    proof! { spelled_is_read(); }
     let body = body_of(alloc, conf)?;
     framed(alloc, &body)
 }

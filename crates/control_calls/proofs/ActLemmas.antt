@@ -1,4 +1,4 @@
--- What a call that reaches beyond its caller comes to, and what it leaves where it is shown something.
+-- The outcome of a call that reaches beyond its caller, and what it leaves where it is shown something.
 use Rattle.std.proofs.Common.{◌≡◌, ℕ, true, false, List, [], ◌∷◌, length, refl, sym, ap, ◌∙◌, subst}
 use Rattle.std.specs.Prelude.{◌==◌, ◌&&◌, ◌||◌, Bool, IfSome, Option, None, Some, if◌then◌else◌, nat_lt, not}
 use Rattle.guest_bus.specs.Memory.{Area, all_from, holds_address, is_readable, is_writable}
@@ -36,7 +36,7 @@ room_readable site sys address size is =
     let writable = ap (λ (seen : List Area). all_from (is_writable seen) address size) (sym (areas_seen site sys)) ∙ is in
     all_from-true (is_readable areas) address size (λ q over under. byte_readable areas q (all_from-each (is_writable areas) address size q writable over under))
 
--- an act that is told has no traffic to be left out
+-- an act that is reported has no traffic to be left out
 pub untraded_act : (act : Act) → untraded (upshot_of act) ≡ upshot_of act
 untraded_act act.Nothing = refl
 untraded_act (act.Upon id order) = refl

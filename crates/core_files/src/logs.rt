@@ -100,7 +100,7 @@ fn entry_at<T: Copy>(log: &Ring<T>, place: usize) -> T
     }
 }
 
-/// Looks at the logs of a partition, so that it is known how long they are and that each trace entry has 8 bytes.
+/// For the proof: how long the logs of a partition are, and that each trace entry has 8 bytes.
 pub(crate) fn look_at_logs(sys: &Sys, p: PartId)
     requires { p < length sys.now.machine.parts }
     ensures loads { HaveEight (part_at p sys.now.machine).traces.entries }
@@ -112,7 +112,7 @@ pub(crate) fn look_at_logs(sys: &Sys, p: PartId)
     let _events = kept(&own.health);
 }
 
-/// Looks at each trace entry.
+/// For the proof: a log of traces keeps at most 64 entries, and each has 8 bytes.
 fn look_at(traces: &Ring<TraceEntry>)
     ensures loads { HaveEight traces.now.entries }
     ensures few { length traces.now.entries ≤ 64 }
@@ -123,7 +123,7 @@ fn look_at(traces: &Ring<TraceEntry>)
     }
 }
 
-/// Looks at a trace entry.
+/// For the proof: a trace entry has 8 bytes.
 fn look_at_entry(entry: &TraceEntry)
     ensures eight { length entry.now.load ≡ 8 }
 {

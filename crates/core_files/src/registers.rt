@@ -36,7 +36,7 @@ fn put_words(into: &mut [u8], at: usize, words: &[u32]) -> usize
     after
 }
 
-/// Looks at the registers of a partition, so that it is known how many they are.
+/// For the proof: how many registers a partition has.
 pub(crate) fn look_at_registers(sys: &Sys, p: PartId)
     requires { p < length sys.now.machine.parts }
     ensures globals { length (part_at p sys.now.machine).core.globals ≡ 8 }

@@ -10,7 +10,7 @@ ghost use Rattle.system_state.specs.State.{part_at};
 use system_state::Sys;
 use system_state::structures::{Structure, state_number};
 use virt_clocks::{Clock, Timer};
-use xm_base::PartId;
+use xm_base::{PartId, proof};
 use xm_ports::Ports;
 
 /// The version of the format.
@@ -109,7 +109,7 @@ fn port_bits(ports: &Ports) -> u32
     ensures { result ≡ bits_of_flags ports.now }
 {
     // Its contract says that there are 32.
-    let _first = ports.is_made(0);
+    proof! { let _first = ports.is_made(0); }
     let mut bits = 0;
     let mut port = PORTS;
     while port > 0 {

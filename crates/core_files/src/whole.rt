@@ -16,7 +16,7 @@ use crate::registers::{look_at_registers, put_registers};
 use crate::standing::{made_ports, processor, standing, timer};
 use system_state::Sys;
 use virt_clocks::Clock;
-use xm_base::PartId;
+use xm_base::{PartId, proof};
 use xm_conf::{Area, Conf};
 
 /// Bytes of a core file up to the number of areas, which is the last of them.
@@ -31,9 +31,12 @@ pub fn core_length(sys: &Sys, p: PartId) -> usize
     ensures value { result ≡ core_length_of (view_of sys.now.machine.system p) }
     ensures length { result ≡ length (core_file (view_of sys.now.machine.system p) (part_at p sys.now.machine)) }
 {
-    look_at_registers(sys, p);
-    look_at_logs(sys, p);
-    let _count = sys.count();
+    proof! {
+        look_at_registers(sys, p);
+        look_at_logs(sys, p);
+    }
+    // As many partitions run as are configured.
+    proof! { let _count = sys.count(); }
     length_of(configured_areas(sys.conf(), p))
 }
 
@@ -65,7 +68,8 @@ pub fn core_into(sys: &Sys, p: PartId, into: &mut [u8])
     requires size { length into.old ≡ core_length_of (view_of sys.now.machine.system p) }
     ensures file { into.new ≡ core_file (view_of sys.now.machine.system p) (part_at p sys.now.machine) }
 {
-    let _count = sys.count();
+    // As many partitions run as are configured.
+    proof! { let _count = sys.count(); }
     let areas = configured_areas(sys.conf(), p);
     let at = put_head(into, sys, p);
     put_areas(into, at, areas, sys, p);

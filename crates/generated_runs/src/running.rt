@@ -15,7 +15,7 @@ use generated_system::{container_of, system_in};
 use machine_model::keeps_numbers;
 use std::alloc::Global;
 use uart_board::Board;
-use xm_base::Memory;
+use xm_base::{Memory, proof};
 use xm_machine::{Inputs, Machine, Ran};
 use xm_outside::SureSink;
 
@@ -39,7 +39,7 @@ fn run_container(alloc: Global, number: u32, container: &[u8]) -> Result<Vec<u8>
     requires read { unpacked container.now ≡ Ok (generated number) }
     ensures { IfOk result (λ text. text.items ≡ generated_text number) }
 {
-    keeps_numbers();
+    proof! { keeps_numbers(); }
     let system = system_in(alloc, container)?;
     let inputs = Inputs::new(alloc, PARTS)?;
     let mut machine = Machine::boot(alloc, system, inputs)?;

@@ -7,7 +7,7 @@ use crate::channels::channels;
 use crate::parts::{name, parts};
 use crate::plan::plan;
 use std::alloc::Global;
-use xm_base::Memory;
+use xm_base::{Memory, proof};
 use xm_conf::{Conf, RawConf, Region, broken_unless_fits};
 
 /// The region, and the hypervisor's share of it.
@@ -21,7 +21,7 @@ const HYPERVISOR_BYTES: u32 = 0x0001_0000;
 pub(crate) fn configuration(alloc: Global, number: u32) -> Result<Conf, Memory>
     ensures { IfOk result (λ conf. conf ≡ generated_conf number) }
 {
-    broken_unless_fits();
+    proof! { broken_unless_fits(); }
     let raw = raw(alloc, number)?;
     let Ok(conf) = Conf::new(raw) else {
         unreachable!();

@@ -205,7 +205,7 @@ port_on caller the_kind the_way made is way_is = record {
   name_is = is.name_is;
 }
 
--- a message of so many bytes at an address that fits its source port, and for a queue one that has room, is put so
+-- a message of this many bytes at an address that fits its source port, and for a queue one that has room, is put so
 putting_within : (the_kind : Kind) (address size : ℕ) (caller : Caller) (made : MadePort) → IsMadePort caller the_kind made → source_only made ≡ None → size_fits made size ≡ None
     → HasPortRoom the_kind made.shape.kind made.content → IsPutting caller.view caller.contents made.name (caller_bytes caller address size)
 putting_within the_kind address size caller made is passed fits has_room =
@@ -331,7 +331,7 @@ flush_within : (view : PartitionView) (contents : List (Option Content)) (answer
 flush_within view contents (Ok all) ps caller = tt
 flush_within view contents (Err fault) ps caller = tt
 
--- whatever an effect comes to is within what its caller has, whatever tests its call has
+-- the outcome of an effect is within what its caller has, whatever tests its call has
 asked_within : (effect : CallEffect) (tests : List Test) (caller : Caller) → ComesWithin caller.view caller.contents (tested (right_tests effect caller ++ tests) caller (comes_to effect caller)).upshot
 asked_within (GivesAnswer value writings) tests caller = tested_within caller.view caller.contents tests caller _ tt
 asked_within (PrintsBytes bytes value) tests caller = tested_within caller.view caller.contents tests caller _ tt
@@ -364,7 +364,7 @@ asked_within SpillsWindows tests caller =
 pub effects_act_within_own : EffectsActWithinOwn
 effects_act_within_own asked caller = asked_within asked.effect asked.tests caller
 
--- so what any call comes to is within what its caller has
+-- so the outcome of any call is within what its caller has
 record Stays (view : PartitionView) (contents : List (Option Content)) (comes : Served) : Type 0 where
   within : ComesWithin view contents comes.upshot
 

@@ -32,7 +32,7 @@ written_at address bytes = record { address = address; bytes = bytes } ∷ []
 abbrev pub timer_set : Caller → OwnChange
 timer_set caller = ArmsTimer (clock_numbered (a_of caller)) (armed (joined (b_of caller) (c_of caller)) (joined (d_of caller) (e_of caller)))
 
--- an entry of so many bytes of a log, the caller's own or another's, is read to c
+-- an entry of this many bytes of a log, the caller's own or another's, is read to c
 abbrev pub entry_read : {T : Type 0} → ℕ → (T → List ℕ) → Kept T → Caller → TestedEffect
 entry_read size bytes kept caller =
     where_passed (target caller (a_of caller) ∷ refused_if (is_missing caller kept) not_available ∷ room caller (c_of caller) size ∷ [])
@@ -188,7 +188,7 @@ call_of number =
     else if number == 38 then Some RaiseIpvi
     else None
 
--- what a call comes to; a number that is no call's is answered so
+-- the outcome of a call; a number that is no call's is answered so
 abbrev pub by_call : Option Call → Caller → Served
 by_call None caller = answering unknown_call caller.state
 by_call (Some call) caller = performed (effect_of_call call caller) caller

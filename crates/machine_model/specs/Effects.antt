@@ -1,4 +1,4 @@
--- What hypercalls do, as values: seventeen effects, the tests that each makes by itself, and what each comes to.
+-- What hypercalls do, as values: seventeen effects, the tests that each makes by itself, and what the outcome of each is.
 use Rattle.std.specs.Prelude.{ℕ, ◌++◌, ◌==◌, ◌||◌, ◌∷◌, Bool, not, List, Option, [], nat_lt}
 use Rattle.sparc_step.specs.Registers.{with_icc}
 use Rattle.virt_clocks.specs.Clocks.{with_timer}
@@ -47,8 +47,8 @@ with_change (SetsCodes icc enabled) ps = record ps { core = with_icc ps.core icc
 with_change (SetsBase base) ps = record ps { traps = record ps.traps { base = base } }
 
 -- what a call does where its tests are passed: it answers and writes bytes of its partition's memory; it prints bytes to the console; it orders a
--- partition; it does this to all partitions; it requests a plan; it puts a message of so many bytes at an address through a port of this kind; it takes
--- the first message of a queue; it sends a signal over the link of this number; it reads the message of a sampling port; it writes so many bytes on a
+-- partition; it does this to all partitions; it requests a plan; it puts a message of this many bytes at an address through a port of this kind; it takes
+-- the first message of a queue; it sends a signal over the link of this number; it reads the message of a sampling port; it writes this many bytes on a
 -- port of this kind; it creates a port; it changes its own partition; it enters a trace; it uses an input word; it meets a health event; it goes back
 -- from a trap; or it spills its windows
 pub data CallEffect : Type 0 where
@@ -99,11 +99,11 @@ abbrev pub queue_room : Kind → MadePort → List Test
 queue_room kind.Sampling port = []
 queue_room kind.Queuing port = refused_if (is_full port) not_available ∷ []
 
--- a message of so many bytes at an address is put into the port's channel
+-- a message of this many bytes at an address is put into the port's channel
 abbrev pub putting_bytes : ℕ → ℕ → Caller → MadePort → Served
 putting_bytes address size caller port = acting (Trades (OwnPuts port.name (caller_bytes caller address size))) 0 caller.state
 
--- what an effect comes to where the tests are passed; the effects on ports look for the port that the call names, and test it
+-- the outcome of an effect where the tests are passed; the effects on ports look for the port that the call names, and test it
 abbrev pub comes_to : CallEffect → Caller → Served
 comes_to (GivesAnswer value writings) caller = answering value (with_writings writings caller.state)
 comes_to (PrintsBytes bytes value) caller = record (answering value caller.state) { emitted = printed bytes }
@@ -133,6 +133,6 @@ pub record TestedEffect : Type 0 where
   pub tests : List Test
   pub effect : CallEffect
 
--- what it comes to: the tests of the effect's right are made first, then those of the call
+-- its outcome: the tests of the effect's right are made first, then those of the call
 abbrev pub performed : TestedEffect → Caller → Served
 performed asked caller = tested (right_tests asked.effect caller ++ asked.tests) caller (comes_to asked.effect caller)

@@ -146,6 +146,6 @@ TwoRunsEarlier = (one other : System) (p count fewer : ℕ) → fewer ≤ count 
 abbrev pub HasOwnNumber : Type 0
 HasOwnNumber = (call : Call) → call_of (number_of_call call) ≡ Some call
 
--- what a partition's call comes to is what the call of its number tests and does
+-- the outcome of a partition's call is what the call of its number tests and does
 abbrev pub ServesByNumber : Type 0
 ServesByNumber = (caller : Caller) → served caller ≡ by_call (call_of (number_of caller)) caller

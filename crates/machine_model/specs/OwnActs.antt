@@ -82,12 +82,12 @@ AsksWithin view contents (emission.Upon id order) = (id == view.id) ≡ false �
 AsksWithin view contents (emission.Plans change) = IsWithinOwn view contents (emission.Plans change)
 AsksWithin view contents (emission.UponAll event) = IsWithinOwn view contents (emission.UponAll event)
 
--- and so is what it comes to; a health event that it meets is answered by the partition's own table
+-- and so is its outcome; a health event that it meets is answered by the partition's own table
 abbrev pub ComesWithin : PartitionView → List (Option Content) → Upshot → Type 0
 ComesWithin view contents (Acts act) = AsksWithin view contents act
 ComesWithin view contents (Meets event word) = Unit {0}
 
--- whatever tests a call makes before, each effect comes to what is within what the caller has: of these 38 calls, and of any further one
+-- whatever tests a call makes before, the outcome of each effect is within what the caller has: of these 38 calls, and of any further one
 abbrev pub EffectsActWithinOwn : Type 0
 EffectsActWithinOwn = (asked : TestedEffect) (caller : Caller) → ComesWithin caller.view caller.contents (performed asked caller).upshot
 

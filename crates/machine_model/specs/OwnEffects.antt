@@ -1,4 +1,4 @@
--- What the effects on the caller's own things come to: a trace, the console, an input word, masked interrupts, the way back from a trap, and the windows.
+-- The outcome of the effects on the caller's own things: a trace, the console, an input word, masked interrupts, the way back from a trap, and the windows.
 use Rattle.std.specs.Prelude.{ℕ, if◌then◌else◌, ◌%◌, ◌+◌, ◌==◌, ◌∷◌, suc, zero, Err, List, Ok, Result, []}
 use Rattle.guest_bus.specs.Memory.{Area}
 use Rattle.virt_traps.specs.Delivery.{Returned}
@@ -23,7 +23,7 @@ trace_entry caller = record {
   load = caller_bytes caller (b_of caller) 8;
 }
 
--- the entry is noted and told
+-- the entry is noted and emitted
 abbrev pub tracing : Caller → Served
 tracing caller = record (answering 0 (record caller.state { traces = noted (trace_entry caller) caller.state.traces })) {
   emitted = Trace (a_of caller) (caller_bytes caller (b_of caller) 8) ∷ [];
@@ -59,7 +59,7 @@ by_return (Ok left) r caller = record { after = record caller.state { core = r.c
 by_return (Err Unaligned) r caller = answering invalid_parameter caller.state
 by_return (Err Stack) r caller = undone caller caller.state
 
--- the windows spilled until all but the current one are, at most so many; a refused spill ends it, and the spills before it stay
+-- the windows spilled until all but the current one are, at most this many; a refused spill ends it, and the spills before it stay
 abbrev pub flushed_after : (Moved → Moved) → Moved → Result (Unit {0}) StackFault → Moved
 flushed_after further moved (Ok one) = further moved
 flushed_after further moved (Err fault) = moved

@@ -1,4 +1,4 @@
--- What the effects on ports come to: a port is created, a message is put or read, and a port's status is shown.
+-- The outcome of the effects on ports: a port is created, a message is put or read, and a port's status is shown.
 use Rattle.std.specs.Prelude.{ℕ, if◌then◌else◌, ◌==◌, ◌||◌, ◌∷◌, Bool, false, not, suc, true, zero, Err, List, None, Ok, Option, Result, Some, [], length, nat_le, nat_lt, slice_get, slice_index_or}
 use Rattle.guest_bus.specs.Memory.{Memory, byte_at, is_readable}
 use Rattle.xm_base.specs.Options.{on}
@@ -17,7 +17,7 @@ use Rattle.machine_model.specs.Structures.{validity, word}
 use Rattle.machine_model.specs.Emission.{OwnTakes, Trades}
 use Rattle.machine_model.specs.View.{PartitionView, PortChannel}
 
--- a name in memory: the bytes before the first zero byte, of which there is one within so many; each up to it may be read
+-- a name in memory: the bytes before the first zero byte, of which there is one within this many; each up to it may be read
 abbrev pub name_at : (ℕ → Bool) → Memory → ℕ → ℕ → Option (List ℕ)
 name_at allowed memory address zero = None
 name_at allowed memory address (suc count) =
@@ -33,7 +33,7 @@ name_given caller = name_at (is_readable (areas_of caller.view)) caller.state.me
 abbrev pub shape_at : PartitionView → ℕ → Option Shape
 shape_at view r = on (λ channel. channel.shape) (slice_index_or view.channels r None)
 
--- the result that tells why a port was not made
+-- the result that says why a port was not made
 abbrev pub create_refusal : CreateFault → ℕ
 create_refusal NoPort = invalid_configuration
 create_refusal Differs = invalid_configuration
@@ -96,7 +96,7 @@ destination_only port = refused_if (is_source port.way) not_allowed
 abbrev pub reading_from : Kind → Caller → (MadePort → Served) → Served
 reading_from the_kind caller read = on_port (made_port the_kind caller) caller (λ port. tested (destination_only port ∷ []) caller (read port))
 
--- a call that writes the status of a port of a kind at b, so many bytes
+-- a call that writes the status of a port of a kind at b, this many bytes
 abbrev pub writing_status : Kind → ℕ → Caller → (MadePort → List ℕ) → Served
 writing_status the_kind size caller status = on_port (made_port the_kind caller) caller (λ port.
     tested (room caller (b_of caller) size ∷ []) caller (answering 0 (with_written (b_of caller) (status port) caller.state)))

@@ -37,7 +37,7 @@ abbrev pub bytes_of_entry : {T : Type 0} → (T → List ℕ) → Option T → L
 bytes_of_entry bytes None = []
 bytes_of_entry bytes (Some entry) = bytes entry
 
--- entry number b of a log is not kept: the caller's own, or as it is told of another's
+-- entry number b of a log is not kept: the caller's own, or another's, as the caller is shown
 abbrev pub is_missing : {T : Type 0} → Caller → Kept T → Bool
 is_missing caller kept = if is_own caller then is_none (entry_at (b_of caller) kept) else is_not_kept caller.sight
 

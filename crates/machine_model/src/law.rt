@@ -89,14 +89,14 @@ pub fn acts_within_bounds()
     ensures own { ActsWithinOwn }
 {}
 
-/// Each call has its own number, and what a partition's call comes to is what the call of its number
+/// Each call has its own number, and the outcome of a partition's call is what the call of its number
 /// tests and does.
 pub fn serves_by_number()
     ensures numbers { HasOwnNumber }
     ensures serves { ServesByNumber }
 {}
 
-/// Each effect comes to what is within what its partition has, whatever tests its call makes before.
+/// The outcome of each effect is within what its partition has, whatever tests its call makes before.
 pub fn effects_act_within_own()
     ensures law { EffectsActWithinOwn }
 {}

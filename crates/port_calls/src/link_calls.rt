@@ -12,7 +12,7 @@ use crate::message_calls::set_result;
 use crate::traffic::signal;
 use system_state::answering::{A, INVALID_PARAMETER, answer, argument};
 use system_state::{Act, CallSite, Note, Served, Sys};
-use xm_base::PartId;
+use xm_base::{PartId, proof};
 use xm_conf::{Conf, LINK_NUMBERS};
 
 /// Call 38, XM_raise_ipvi(a): a signal over the caller's link of number a.
@@ -33,7 +33,7 @@ fn found_link(conf: &Conf, p: PartId, number: u32) -> Option<PartId>
     ensures goes { IfSome result (λ dest. GoesTo conf.now p number dest) }
 {
     // Its contract says that the links meet the rules.
-    let _links = &conf.raw().links;
+    proof! { let _links = &conf.raw().links; }
     if number < u32::from(LINK_NUMBERS) {
         conf.link_of(p, number as u8)
     } else {
@@ -50,7 +50,8 @@ fn signal_over(sys: &mut Sys, site: CallSite, number: u8, dest: PartId) -> Serve
     ensures { IsServed site.part Unseen (raise_ipvi (caller_of site sys.old)) result sys.old sys.new }
 {
     set_result(sys, site, 0);
-    let _count = sys.count();
+    // As many partitions run as are configured.
+    proof! { let _count = sys.count(); }
     signal(sys, dest, number);
     Served {
         note: Note::Signal { number },

@@ -18,7 +18,7 @@ ghost use Rattle.system_state.specs.Serving.{IsCaller, caller_of};
 use machine_model::keeps_shapes;
 use system_state::answering::{A, argument};
 use system_state::{CallSite, Sys};
-use xm_base::PartId;
+use xm_base::{PartId, proof};
 use xm_conf::{ChanKind, Conf, Kind, Port, Way};
 use xm_ports::Channels;
 
@@ -41,10 +41,13 @@ pub(crate) fn made_port(sys: &Sys, site: CallSite, kind: Kind) -> Option<MadePor
     ensures made { IfSome result (IsMade kind site.part sys.now) }
 {
     let port = made_number(sys, site)?;
-    let _count = sys.count();
-    keeps_shapes();
+    // As many partitions run as are configured.
+    proof! {
+        let _count = sys.count();
+        keeps_shapes();
+    }
     let found = found_in(sys.conf(), site.part, port, kind)?;
-    look_at(sys.channels(), found.chan, kind);
+    proof! { look_at(sys.channels(), found.chan, kind); }
     Some(found)
 }
 
@@ -144,7 +147,7 @@ fn is_kind(a: Kind, b: Kind) -> bool
     }
 }
 
-/// Looks at a channel, so that what holds of all channels is known.
+/// For the proof: what holds of all channels.
 fn look_at(channels: &Channels, chan: u8, kind: Kind)
     requires { HasKind kind chan channels.now }
     ensures { IsTable channels.now }

@@ -12,7 +12,7 @@ ghost use Rattle.port_calls.specs.lemmas.Traffic.{heard_at, hears_from, hears_in
 
 use system_state::Sys;
 use system_state::interrupts::{LINK_SIGNAL, QUEUING_MESSAGE, SAMPLING_MESSAGE};
-use xm_base::{PartId, State};
+use xm_base::{PartId, State, proof};
 use xm_conf::{Port, Way};
 use xm_ports::Full;
 
@@ -118,7 +118,8 @@ fn ports_of(sys: &Sys, q: PartId) -> &[Port]
     ensures ports { result.now ≡ (part_of sys.now.machine.system.conf q).ports }
     ensures few { length result.now ≤ 32 }
 {
-    let _count = sys.count();
+    // As many partitions run as are configured.
+    proof! { let _count = sys.count(); }
     &sys.conf().raw().parts[usize::from(q)].ports
 }
 

@@ -16,11 +16,11 @@ use predecode::{HasRows, Row, row_for};
 use std::alloc::{AllocError, Global};
 use std::marker::Model;
 use xef_images::Xef;
-use xm_base::{Memory, PartId};
+use xm_base::{Memory, PartId, proof};
 use xm_conf::{Area, Conf, Part};
 
 /// The memories of all partitions, with rows of the words from each partition's first address on. A row is empty, or that of
-/// its word: who writes a word empties its row. What rows there are is no part of what memories mean.
+/// its word: each write of a word empties its row. What rows there are is no part of what memories mean.
 #[derive(Debug, Drop)]
 pub struct PredecodedRam {
     ram: Ram,
@@ -58,7 +58,7 @@ impl PredecodedRam {
         ensures value { IfOk result (λ kept. kept ≡ record { areas = map memory_areas conf.now.parts; maps = map zeros_in (map memory_areas conf.now.parts); selected = 0 }) }
     {
         let ram = Ram::new(alloc, conf)?;
-        let _zeros = ram.selected();
+        proof! { let _zeros = ram.selected(); }
         let described = parts_of(conf);
         let share = share_for(described.len());
         let parts = rows_of(alloc, described, share)?;
@@ -87,7 +87,7 @@ impl PredecodedRam {
         ensures value { self.new ≡ with_selected p self.old }
     {
         self.ram.select(p);
-        let _now = self.ram.selected();
+        proof! { let _now = self.ram.selected(); }
         self.own = self.parts[usize::from(p)];
     }
 
@@ -123,7 +123,7 @@ impl PredecodedRam {
         let count = from.len() / 4 + 2;
         empty_words(&mut self.rows, part.words.begin, self.top, place, count);
         let copied = self.ram.copy_out(p, address, from);
-        let _now = self.ram.selected();
+        proof! { let _now = self.ram.selected(); }
         copied
     }
 
@@ -153,7 +153,7 @@ impl PredecodedRam {
         let base = self.parts[usize::from(p)].words.begin;
         empty_words(&mut self.rows, base, self.top, 0, self.top);
         self.ram.reload(p, image);
-        let _now = self.ram.selected();
+        proof! { let _now = self.ram.selected(); }
     }
 
     // The row of the word that stands at an address is kept, where there is one.
@@ -182,14 +182,14 @@ impl Bus for PredecodedRam {
     #[inline(always)]
     fn fetch(&mut self, address: u32) -> Result<u32, BusFault> {
         let word = self.ram.fetch(address);
-        let _now = self.ram.selected();
+        proof! { let _now = self.ram.selected(); }
         word
     }
 
     #[inline(always)]
     fn load(&mut self, address: u32, size: Size) -> Result<u64, BusFault> {
         let value = self.ram.load(address, size);
-        let _now = self.ram.selected();
+        proof! { let _now = self.ram.selected(); }
         value
     }
 
@@ -199,7 +199,7 @@ impl Bus for PredecodedRam {
         let base = self.own.words.begin;
         empty_stored(&mut self.rows, base, self.top, place, size);
         let stored = self.ram.store(address, size, value);
-        let _now = self.ram.selected();
+        proof! { let _now = self.ram.selected(); }
         stored
     }
 }
@@ -211,7 +211,7 @@ impl HasWords for PredecodedRam {
         let base = self.own.words.begin;
         empty_words(&mut self.rows, base, self.top, place, 16);
         let done = self.ram.put_words(address, words);
-        let _now = self.ram.selected();
+        proof! { let _now = self.ram.selected(); }
         done
     }
 
@@ -238,7 +238,7 @@ impl HasRows for PredecodedRam {
     #[inline(never)]
     fn make(&mut self, address: u32) {
         let found = self.ram.fetch(address);
-        let _now = self.ram.selected();
+        proof! { let _now = self.ram.selected(); }
         if let Ok(word) = found {
             self.keep(address, word);
         }

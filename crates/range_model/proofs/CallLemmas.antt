@@ -564,7 +564,7 @@ put_range kind.Queuing address size caller port has =
     tested_range (source_only port ∷ size_fits port size ∷ text caller address size ∷ refused_if (is_full port) not_available ∷ []) caller (putting_bytes address size caller port)
     (allowed_test _, (parameter_test _, (text_test caller address size, (available_test _, tt)))) has (puts address size caller port has)
 
--- what each effect comes to
+-- the outcome of each effect
 effect_range : (effect : CallEffect) (caller : Caller) → IsEffectInRange effect → IsCallerInRange caller → IsServedInRange (comes_to effect caller)
 effect_range (GivesAnswer value writings) caller is has = answers value (with_writings writings caller.state) is.0 (writings_range writings caller.state is.1 has.state)
 effect_range (PrintsBytes bytes value) caller is has = record { after = answer_range value caller.state is has.state; upshot = tt }

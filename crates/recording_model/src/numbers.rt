@@ -8,7 +8,7 @@ ghost use Rattle.range_model.specs.Cues.{HasMessageBytes, HasNumbers, HasShownBy
 use cue_scripts::{ScriptCue, ScriptSight, ScriptTraffic};
 use xm_base::Order;
 
-/// What a kept cue has of bytes are bytes, and the status of a reset is a word.
+/// For the proof: what a kept cue has of bytes are bytes, and the status of a reset is a word.
 pub fn has_numbers(cue: &ScriptCue)
     ensures numbers { HasNumbers (script_cue_value cue.now) }
 {
@@ -17,7 +17,7 @@ pub fn has_numbers(cue: &ScriptCue)
     has_shown_bytes(&cue.seen);
 }
 
-/// A message is bytes.
+/// For the proof: a message is bytes.
 fn has_message_bytes(traffic: &ScriptTraffic)
     ensures bytes { HasMessageBytes (script_traffic_value traffic.now) }
 {
@@ -27,7 +27,7 @@ fn has_message_bytes(traffic: &ScriptTraffic)
     }
 }
 
-/// The status of a reset is a word.
+/// For the proof: the status of a reset is a word.
 fn has_status(order: Option<Order>)
     ensures word { IsOrder order }
 {
@@ -43,7 +43,7 @@ fn has_status(order: Option<Order>)
     }
 }
 
-/// What is shown is bytes.
+/// For the proof: what is shown is bytes.
 fn has_shown_bytes(seen: &ScriptSight)
     ensures bytes { HasShownBytes (script_sight_value seen.now) }
 {
@@ -53,7 +53,7 @@ fn has_shown_bytes(seen: &ScriptSight)
     }
 }
 
-/// The elements of a slice are bytes.
+/// For the proof: the elements of a slice are bytes.
 fn are_bytes(bytes: &[u8])
     ensures each { AreBytes bytes.now }
 {

@@ -29,7 +29,7 @@ use hypercalls::{Note, Sys};
 use machine_model::{acts_within_bounds, keeps_facts_alone};
 use replay_model::{away_ticks, passes_keep, resting_ticks_alone, takes_cues, working_ticks};
 use tick_steps::{Beyond, Cue, Lines, obey, reset, reset_move, rest_one, takes_turns, whole_of};
-use xm_base::{Mode, Order, PartId};
+use xm_base::{Mode, Order, PartId, proof};
 use xm_report::Line;
 
 /// One tick of partition `p` in isolation, and a note with the bytes that it wrote to its console. Where it cannot take
@@ -63,10 +63,12 @@ fn tick_away(sys: &mut Sys, lines: &mut Lines, p: PartId, cue: &Cue<'_>) -> Opti
     requires away { cue.now.mine ≡ CueSlot.Away }
     ensures { IsLoneTickEnded result p (cue_value cue.now) sys.old sys.new lines.new }
 {
-    away_ticks();
-    takes_cues();
-    passes_keep();
-    keeps_facts_alone();
+    proof! {
+        away_ticks();
+        takes_cues();
+        passes_keep();
+        keeps_facts_alone();
+    }
     if apply_traffic(sys, p, cue.traffic) {
         obey_other(sys, lines, p, cue.order);
         meet_event(sys, lines, p, cue.whole);
@@ -90,11 +92,13 @@ pub(crate) fn turn_in_slot(
     requires turns { takes_turns (part_at p sys.old.machine).state ≡ true }
     ensures { IsLoneTickEnded result p (cue_value cue.now) sys.old sys.new lines.new }
 {
-    working_ticks();
-    takes_cues();
-    passes_keep();
-    acts_within_bounds();
-    keeps_facts_alone();
+    proof! {
+        working_ticks();
+        takes_cues();
+        passes_keep();
+        acts_within_bounds();
+        keeps_facts_alone();
+    }
     match work_alone(sys, lines, p, first, cue.seen) {
         Some(work) => {
             let event = end_turn(sys, lines, p, work.reach);
@@ -132,10 +136,12 @@ fn rest_in_slot(sys: &mut Sys, p: PartId, cue: &Cue<'_>) -> Option<Note>
     requires turns { takes_turns (part_at p sys.old.machine).state ≡ false }
     ensures { IsLoneTickEnded result p (cue_value cue.now) sys.old sys.new [] }
 {
-    resting_ticks_alone();
-    takes_cues();
-    passes_keep();
-    keeps_facts_alone();
+    proof! {
+        resting_ticks_alone();
+        takes_cues();
+        passes_keep();
+        keeps_facts_alone();
+    }
     if is_unseen(cue.seen) && is_same_event(WholeEvent::Nothing, cue.whole) {
         rest_and_pass(sys, p, WholeEvent::Nothing);
         Some(Note::Nothing)

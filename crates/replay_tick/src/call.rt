@@ -21,6 +21,7 @@ use system_state::answering::{
 };
 use system_state::{CallSite, engine};
 use tick_steps::{Beyond, Lines, Sight};
+use xm_base::proof;
 
 /// An observing call: where its answer goes, how many bytes that has, and whether it asks for an entry of a log.
 #[derive(Clone, Copy, Debug, PartialEq, Eq)]
@@ -78,7 +79,7 @@ fn observe(sys: &mut Sys, site: CallSite, asked: Asked, seen: Sight<'_>) -> Opti
     requires asked { asked_of (observed_by (view_of sys.old.machine.system site.part) (part_at site.part sys.old.machine).core) ≡ Some asked }
     ensures { IsLoneWork result site.part (observed_by (view_of sys.old.machine.system site.part) (part_at site.part sys.old.machine).core) (sight_value seen.entry) (called (record (caller_of site sys.old) { sight = sight_value seen.entry })) sys.old sys.new [] }
 {
-    observes_as_tested();
+    proof! { observes_as_tested(); }
     if shows_this(sys, site, asked, seen) {
         show(sys, site, asked, seen);
         engine::count_tick(sys, site.part);

@@ -32,7 +32,7 @@ use system_state::{CallSite, engine};
 use tick_steps::{
     Cue, Lines, Sight, Traffic, goes_on, interrupt, program_counter, rest_one, takes_turns,
 };
-use xm_base::{PartId, State};
+use xm_base::{PartId, State, proof};
 use xm_conf::Conf;
 
 /// Ticks of one partition in isolation that were done, one after the other.
@@ -76,8 +76,10 @@ fn rest_away(sys: &mut Sys, p: PartId, most: u64) -> LoneSpan
     requires can { CanSpan p most sys.old }
     ensures { DoesSpan result p false most sys.old sys.new [] }
 {
-    keeps_facts_alone();
-    late_rest();
+    proof! {
+        keeps_facts_alone();
+        late_rest();
+    }
     rest_many(sys, p, most);
     quiet_span(most)
 }
@@ -88,8 +90,10 @@ fn rest_in_slots(sys: &mut Sys, p: PartId, most: u64) -> LoneSpan
     requires turns { takes_turns (part_at p sys.old.machine).state ≡ false }
     ensures { DoesSpan result p true most sys.old sys.new [] }
 {
-    keeps_facts_alone();
-    late_rest();
+    proof! {
+        keeps_facts_alone();
+        late_rest();
+    }
     rest_many(sys, p, most);
     quiet_span(most)
 }
@@ -185,7 +189,7 @@ fn stay_many(sys: &mut Sys, p: PartId, most: u64) -> LoneSpan
     requires timers { NoneDueAfter sys.old.machine.time 0 true (part_at p sys.old.machine).clocks }
     ensures { DoesSpan result p true most sys.old sys.new [] }
 {
-    keeps_facts_alone();
+    proof! { keeps_facts_alone(); }
     let ticks = ticks_undisturbed(sys, p, false, most);
     sys.end_ticks(ticks);
     quiet_span(ticks)
@@ -200,7 +204,7 @@ fn execute_many(sys: &mut Sys, lines: &mut Lines, p: PartId, most: u64) -> LoneS
     requires empty { lines.old ≡ [] }
     ensures { DoesSpan result p true most sys.old sys.new lines.new }
 {
-    keeps_facts_alone();
+    proof! { keeps_facts_alone(); }
     let gone = sys.step_many(p, most);
     count_on(sys, p, gone.went);
     match gone.turn {
@@ -253,11 +257,13 @@ fn end_work(sys: &mut Sys, lines: &mut Lines, p: PartId, work: Option<LoneWork>)
     requires { IfSome work (λ done. CanEnd p sys.old lines.old) }
     ensures { (before : SysState) → HasWorked p work before sys.old lines.old → IsLoneTickEnded result p (bare_cue true) before sys.new lines.new }
 {
-    working_ticks();
-    takes_cues();
-    passes_keep();
-    acts_within_bounds();
-    keeps_facts_alone();
+    proof! {
+        working_ticks();
+        takes_cues();
+        passes_keep();
+        acts_within_bounds();
+        keeps_facts_alone();
+    }
     match work {
         Some(work) => {
             let event = end_turn(sys, lines, p, work.reach);

@@ -15,7 +15,7 @@ ghost use Rattle.xm_ports.specs.Channels.{IsQueuing, IsSampling, shapes_of};
 use hypercalls::Sys;
 use port_calls::{drop_first, put_sampling, send, signal};
 use tick_steps::Traffic;
-use xm_base::PartId;
+use xm_base::{PartId, proof};
 use xm_conf::ChanKind;
 use xm_ports::Full;
 
@@ -106,7 +106,7 @@ fn put_message(sys: &mut Sys, chan: u8, bytes: &[u8]) -> bool
     ensures { HasPut result chan bytes.now sys.old sys.new }
 {
     // Its contract says that the queue holds no more than it may.
-    let _first = sys.channels().first(chan);
+    proof! { let _first = sys.channels().first(chan); }
     match send(sys, chan, bytes) {
         Ok(()) => true,
         Err(Full) => false,

@@ -18,7 +18,7 @@ use machine_model::{keeps_numbers, trades_few_bytes};
 use recording_model::has_numbers;
 use std::alloc::Global;
 use uart_board::Board;
-use xm_base::{Memory, PartId, TICKS};
+use xm_base::{Memory, PartId, TICKS, proof};
 use xm_machine::{Inputs, Machine};
 use xm_outside::SureSink;
 
@@ -37,7 +37,7 @@ pub fn script_of(
     ensures file { IsScriptFile (λ file. file.items) (script_text p (script (start (with_inputs system inputs)) p ticks)) result }
     ensures numbers { IfOk result (λ _. AllByRecursion HasNumbers (script (start (with_inputs system inputs)) p ticks)) }
 {
-    keeps_numbers();
+    proof! { keeps_numbers(); }
     let mut machine = Machine::boot(alloc, system, inputs)?;
     let writer = written(alloc, &mut machine, p, ticks)?;
     writer.finish(alloc, p)
@@ -56,7 +56,7 @@ fn written(
     ensures written { IfOk result (IsWritten (script machine.old.state p ticks)) }
     ensures numbers { IfOk result (λ _. AllByRecursion HasNumbers (script machine.old.state p ticks)) }
 {
-    keeps_numbers();
+    proof! { keeps_numbers(); }
     let mut board = Board::new();
     let mut writer = ScriptWriter::new(alloc);
     let mut done = 0;
@@ -65,7 +65,7 @@ fn written(
             return Ok(writer);
         }
         let cue = received_in_tick(alloc, machine, p, &mut board)?;
-        has_numbers(&cue);
+        proof! { has_numbers(&cue); }
         writer.add(&cue)?;
         done += 1;
     }
@@ -86,14 +86,16 @@ fn received_in_tick(
     ensures cue { IfOk result (λ received. kept.script_cue_value received ≡ cue machine.old.state p) }
     ensures ranges { IfOk result (λ received. HasCueRanges (kept.script_cue_value received)) }
 {
-    keeps_numbers();
-    has_ranges(machine, p);
+    proof! {
+        keeps_numbers();
+        has_ranges(machine, p);
+    }
     // The sink takes all bytes, so that there is no fault.
     let _ = machine.tick(&mut SureSink::new(), board);
     kept_cue(alloc, machine.cue(p))
 }
 
-/// Shows that what partition `p` receives in the next tick of a machine is in the ranges of its fields.
+/// For the proof: what reaches partition `p` in the next tick is in the ranges of its fields.
 fn has_ranges(machine: &Machine, p: PartId)
     ensures { HasCueRanges (cue machine.now.state p) }
 {

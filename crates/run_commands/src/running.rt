@@ -24,7 +24,7 @@ use file_commands::{Ending, Refusal, read_file};
 use machine_model::keeps_numbers;
 use std::alloc::Global;
 use uart_board::{Board, ViewBoard};
-use xm_base::{FILE_BYTES, Memory};
+use xm_base::{FILE_BYTES, Memory, proof};
 use xm_container::{BareFault, System, bare};
 use xm_machine::{Inputs, Machine, WriteFault};
 use xm_outside::{Sink, Store};
@@ -112,7 +112,7 @@ pub(crate) fn run_system<'a, S: Store, O: Sink>(
         (outside (S.files files.new) (S.read_faults files.new) (S.write_faults files.new) (S.calls files.new) (O.got out.new) (O.faults out.new)) }
     ensures board { LeavesBoard (ending_of result) (outcome_of_run ticks (seen_files cores.entry) (map made_output scripts.now) system inputs).run (O.got out.old) (O.got out.new) (⟦<Board as ViewBoard>⟧.board_view board.old) (⟦<Board as ViewBoard>⟧.board_view board.new) }
 {
-    keeps_numbers();
+    proof! { keeps_numbers(); }
     match Machine::boot(alloc, system, inputs) {
         Ok(mut machine) => {
             let machine = &mut machine;
@@ -173,7 +173,7 @@ fn run_into<'a, S: Store, O: Sink>(
     ensures board { (system : Loaded) (inputs : List (List ℕ)) → machine.old.state ≡ start (with_inputs system inputs)
         → LeavesBoard (ending_of result) (outcome_of_run ticks (seen_files cores.entry) (map made_output scripts.now) system inputs).run (O.got out.old) (O.got out.new) (⟦<Board as ViewBoard>⟧.board_view board.old) (⟦<Board as ViewBoard>⟧.board_view board.new) }
 {
-    keeps_numbers();
+    proof! { keeps_numbers(); }
     board.begin();
     match machine.run(ticks, out, board) {
         Ok(_) => ended(write_later(machine, cores, scripts, room, files), board),

@@ -24,7 +24,7 @@ use std::alloc::Global;
 use std::marker::Model;
 use system_state::read_memory;
 use tick_steps::{Beyond, Cue, Lines, Sight, Span, Traffic, whole_of};
-use xm_base::{Memory, PartId, TICKS};
+use xm_base::{Memory, PartId, TICKS, proof};
 use xm_conf::Conf;
 
 /// How many bytes a message has at most. What a partition is shown has fewer.
@@ -98,11 +98,13 @@ impl Engine {
         ensures done { IsSpanDone result most sys.old sys.new lines.new }
         ensures kept { self.new ≡ kept_tick (run sys.old.machine (result.ticks - 1)) }
     {
-        keeps_facts();
-        keeps_hardware_clock();
-        keeps_numbers();
-        keeps_plans();
-        trades_few_bytes();
+        proof! {
+            keeps_facts();
+            keeps_hardware_clock();
+            keeps_numbers();
+            keeps_plans();
+            trades_few_bytes();
+        }
         let number = self.slot_number();
         self.slot = run_span(sys, lines, &mut self.span, number, most);
         self.size = read_noted(sys, self.span.part, self.span.note, &mut self.bytes);

@@ -36,7 +36,7 @@ use tick_steps::{
     Beyond, Lines, Span, goes_on, interrupt, meet_trap, rest, take_interrupt, takes_turns,
 };
 use virt_clocks::next_deadline_is_least;
-use xm_base::PartId;
+use xm_base::{PartId, proof};
 
 /// At most this many ticks, up to the first that emits something or reaches beyond its partition. Their lines are those of the
 /// last. Answers the slot that the last is in, or `None` in a gap. The slot of a number and the one after it are looked at first. It stands
@@ -57,10 +57,12 @@ pub(crate) fn run_span(
     ensures done { IsSpanDone span.new most sys.old sys.new lines.new }
     ensures turn { turn_here result ≡ turn_of (run sys.old.machine (span.new.ticks - 1)) }
 {
-    keeps_facts();
-    keeps_hardware_clock();
-    keeps_numbers();
-    keeps_plans();
+    proof! {
+        keeps_facts();
+        keeps_hardware_clock();
+        keeps_numbers();
+        keeps_plans();
+    }
     let mut at = place_of(sys, number);
     let mut left = most;
     let mut goes = true;
@@ -145,11 +147,13 @@ fn wait(sys: &mut Sys, lines: &mut Lines, span: &mut Span, most: u64)
     requires empty { lines.old ≡ [] }
     ensures done { AreDoneFrom span.new most sys.old.machine sys.old sys.new lines.new }
 {
-    resting_ticks();
-    calm_ticks();
-    slot_goes_on();
-    tick_in_passes();
-    keeps_numbers();
+    proof! {
+        resting_ticks();
+        calm_ticks();
+        slot_goes_on();
+        tick_in_passes();
+        keeps_numbers();
+    }
     let last = sys.now() + most - 1;
     rest(sys, None, last);
     end_ticks(sys, lines, most);
@@ -166,7 +170,7 @@ fn take_slot(sys: &mut Sys, lines: &mut Lines, span: &mut Span, p: PartId, first
     requires empty { lines.old ≡ [] }
     ensures done { AreDoneFrom span.new most sys.old.machine sys.old sys.new lines.new }
 {
-    next_deadline_is_least();
+    proof! { next_deadline_is_least(); }
     engine::meet(sys, p, first);
     if goes_on(sys, p, first) {
         engine::wake(sys, p);
@@ -198,11 +202,13 @@ fn stay_idle(sys: &mut Sys, lines: &mut Lines, span: &mut Span, p: PartId, most:
     requires empty { lines.old ≡ [] }
     ensures done { (g : Machine) (ps : PartitionState) → IsIdle g p ps most sys.old → AreDoneFrom span.new most g sys.old sys.new lines.new }
 {
-    undisturbed_ticks();
-    calm_ticks();
-    slot_goes_on();
-    tick_in_passes();
-    keeps_numbers();
+    proof! {
+        undisturbed_ticks();
+        calm_ticks();
+        slot_goes_on();
+        tick_in_passes();
+        keeps_numbers();
+    }
     let ticks = ticks_undisturbed(sys, p, false, most);
     pass(sys, lines, span, p, ticks);
 }
@@ -248,10 +254,12 @@ fn deliver(sys: &mut Sys, lines: &mut Lines, span: &mut Span, p: PartId, n: u8)
     requires empty { lines.old ≡ [] }
     ensures done { (g : Machine) (first : Bool) (ps : PartitionState) (most : ℕ) → HasMetInterrupts g p first ps most sys.old → 0 < most → (part_at p sys.old.machine).traps.enabled ≡ true → due (part_at p sys.old.machine).traps ≡ Some n → AreDoneFrom span.new most g sys.old sys.new lines.new }
 {
-    next_tick();
-    tick_in_passes();
-    acts_within_bounds();
-    keeps_numbers();
+    proof! {
+        next_tick();
+        tick_in_passes();
+        acts_within_bounds();
+        keeps_numbers();
+    }
     take_interrupt(sys, lines, p, n);
     end_tick(sys, lines, p, Beyond::Nothing);
     *span = Span::quiet(1, p, true, Beyond::Nothing);
@@ -265,11 +273,13 @@ fn execute(sys: &mut Sys, lines: &mut Lines, span: &mut Span, p: PartId, most: u
     requires empty { lines.old ≡ [] }
     ensures done { (g : Machine) (first : Bool) (ps : PartitionState) → HasMetInterrupts g p first ps most sys.old → NoDelivery (part_at p sys.old.machine).traps → AreDoneFrom span.new most g sys.old sys.new lines.new }
 {
-    undisturbed_ticks();
-    calm_ticks();
-    slot_goes_on();
-    tick_in_passes();
-    keeps_numbers();
+    proof! {
+        undisturbed_ticks();
+        calm_ticks();
+        slot_goes_on();
+        tick_in_passes();
+        keeps_numbers();
+    }
     let most = ticks_undisturbed(sys, p, true, most);
     let gone = sys.step_many(p, most);
     count_on(sys, p, gone.went);
@@ -304,11 +314,13 @@ fn trap_after(
     requires empty { lines.old ≡ [] }
     ensures done { (g : Machine) (first : Bool) (ps : PartitionState) (most : ℕ) → HasTurned (Turn.Trap tt) g p first ps went most pc sys.old → AreDoneFrom span.new most g sys.old sys.new lines.new }
 {
-    undisturbed_ticks();
-    calm_ticks();
-    tick_in_passes();
-    acts_within_bounds();
-    keeps_numbers();
+    proof! {
+        undisturbed_ticks();
+        calm_ticks();
+        tick_in_passes();
+        acts_within_bounds();
+        keeps_numbers();
+    }
     stand_after(sys, p, went);
     let reach = meet_trap(sys, lines, p, tt, pc);
     end_tick(sys, lines, p, reach);
@@ -324,11 +336,13 @@ fn call_after(sys: &mut Sys, lines: &mut Lines, span: &mut Span, p: PartId, went
     requires empty { lines.old ≡ [] }
     ensures done { (g : Machine) (first : Bool) (ps : PartitionState) (most : ℕ) → HasTurned Turn.Call g p first ps went most pc sys.old → AreDoneFrom span.new most g sys.old sys.new lines.new }
 {
-    undisturbed_ticks();
-    calm_ticks();
-    tick_in_passes();
-    acts_within_bounds();
-    keeps_numbers();
+    proof! {
+        undisturbed_ticks();
+        calm_ticks();
+        tick_in_passes();
+        acts_within_bounds();
+        keeps_numbers();
+    }
     stand_after(sys, p, went);
     match call_reported(sys, lines, p, pc) {
         Some(emitted) => end_call(sys, lines, span, p, went + 1, emitted.0, emitted.1),

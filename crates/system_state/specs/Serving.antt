@@ -180,7 +180,7 @@ abbrev pub own_traffic : Upshot → OwnTraffic
 own_traffic (Acts act) = traffic_of act
 own_traffic (Meets event word) = OwnStill
 
--- a call of partition p that was shown this came to what is stated: what it leaves of the caller and of the channels, what it tells, and how it reaches
+-- a call of partition p that was shown this had the outcome that is stated: what it leaves of the caller and of the channels, what it emits, and how it reaches
 -- beyond the caller; its note has the very entry that it made, and the places that the call names
 pub record IsServed (p : ℕ) (sight : Sight) (s : Served) (answer : code.Served) (old new : SysState) : Type 0 where
   pub state : new ≡ with_machine (traded (traffic_by p answer.note s.after.memory) (with_part p s.after old.machine)) old

@@ -11,6 +11,7 @@ ghost use Rattle.xm_conf.specs.Limits.{most_parts};
 use crate::call_site::CallSite;
 use crate::served::{Act, Note, Served};
 use crate::sys::{Sys, engine};
+use xm_base::proof;
 
 /// The register that has a hypercall's number, and gets its result.
 pub const OUT_0: u8 = 8;
@@ -77,7 +78,7 @@ pub fn is_system(sys: &Sys, site: CallSite) -> bool
     requires { IsCaller site sys.now }
     ensures { result ≡ (caller_of site sys.now).view.part.system }
 {
-    let _count = sys.count();
+    proof! { let _count = sys.count(); }
     sys.conf().raw().parts[usize::from(site.part)].system
 }
 
@@ -133,7 +134,7 @@ pub fn read(sys: &Sys, site: CallSite, address: u32, into: &mut [u8])
     ensures { into.new ≡ caller_bytes (caller_of site sys.now) address (length into.old) }
 {
     // Its contract says that there is a memory for each partition.
-    let _count = sys.count();
+    proof! { let _count = sys.count(); }
     match sys.ram().copy_in(site.part, address, into) {
         Ok(()) => {}
         Err(_) => unreachable!(),

@@ -10,7 +10,7 @@ use crate::own_state::PartState;
 use loaded_system::System;
 use predecoded_memory::PredecodedRam;
 use std::alloc::Global;
-use xm_base::Memory;
+use xm_base::{Memory, proof};
 
 /// The memories of a system's partitions, with their images loaded.
 pub(crate) fn load(alloc: Global, system: &System) -> Result<PredecodedRam, Memory>
@@ -29,7 +29,7 @@ fn load_images(ram: &mut PredecodedRam, system: &System)
     ensures maps { ram.new.maps ≡ loaded_all system.now.conf.parts system.now.images }
 {
     // Its contract says that there is a memory for each partition.
-    let _selected = ram.selected();
+    proof! { let _selected = ram.selected(); }
     for p in 0..count(system) {
         ram.reload(p, system.image(p));
     }

@@ -18,7 +18,7 @@ use predecode::HasRows;
 use predecoded_memory::PredecodedRam;
 use sparc_step::{Core, Processor, Turn};
 use virt_traps::{IretFault, StackFault, Virt, deliver, iret, settle_cached, spill};
-use xm_base::PartId;
+use xm_base::{PartId, proof};
 
 // Selects a partition, unless it is selected already.
 fn select(ram: &mut PredecodedRam, p: PartId)
@@ -40,9 +40,9 @@ pub(crate) fn settle_part(core: &mut Processor, ram: &mut PredecodedRam, p: Part
 {
     select(ram, p);
     // It is selected before and after the step.
-    let _before = ram.selected();
+    proof! { let _before = ram.selected(); }
     let turn = settle_cached(core, ram);
-    let _after = ram.selected();
+    proof! { let _after = ram.selected(); }
     turn
 }
 
@@ -63,9 +63,9 @@ pub(crate) fn deliver_part(
 {
     select(ram, p);
     // It is selected before and after the delivery.
-    let _before = ram.selected();
+    proof! { let _before = ram.selected(); }
     let answer = deliver_cached(virt, core, ram, tt);
-    let _after = ram.selected();
+    proof! { let _after = ram.selected(); }
     answer
 }
 
@@ -106,9 +106,9 @@ pub(crate) fn return_part(
 {
     select(ram, p);
     // It is selected before and after the return.
-    let _before = ram.selected();
+    proof! { let _before = ram.selected(); }
     let answer = return_cached(virt, core, ram);
-    let _after = ram.selected();
+    proof! { let _after = ram.selected(); }
     answer
 }
 
@@ -145,9 +145,9 @@ pub(crate) fn flush_part(
 {
     select(ram, p);
     // It is selected before and after the spills.
-    let _before = ram.selected();
+    proof! { let _before = ram.selected(); }
     let answer = flush_cached(core, ram);
-    let _after = ram.selected();
+    proof! { let _after = ram.selected(); }
     answer
 }
 
@@ -190,9 +190,9 @@ pub(crate) fn step_part(core: &mut Processor, ram: &mut PredecodedRam, p: PartId
 {
     select(ram, p);
     // It is selected before and after the steps.
-    let _before = ram.selected();
+    proof! { let _before = ram.selected(); }
     let gone = go(core, ram, most);
-    let _after = ram.selected();
+    proof! { let _after = ram.selected(); }
     gone
 }
 

@@ -25,7 +25,7 @@ use machine_model::{boots_alone, keeps_numbers};
 use std::alloc::Global;
 use std::marker::Model;
 use uart_board::{Board, ViewBoard};
-use xm_base::{Memory, PartId};
+use xm_base::{Memory, PartId, proof};
 use xm_machine::{AloneFault, Inputs, Machine};
 use xm_outside::Sink;
 use xm_report::{Line, WriteFault, put_line};
@@ -60,8 +60,10 @@ impl Alone {
         requires inputs { length inputs ≡ length system.conf.parts }
         ensures { IfOk result (λ lone. lone ≡ booted_alone (with_inputs system inputs) p) }
     {
-        boots_alone();
-        keeps_numbers();
+        proof! {
+            boots_alone();
+            keeps_numbers();
+        }
         Ok(Alone {
             machine: Machine::boot(alloc, system, inputs)?,
             p,
@@ -84,8 +86,10 @@ impl Alone {
         ensures fits { AnswersFit (view_of (with_inputs system inputs) p) script.now result }
         ensures silent { IfOk result (λ silent. IfSome silent (IsSilentReplay script.now (booted_alone (with_inputs system inputs) p))) }
     {
-        boots_alone();
-        keeps_numbers();
+        proof! {
+            boots_alone();
+            keeps_numbers();
+        }
         let mut machine = Machine::boot(alloc, system, inputs)?;
         match takes_all(&mut machine, p, script) {
             Ok(silent) => {

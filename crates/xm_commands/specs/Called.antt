@@ -1,4 +1,4 @@
--- What a call comes to by its arguments, whatever the store, the sinks and the UARTs answer.
+-- The outcome of a call by its arguments, whatever the store, the sinks and the UARTs answer.
 use Rattle.std.specs.Prelude.{◌≡◌, ◌⊎◌, ℕ, List}
 use Rattle.xm_commands.specs.Page.{IsAnswer}
 use Rattle.xm_commands.specs.World.{World}

@@ -25,7 +25,7 @@ files_below count = replicate count (Some unwritten) ++ replicate (8 - count) No
 abbrev pub file_board : BoardView
 file_board = record { places = files_below 8; marks = replicate 8 None }
 
--- a sink that reports nothing of what it got, after so many writes that failed
+-- a sink that reports nothing of what it got, after this many writes that failed
 abbrev pub unseen : ℕ → SinkView
 unseen faults = sink_view None faults
 

@@ -56,8 +56,8 @@ pub fn carry_out<S: Store, O: Sink, E: Sink>(
     follow(alloc, &words, given, files, out, err, board)
 }
 
-// Does what the words say, which are those after the program's name. By its `requires` it is stated for a board of
-// any UARTs. Without one it would be stated only for UARTs that are known where `xm_main` is, and so would its callers.
+// For the proof: by its `requires` it is stated for a board of any UARTs. Without one it would be stated only for UARTs that are
+// known where `xm_main` is, and so would its callers. It does what the words say, which are those after the program's name.
 fn follow<S: Store, O: Sink, E: Sink>(
     alloc: Global,
     words: &Words,

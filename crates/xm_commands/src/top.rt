@@ -14,6 +14,7 @@ use machine_model::{own_lines, same_core_file};
 use replay_setup::run_is_replayed;
 use std::alloc::Global;
 use uart_board::Board;
+use xm_base::proof;
 use xm_outside::{Sink, Store};
 
 /// Does what the words say: the named files are read, what is made of them is written, the report goes to `out`, and
@@ -33,9 +34,11 @@ pub fn xm_main<S: Store, O: Sink, E: Sink>(
     // After Done the error output is as it was.
     ensures silent { result ≡ Status.Done → err.new ≡ err.old }
 {
-    own_lines();
-    run_is_replayed();
-    same_core_file();
+    proof! {
+        own_lines();
+        run_is_replayed();
+        same_core_file();
+    }
     let ending = work(alloc, words, files, out, board);
     // A fault of `err` changes no status.
     let _ = complain(err, &ending);

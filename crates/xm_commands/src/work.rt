@@ -22,6 +22,7 @@ use file_commands::{Ending, build_image, pack_files, parse, print_file, upgrade}
 use run_commands::{run_container, run_file};
 use std::alloc::Global;
 use uart_board::{Board, ViewBoard};
+use xm_base::proof;
 use xm_outside::{Sink, Store};
 
 /// Does what the words say. The answer is how that ended.
@@ -38,7 +39,7 @@ pub(crate) fn work<'a, S: Store, O: Sink>(
         (⟦<Board as ViewBoard>⟧.board_view board.old) (⟦<Board as ViewBoard>⟧.board_view board.new) }
     ensures numbers { HasScripts (ending_of result) → WordsReceive (command_of words.now) (S.files files.old) }
 {
-    grammar();
+    proof! { grammar(); }
     match command(words) {
         None => Ending::Usage,
         Some(command) => do_command(alloc, command, files, out, board),

@@ -25,7 +25,7 @@ use file_headers::{stated_version, unsealed};
 use loaded_system::System;
 use std::alloc::Global;
 use xef_images::{Xef, XefFault, read_xef};
-use xm_base::Cursor;
+use xm_base::{Cursor, proof};
 use xm_conf::Conf;
 
 /// The bytes of name, version and length.
@@ -291,7 +291,9 @@ pub fn unpack(alloc: Global, bytes: &[u8]) -> Result<System, BoxFault>
     // Two digests are reported exactly where they differ.
     ensures digest { ReportsDigests box_faults (codes "XMPK") 2 bytes.now result }
 {
-    packed_is_unpacked();
-    unpacked_is_packed();
+    proof! {
+        packed_is_unpacked();
+        unpacked_is_packed();
+    }
     whole(alloc, bytes)
 }

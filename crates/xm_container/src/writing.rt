@@ -22,7 +22,7 @@ use loaded_system::{Outside, outside_of, parts};
 use md5::{Digest, Md5};
 use std::alloc::Global;
 use xef_images::{Xef, build_xef};
-use xm_base::{FILE_BYTES, Memory};
+use xm_base::{FILE_BYTES, Memory, proof};
 use xm_conf::{Conf, Part};
 
 /// The bytes of a container before and after its fields.
@@ -166,7 +166,7 @@ pub fn pack(alloc: Global, conf: &Conf, images: &[Image]) -> Result<Vec<u8>, Pac
     // What is written is read as that configuration with those images.
     ensures read { IfOk result (λ bytes. unpacked bytes.items ≡ Ok (system_of conf.now images.now)) }
 {
-    packed_is_unpacked();
+    proof! { packed_is_unpacked(); }
     let parts = parts(conf);
     let ids = ids_of(alloc, images)?;
     if let Some(id) = extra(parts.len(), &ids) {

@@ -49,7 +49,7 @@ use std::alloc::Global;
 use std::marker::Model;
 use tick_steps::{Cue, Lines, reset};
 use uart_board::{Board, ViewBoard};
-use xm_base::{Memory, Mode, PartId, TICKS};
+use xm_base::{Memory, Mode, PartId, TICKS, proof};
 use xm_outside::Sink;
 use xm_ports::Channels;
 use xm_report::{Line, WriteFault, put_line};
@@ -84,10 +84,12 @@ impl Machine {
         ensures state { IfOk result (λ machine. machine.state ≡ start (with_inputs system inputs)) }
         ensures kept { IfOk result (λ machine. machine.kept ≡ no_kept) }
     {
-        keeps_facts();
-        keeps_hardware_clock();
-        keeps_numbers();
-        keeps_plans();
+        proof! {
+            keeps_facts();
+            keeps_hardware_clock();
+            keeps_numbers();
+            keeps_plans();
+        }
         Ok(Machine {
             sys: Sys::new(alloc, system, inputs)?,
             lines: Lines::new(alloc)?,
@@ -146,8 +148,10 @@ impl Machine {
         ensures cause { HasWriteCause result (O.faults out.old) (O.faults out.new) }
         ensures counters { IsCounted self.new.state }
     {
-        all_ticks();
-        keeps_numbers();
+        proof! {
+            all_ticks();
+            keeps_numbers();
+        }
         if !self.sys.halted() {
             self.step(1, out, board)?;
         }
@@ -174,8 +178,10 @@ impl Machine {
         ensures cause { HasWriteCause result (O.faults out.old) (O.faults out.new) }
         ensures counters { IsCounted self.new.state }
     {
-        all_ticks();
-        keeps_numbers();
+        proof! {
+            all_ticks();
+            keeps_numbers();
+        }
         match self.run_stretch(most, out, board) {
             Ok(stepped) => Ok(stepped.ticks),
             Err(fault) => Err(fault),
@@ -203,10 +209,12 @@ impl Machine {
         ensures cause { HasWriteCause result (O.faults out.old) (O.faults out.new) }
         ensures counters { IsCounted self.new.state }
     {
-        all_ticks();
-        boots_alone();
-        own_lines();
-        keeps_numbers();
+        proof! {
+            all_ticks();
+            boots_alone();
+            own_lines();
+            keeps_numbers();
+        }
         put_line(out, &first_line(&self.sys, ticks))?;
         let printed = self.run_ticks(ticks, out, board)?;
         let ended = self.end(out)?;
@@ -333,10 +341,12 @@ impl Machine {
         ensures heard { IsRunHeard self.old.state self.new.state (⟦<Board as ViewBoard>⟧.board_view board.old) (⟦<Board as ViewBoard>⟧.board_view board.new) }
         ensures counters { IsCounted self.new.state }
     {
-        keeps_facts();
-        keeps_hardware_clock();
-        keeps_numbers();
-        keeps_plans();
+        proof! {
+            keeps_facts();
+            keeps_hardware_clock();
+            keeps_numbers();
+            keeps_plans();
+        }
         self.lines.clear();
         let begun = self.sys.ticks();
         let span = self.kept.run(&mut self.sys, &mut self.lines, most);
@@ -376,7 +386,7 @@ impl Machine {
         ensures heard { IsRunHeard self.old.state self.new.state (⟦<Board as ViewBoard>⟧.board_view board.old) (⟦<Board as ViewBoard>⟧.board_view board.new) }
         ensures counters { IsCounted self.new.state }
     {
-        keeps_numbers();
+        proof! { keeps_numbers(); }
         let place = self.kept.place_of(&self.sys);
         let left = most.min(place.left);
         let mut ticks = 0;
@@ -408,7 +418,7 @@ impl Machine {
         ensures heard { IsRunHeard self.old.state self.new.state (⟦<Board as ViewBoard>⟧.board_view board.old) (⟦<Board as ViewBoard>⟧.board_view board.new) }
         ensures counters { IsCounted self.new.state }
     {
-        keeps_numbers();
+        proof! { keeps_numbers(); }
         let mut printed = 0;
         while !self.sys.halted() && self.sys.ticks() < ticks {
             let left = ticks - self.sys.ticks();

@@ -10,6 +10,7 @@ use crate::judging::judge;
 use crate::places::place;
 use fault_messages::CheckFault;
 use std::alloc::Global;
+use xm_base::proof;
 use xm_conf::{Broken, Conf, broken_unless_fits};
 use xmcf_reader::Draft;
 
@@ -20,7 +21,7 @@ pub fn check(alloc: Global, draft: &Draft) -> Result<Conf, CheckFault>
     ensures verdict { IsVerdict result draft.now }
     ensures fits { OnOk result (Fits (description_of draft.now)) }
 {
-    broken_unless_fits();
+    proof! { broken_unless_fits(); }
     let gathered = gather(alloc, draft)?;
     match judge(gathered) {
         Ok(conf) => Ok(conf),

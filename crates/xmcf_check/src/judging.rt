@@ -10,6 +10,7 @@ ghost use Rattle.xmcf_check.specs.lemmas.Reported.{HasFew, first_reported, is_wi
 use crate::answers::rule_19;
 use crate::gathered::{Answer, Gathered, Ids};
 use crate::ids::rule_2;
+use xm_base::proof;
 use xm_conf::{Broken, Conf, RawConf, broken_unless_fits};
 
 /// Whether a broken rule, where there is one, has at most this number.
@@ -56,7 +57,7 @@ fn configured(raw: RawConf) -> Result<Conf, Broken>
     ensures none { IfOk result (λ conf. first_broken most_parts (described raw) ≡ None) }
     ensures broken { IfErr result (λ broken. first_broken most_parts (described raw) ≡ Some broken) }
 {
-    broken_unless_fits();
+    proof! { broken_unless_fits(); }
     Conf::new(raw)
 }
 

@@ -6,6 +6,7 @@ ghost use Rattle.xmcf_reader.specs.lemmas.FaultsTerms.{DoesUnlessMemory};
 
 use crate::fault::ReadFault;
 use std::marker::Model;
+use xm_base::proof;
 use xm_conf::{Action, Event, Kind, Name, Way};
 
 /// An element with its values.
@@ -184,7 +185,7 @@ pub(crate) fn push_entry(
     ensures { DoesUnlessMemory result (entries.old.items ++ (record { at = at; parent = parent; what = what }) ∷ []) entries.new.items }
 {
     // The proof of a push has to know the types in an `Element`.
-    let _console: Option<Name> = None;
+    proof! { let _console: Option<Name> = None; }
     match entries.push(Entry { at, parent, what }) {
         Ok(()) => Ok(()),
         Err(_) => Err(ReadFault::Memory),

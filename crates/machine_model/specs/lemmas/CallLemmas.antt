@@ -60,7 +60,7 @@ choice : (caller : Caller) (b : Bool) (call : Call) (more : Option Call) (one ot
 choice caller true call more one other same further = same
 choice caller false call more one other same further = further
 
--- what a partition's call comes to is what the call of its number does
+-- the outcome of a partition's call is what the call of its number does
 pub served_is_effect : (caller : Caller) → by_call (call_of (number_of caller)) caller ≡ served caller
 unfolding call_of served get_self halt_partition reset_partition suspend_partition resume_partition shutdown_partition idle_self get_partition_status halt_system reset_system get_system_status get_time set_timer switch_sched_plan get_plan_status create_sampling_port write_sampling_message read_sampling_message get_sampling_port_status create_queuing_port send_queuing_message receive_queuing_message get_queuing_port_status trace_event trace_read trace_status raise_event hm_read hm_status set_irqmask clear_irqmask write_console read_input iret set_psr set_tbr flush_regwin raise_ipvi
 served_is_effect caller =
@@ -104,7 +104,7 @@ served_is_effect caller =
     (choice caller (number_of caller == 38) RaiseIpvi _ _ _ refl
     refl)))))))))))))))))))))))))))))))))))))
 
--- what holds of what each call does, and of the answer to a number that is no call's, holds of what a partition's call comes to
+-- what holds of what each call does, and of the answer to a number that is no call's, holds of the outcome of a partition's call
 pub every_call : (caller : Caller) (P : Served → Type 0) → ((call : Call) → P (performed (effect_of_call call caller) caller)) → P (answering unknown_call caller.state) → P (served caller)
 every_call caller P each unknown = subst P (served_is_effect caller) (by (call_of (number_of caller)))
   where
