@@ -18,6 +18,7 @@ pub enum Version {
 impl Version {
     /// The number that a file has.
     pub fn number(self) -> u16
+        // The number of the version.
         ensures { result ≡ specs.version_number self }
     {
         match self {
@@ -28,7 +29,9 @@ impl Version {
 
     /// How many partitions a configuration may have.
     pub fn parts(self) -> u8
+        // How many partitions a configuration of this version may have.
         ensures value { result ≡ specs.parts_in_version self }
+        // It is no more than the limit.
         ensures few { result ≤ most_parts }
     {
         match self {
@@ -39,6 +42,7 @@ impl Version {
 
     /// The version of a number, or `None` where it is none.
     pub fn numbered(number: u16) -> Option<Version>
+        // The version of the number, and none where there is none.
         ensures { result ≡ specs.version_numbered number }
     {
         if number == 1 {

@@ -357,6 +357,8 @@ fn body_of(alloc: Global, conf: &Conf) -> Result<Vec<u8>, Memory>
 /// `Memory` where there is none.
 #[tactic(auto, using(crate::proofs::ReadLemmas::written_read), unfolding(crate::specs::Xmc::xmc))]
 pub fn write_xmc(alloc: Global, conf: &Conf) -> Result<Vec<u8>, Memory>
+    // The one spelling of a configuration in version 2, whose numbers are in the ranges of their fields, and which is
+    // read as that configuration.
     ensures exact { IfOk result (λ bytes. bytes.items ≡ xmc.xmc Two conf.now) }
     ensures ranges { OnOk result (spelled.HasConfRanges conf.now) }
     ensures read { IfOk result (λ bytes. read_of bytes.items ≡ Ok conf.now) }

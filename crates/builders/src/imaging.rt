@@ -15,6 +15,7 @@ use xm_container::{BoxFault, System, list_lines, unpack};
 /// The image's file of a program.
 #[tactic(auto, unfolding(crate::specs::Imaging::xef_of))]
 pub fn make_xef(alloc: Global, program: &[u8]) -> Result<Vec<u8>, Unmade>
+    // The image of a program, or the text of its first fault.
     ensures { Makes result (xef_of program.now) }
 {
     match read_elf(alloc, program) {
@@ -93,7 +94,9 @@ fn no_program(alloc: Global, fault: ElfFault) -> Unmade
 
 /// What is said of a file that is no image.
 pub fn no_image(alloc: Global, fault: XefFault) -> Unmade
+    // The refusal has the text of the image's fault.
     ensures text { IsRefusalText result (xef_fault_text fault) }
+    // Out of memory is the answer where that was the fault.
     ensures memory { fault ≡ XefFault.Memory → result ≡ Unmade.Memory }
 {
     match fault {
@@ -107,7 +110,9 @@ pub fn no_image(alloc: Global, fault: XefFault) -> Unmade
 
 /// What is said of a file that is no container.
 pub fn no_container(alloc: Global, fault: BoxFault) -> Unmade
+    // The refusal has the text of the container's fault.
     ensures text { IsRefusalText result (box_fault_text fault) }
+    // Out of memory is the answer where that was the fault.
     ensures memory { fault ≡ BoxFault.Memory → result ≡ Unmade.Memory }
 {
     match fault {

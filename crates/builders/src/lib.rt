@@ -1,4 +1,6 @@
 //! What is built out of the bytes of a file: another file, or the text that is printed of it.
+//! The clauses are about the bytes of a file, fewer than 2^32. Unless out of memory, each answer is that of a
+//! definition over them.
 #![tactic(auto)]
 
 mod grouping;

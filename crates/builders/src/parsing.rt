@@ -20,7 +20,9 @@ use xmcf_reader::{Draft, ReadFault, read_xmcf};
 /// The binary configuration of a system description.
 #[tactic(auto, unfolding(crate::specs::Parsing::xmc_of))]
 pub fn make_xmc(alloc: Global, text: &[u8]) -> Result<Vec<u8>, Unmade>
+    // Called with a text of fewer than 2^32 bytes.
     requires { length text.now < 2 ^ 32 }
+    // The binary configuration of a description, or the text of its first fault or of the first rule that it breaks.
     ensures { Makes result (xmc_of text.now) }
 {
     match read_conf(alloc, text) {

@@ -29,7 +29,10 @@ pub enum Printout {
 
 /// The text that is printed of a file.
 pub fn printout_text(alloc: Global, what: Printout, bytes: &[u8]) -> Result<Vec<u8>, Unmade>
+    // Called with fewer than 2^32 bytes.
     requires { length bytes.now < 2 ^ 32 }
+    // What is printed of an image, of a container, of a container that is only checked, of the plan that a
+    // description's requirements make, of its own plan, and of its groups; or the text of the first fault.
     ensures { Makes result (printout_text what bytes.now) }
 {
     match what {

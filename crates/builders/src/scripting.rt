@@ -10,7 +10,9 @@ use std::alloc::Global;
 
 /// What is said of a file that is no script, or of a script that is not written or does not fit.
 pub fn no_script(alloc: Global, fault: ScriptFault) -> Unmade
+    // The refusal has the text of the script's fault.
     ensures text { IsRefusalText result (script_fault_text fault) }
+    // Out of memory is the answer where that was the fault.
     ensures memory { fault ≡ ScriptFault.Memory → result ≡ Unmade.Memory }
 {
     match fault {

@@ -13,10 +13,11 @@ use std::alloc::Global;
 /// The binary configuration of a file of either version, in version 2.
 #[tactic(auto, unfolding(crate::specs::Parsing::upgraded_of))]
 pub fn make_upgraded(alloc: Global, bytes: &[u8]) -> Result<Vec<u8>, Unmade>
+    // The configuration of a binary one of either version, in version 2, or the text of its first fault.
     ensures exact { Makes result (upgraded_of bytes.now) }
-    // What is written is read as the same configuration.
+    // What is read of the upgraded file is what is read of the file that was given.
     ensures same { IfOk result (λ out. read_of out.items ≡ read_of bytes.now) }
-    // What was upgraded is not changed by another upgrade.
+    // An upgrade of the upgraded file gives the same bytes.
     ensures once { IfOk result (λ out. upgraded_of out.items ≡ Ok out.items) }
 {
     match read_xmc(alloc, bytes) {
@@ -30,7 +31,9 @@ pub fn make_upgraded(alloc: Global, bytes: &[u8]) -> Result<Vec<u8>, Unmade>
 
 /// What is said of a file that is no configuration.
 pub fn no_configuration(alloc: Global, fault: XmcFault) -> Unmade
+    // The refusal has the text of the binary configuration's fault.
     ensures text { IsRefusalText result (xmc_fault_text fault) }
+    // Out of memory is the answer where that was the fault.
     ensures memory { fault ≡ XmcFault.Memory → result ≡ Unmade.Memory }
 {
     match fault {

@@ -66,6 +66,7 @@ impl<'a> PartFiles<'a> {
 
     /// The first file and the others, or `None` where there is none.
     pub fn split_first(self) -> Option<(PartFile<'a>, PartFiles<'a>)>
+        // The first of the files for partitions that a command names, and the others; none exactly where there is none.
         ensures value { MatchOption result (seen_files self.entry ≡ [])
             (λ (first, others). seen_files self.entry ≡ seen_file first ∷ seen_files others) }
     {

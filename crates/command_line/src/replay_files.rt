@@ -45,6 +45,7 @@ impl<'a> ReplayFiles<'a> {
 
     /// The file of the partition's input words, where there is one.
     pub fn input(self) -> Option<&'a str>
+        // The file of input words that a replay names, where it names one.
         ensures value { option_copied result ≡ replay_input (seen_further self.entry) }
     {
         match self {
@@ -58,6 +59,7 @@ impl<'a> ReplayFiles<'a> {
 
     /// Where the partition's core file is written, if it is.
     pub fn core(self) -> Option<&'a str>
+        // The file that the core file of a replay becomes, where it names one.
         ensures value { option_copied result ≡ replay_core (seen_further self.entry) }
     {
         match self {

@@ -84,6 +84,7 @@ impl<'a> RunOptions<'a> {
 
     /// How long the run is.
     pub fn span(self) -> Span
+        // How long the run is: the first and only length among its options.
         ensures value { result ≡ span_in (seen_options self.entry) }
     {
         match self.split_first_span() {
@@ -115,6 +116,7 @@ impl<'a> RunOptions<'a> {
 
     /// The first option and the others, or `None` where there is none.
     pub fn split_first(self) -> Option<(RunOption<'a>, RunOptions<'a>)>
+        // The first option of a run and the others, in the order of the words; none exactly where there is none.
         ensures value { MatchOption result (seen_options self.entry ≡ [])
             (λ (first, others). seen_options self.entry ≡ seen_option first ∷ seen_options others) }
     {

@@ -27,6 +27,7 @@ impl Model for Words {
 impl Words {
     /// No words.
     pub fn new(alloc: Global) -> Words
+        // No words at first.
         ensures { result ≡ [] }
     {
         Words {
@@ -37,6 +38,7 @@ impl Words {
 
     /// Puts one more word after the others.
     pub fn push(&mut self, word: &str) -> Result<(), Memory>
+        // A word is put after the others; after a refusal all is as before.
         ensures pushed { OnOk result (self.new ≡ self.old ++ word.now ∷ []) }
         ensures unchanged { OnErr result (self.new ≡ self.old) }
     {

@@ -1,4 +1,6 @@
 //! The hypercalls on partitions, the whole system, clocks, plans, logs and the virtual processor.
+//! Each call has one clause, `IsServed` over the call's definition in `machine_model`, from which `serve` of
+//! `hypercalls` has its own. Calls that differ by the order alone share a function that takes the order.
 #![tactic(auto)]
 
 mod acting;

@@ -22,8 +22,10 @@ use xm_traces::TraceEntry;
 /// Call 24, XM_trace_event(a, b): entered where a bit of a is in the partition's trace mask.
 #[tactic(auto, unfolding(machine_model::specs::LogCalls::trace_event))]
 pub fn trace_event(sys: &mut Sys, site: CallSite) -> Served
+    // Called for a caller that exists and with room for the number of one more trace entry.
     requires caller { IsCaller site sys.old }
     requires traces { (part_at site.part sys.old.machine).traces.next < 4294967295 }
+    // Call 24, `XM_trace_event`: an entry of the caller's traces, where its mask has one of the bits; it is reported.
     ensures { IsServed site.part Unseen (trace_event (caller_of site sys.old)) result sys.old sys.new }
 {
     let bits = argument(sys, site, A);
@@ -85,8 +87,10 @@ fn enter(sys: &mut Sys, site: CallSite, entry: TraceEntry) -> Served
 /// Call 25, XM_trace_read(a, b, c): entry number b of partition a's traces, at c.
 #[tactic(auto, using(crate::proofs::ShownLemmas::trace_read_sight, crate::proofs::ActLemmas::trace_read_wants), unfolding(machine_model::specs::LogCalls::trace_read))]
 pub fn trace_read(sys: &mut Sys, site: CallSite) -> Served
+    // Called for a caller that exists whose call is 25.
     requires caller { IsCaller site sys.old }
     requires number { register_at (caller_of site sys.old).state.core 8 ≡ 25 }
+    // Call 25, `XM_trace_read`: an entry of the traces of the partition that is named is written.
     ensures { IsServed site.part (caller_of site sys.old).sight (trace_read (caller_of site sys.old)) result sys.old sys.new }
 {
     let id = argument(sys, site, A);
@@ -129,6 +133,7 @@ fn answer_not_kept(sys: &mut Sys, site: CallSite) -> Served
 /// Call 26, XM_trace_status(a, b): the counts of partition a's traces, at b.
 #[tactic(auto, using(crate::proofs::ShownLemmas::trace_status_sight, crate::proofs::ActLemmas::trace_status_wants), unfolding(machine_model::specs::LogCalls::trace_status))]
 pub fn trace_status(sys: &mut Sys, site: CallSite) -> Served
+    // Called for a caller that exists whose call is 26.
     requires caller { IsCaller site sys.old }
     requires number { register_at (caller_of site sys.old).state.core 8 ≡ 26 }
     ensures { IsServed site.part (caller_of site sys.old).sight (trace_status (caller_of site sys.old)) result sys.old sys.new }
@@ -145,6 +150,7 @@ pub fn trace_status(sys: &mut Sys, site: CallSite) -> Served
 /// Call 27, XM_hm_raise_event(a): the event PARTITION_ERROR with the word a.
 #[tactic(auto, unfolding(machine_model::specs::LogCalls::raise_event))]
 pub fn raise_event(sys: &mut Sys, site: CallSite) -> Served
+    // Called for a caller that exists.
     requires { IsCaller site sys.old }
     ensures { IsServed site.part Unseen (raise_event (caller_of site sys.old)) result sys.old sys.new }
 {
@@ -159,8 +165,10 @@ pub fn raise_event(sys: &mut Sys, site: CallSite) -> Served
 /// Call 28, XM_hm_read(a, b, c): entry number b of partition a's health log, at c.
 #[tactic(auto, using(crate::proofs::ShownLemmas::health_read_sight, crate::proofs::ActLemmas::health_read_wants), unfolding(machine_model::specs::LogCalls::hm_read))]
 pub fn hm_read(sys: &mut Sys, site: CallSite) -> Served
+    // Called for a caller that exists whose call is 28.
     requires caller { IsCaller site sys.old }
     requires number { register_at (caller_of site sys.old).state.core 8 ≡ 28 }
+    // Call 28, `XM_hm_read`: an entry of the health log of the partition that is named is written.
     ensures { IsServed site.part (caller_of site sys.old).sight (hm_read (caller_of site sys.old)) result sys.old sys.new }
 {
     let id = argument(sys, site, A);
@@ -178,6 +186,7 @@ pub fn hm_read(sys: &mut Sys, site: CallSite) -> Served
 /// Call 29, XM_hm_status(a, b): the counts of partition a's health log, at b.
 #[tactic(auto, using(crate::proofs::ShownLemmas::health_status_sight, crate::proofs::ActLemmas::health_status_wants), unfolding(machine_model::specs::LogCalls::hm_status))]
 pub fn hm_status(sys: &mut Sys, site: CallSite) -> Served
+    // Called for a caller that exists whose call is 29.
     requires caller { IsCaller site sys.old }
     requires number { register_at (caller_of site sys.old).state.core 8 ≡ 29 }
     ensures { IsServed site.part (caller_of site sys.old).sight (hm_status (caller_of site sys.old)) result sys.old sys.new }

@@ -32,6 +32,7 @@ const DONE: Served = Served {
 /// Call 30, XM_set_irqmask(a): the interrupts of a are masked.
 #[tactic(auto, unfolding(system_state::specs::Serving::caller_of, machine_model::specs::Caller::with_answer, machine_model::specs::ProcessorCalls::set_irqmask))]
 pub fn set_irqmask(sys: &mut Sys, site: CallSite) -> Served
+    // Called for a caller that exists.
     requires { IsCaller site sys.old }
     ensures { IsServed site.part Unseen (set_irqmask (caller_of site sys.old)) result sys.old sys.new }
 {
@@ -45,6 +46,7 @@ pub fn set_irqmask(sys: &mut Sys, site: CallSite) -> Served
 /// Call 31, XM_clear_irqmask(a): the interrupts of a are no longer masked.
 #[tactic(auto, unfolding(system_state::specs::Serving::caller_of, machine_model::specs::Caller::with_answer, machine_model::specs::ProcessorCalls::clear_irqmask))]
 pub fn clear_irqmask(sys: &mut Sys, site: CallSite) -> Served
+    // Called for a caller that exists.
     requires { IsCaller site sys.old }
     ensures { IsServed site.part Unseen (clear_irqmask (caller_of site sys.old)) result sys.old sys.new }
 {
@@ -58,7 +60,9 @@ pub fn clear_irqmask(sys: &mut Sys, site: CallSite) -> Served
 /// Call 32, XM_write_console(a, b): b bytes at a, at most 1024, are printed.
 #[tactic(auto, unfolding(machine_model::specs::ProcessorCalls::write_console))]
 pub fn write_console(sys: &mut Sys, site: CallSite) -> Served
+    // Called for a caller that exists.
     requires { IsCaller site sys.old }
+    // Call 32, `XM_write_console`: at most 1024 bytes go to the console, and their number is the result.
     ensures { IsServed site.part Unseen (write_console (caller_of site sys.old)) result sys.old sys.new }
 {
     let at = argument(sys, site, A);
@@ -96,7 +100,9 @@ fn print(sys: &mut Sys, site: CallSite, at: u32, size: u32) -> Served
 /// Call 33, XM_read_input(a): the caller's next input word is written at a, and is used.
 #[tactic(auto, unfolding(machine_model::specs::ProcessorCalls::read_input))]
 pub fn read_input(sys: &mut Sys, site: CallSite) -> Served
+    // Called for a caller that exists.
     requires { IsCaller site sys.old }
+    // Call 33, `XM_read_input`: the next input word is written and used; where there is no room, it is not used.
     ensures { IsServed site.part Unseen (read_input (caller_of site sys.old)) result sys.old sys.new }
 {
     let at = argument(sys, site, A);
@@ -144,6 +150,7 @@ fn use_inputs(sys: &mut Sys, site: CallSite, used: usize) -> Served
 /// Call 34, sparc_iret: back from a trap, with no result. Where a window cannot be filled the call is undone.
 #[tactic(auto, unfolding(machine_model::specs::ProcessorCalls::iret))]
 pub fn iret(sys: &mut Sys, site: CallSite) -> Served
+    // Called for a caller that exists, with an aligned program counter, and with an aligned next program counter.
     requires caller { IsCaller site sys.old }
     requires pc { site.pc % 4 ≡ 0 }
     requires npc { site.npc % 4 ≡ 0 }
@@ -159,6 +166,7 @@ pub fn iret(sys: &mut Sys, site: CallSite) -> Served
 /// Call 35, sparc_set_psr(a): the condition codes from bits 23 to 20, and from bit 5 whether traps are enabled.
 #[tactic(auto, unfolding(system_state::specs::Serving::caller_of, machine_model::specs::Caller::with_answer, machine_model::specs::ProcessorCalls::set_psr, sparc_step::specs::Registers::with_icc))]
 pub fn set_psr(sys: &mut Sys, site: CallSite) -> Served
+    // Called for a caller that exists.
     requires { IsCaller site sys.old }
     ensures { IsServed site.part Unseen (set_psr (caller_of site sys.old)) result sys.old sys.new }
 {
@@ -207,6 +215,7 @@ fn enabled_of(psr: u32) -> bool
 /// Call 36, sparc_set_tbr(a): the table of traps stands at a, a multiple of 4096.
 #[tactic(auto, unfolding(system_state::specs::Serving::caller_of, machine_model::specs::Caller::with_answer, machine_model::specs::ProcessorCalls::set_tbr))]
 pub fn set_tbr(sys: &mut Sys, site: CallSite) -> Served
+    // Called for a caller that exists.
     requires { IsCaller site sys.old }
     ensures { IsServed site.part Unseen (set_tbr (caller_of site sys.old)) result sys.old sys.new }
 {
@@ -221,6 +230,7 @@ pub fn set_tbr(sys: &mut Sys, site: CallSite) -> Served
 /// the spills before it stay.
 #[tactic(auto, unfolding(machine_model::specs::ProcessorCalls::flush_regwin))]
 pub fn flush_regwin(sys: &mut Sys, site: CallSite) -> Served
+    // Called for a caller that exists, with an aligned program counter, and with an aligned next program counter.
     requires caller { IsCaller site sys.old }
     requires pc { site.pc % 4 ≡ 0 }
     requires npc { site.npc % 4 ≡ 0 }

@@ -22,7 +22,9 @@ use virt_clocks::Clock;
 /// Call 12, XM_get_time(a, b): the clock a, at b.
 #[tactic(auto, unfolding(machine_model::specs::TimeCalls::get_time))]
 pub fn get_time(sys: &mut Sys, site: CallSite) -> Served
+    // Called for a caller that exists.
     requires { IsCaller site sys.old }
+    // Call 12, `XM_get_time`: the hardware clock or the execution clock is written.
     ensures { IsServed site.part Unseen (get_time (caller_of site sys.old)) result sys.old sys.new }
 {
     let number = argument(sys, site, A);
@@ -40,7 +42,9 @@ pub fn get_time(sys: &mut Sys, site: CallSite) -> Served
 /// Call 13, XM_set_timer(a, b, c, d, e): the timer of clock a, with the deadline b:c and the interval d:e.
 #[tactic(auto, unfolding(machine_model::specs::TimeCalls::set_timer))]
 pub fn set_timer(sys: &mut Sys, site: CallSite) -> Served
+    // Called for a caller that exists.
     requires { IsCaller site sys.old }
+    // Call 13, `XM_set_timer`: the timer of that clock has the deadline and the interval, the high word of each first.
     ensures { IsServed site.part Unseen (set_timer (caller_of site sys.old)) result sys.old sys.new }
 {
     let number = argument(sys, site, A);
@@ -63,8 +67,11 @@ pub fn set_timer(sys: &mut Sys, site: CallSite) -> Served
 /// Call 14, XM_switch_sched_plan(a, b): asks for plan a; the current plan's number, at b.
 #[tactic(auto, using(crate::proofs::ShownLemmas::plan_sight, crate::proofs::ActLemmas::plan_wants), unfolding(machine_model::specs::TimeCalls::switch_sched_plan))]
 pub fn switch_sched_plan(sys: &mut Sys, site: CallSite) -> Served
+    // Called for a caller that exists whose call is 14.
     requires caller { IsCaller site sys.old }
     requires number { register_at (caller_of site sys.old).state.core 8 ≡ 14 }
+    // Call 14, `XM_switch_sched_plan`: by a system partition alone: the current plan is written, and another one is
+    // asked for.
     ensures { IsServed site.part (caller_of site sys.old).sight (switch_sched_plan (caller_of site sys.old)) result sys.old sys.new }
 {
     let plan = argument(sys, site, A);
@@ -86,9 +93,11 @@ pub fn switch_sched_plan(sys: &mut Sys, site: CallSite) -> Served
 /// Call 15, XM_get_plan_status(a): the status of the plan, at a.
 #[tactic(auto, using(crate::proofs::ShownLemmas::plan_status_sight, crate::proofs::ActLemmas::plan_status_wants), unfolding(machine_model::specs::TimeCalls::get_plan_status))]
 pub fn get_plan_status(sys: &mut Sys, site: CallSite) -> Served
+    // Called for a caller that exists whose call is 15 and in the frame of the plan clock.
     requires caller { IsCaller site sys.old }
     requires number { register_at (caller_of site sys.old).state.core 8 ≡ 15 }
     requires frame { IsInFrame sys.old.machine.system.conf sys.old.machine.clock sys.old.machine.time }
+    // Call 15, `XM_get_plan_status`: by a system partition alone: the status of the plan is written.
     ensures { IsServed site.part (caller_of site sys.old).sight (get_plan_status (caller_of site sys.old)) result sys.old sys.new }
 {
     let at = argument(sys, site, A);

@@ -1,4 +1,5 @@
 //! The core file of a partition: all of its state, as bytes.
+//! No call takes memory.
 #![tactic(auto)]
 
 mod areas;

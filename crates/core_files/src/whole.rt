@@ -27,7 +27,10 @@ const AREA_HEAD_BYTES: usize = 8;
 
 /// How many bytes the core file of a partition has. No tick and no reset changes it.
 pub fn core_length(sys: &Sys, p: PartId) -> usize
+    // Called for a partition that exists.
     requires { p < length sys.now.machine.parts }
+    // The length of a partition's core file: 3471 bytes, and 8 with its bytes for each area; it is that of the defined
+    // list.
     ensures value { result ≡ core_length_of (view_of sys.now.machine.system p) }
     ensures length { result ≡ length (core_file (view_of sys.now.machine.system p) (part_at p sys.now.machine)) }
 {
@@ -64,8 +67,10 @@ fn configured_areas(conf: &Conf, p: PartId) -> &[Area]
 
 /// Writes the core file of a partition into a slice of its length.
 pub fn core_into(sys: &Sys, p: PartId, into: &mut [u8])
+    // Called for a partition that exists and with a slice of the core file's length.
     requires partition { p < length sys.now.machine.parts }
     requires size { length into.old ≡ core_length_of (view_of sys.now.machine.system p) }
+    // A slice of that length gets exactly the bytes of the defined list.
     ensures file { into.new ≡ core_file (view_of sys.now.machine.system p) (part_at p sys.now.machine) }
 {
     // As many partitions run as are configured.

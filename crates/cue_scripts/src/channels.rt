@@ -120,7 +120,9 @@ fn is_number(found: Option<u8>, number: u8) -> bool
 
 /// Partition `p`'s name for a channel: its lowest port on it.
 pub fn name_of(conf: &Conf, p: PartId, chan: u8) -> Option<u8>
+    // Called for a partition that exists.
     requires { p < length conf.now.parts }
+    // A partition's name for a channel, its lowest port on it, by which a script speaks of the channel.
     ensures { result ≡ name_of conf.now p chan }
 {
     let ports = port_count(conf, p);

@@ -79,6 +79,7 @@ pub enum ScriptEntry {
 impl ScriptEntry {
     /// How many cues it has.
     pub fn count(&self) -> u32
+        // How many ticks the entry has.
         ensures { result ≡ cue_count (entry_value self.now) }
     {
         match self {

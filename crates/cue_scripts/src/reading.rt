@@ -556,6 +556,7 @@ pub fn read_script(
     p: PartId,
     bytes: &[u8],
 ) -> Result<Script, ScriptFault>
+    // Called for a partition that exists.
     requires { p < length conf.now.parts }
     // What is read are the cues that the bytes spell.
     ensures found { IfOk result (IsSpelledScript conf.now p bytes.now) }

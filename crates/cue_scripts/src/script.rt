@@ -31,7 +31,9 @@ impl Model for Script {
 impl Script {
     /// Its entries: each has as many cues as it can.
     pub fn entries(&self) -> &[ScriptEntry]
+        // The stimuli of the script, in entries.
         ensures value { expanded (entry_values result.now) ≡ self.now }
+        // Each entry is as long as it can be.
         ensures kept { AreKeptEntries (entry_values result.now) }
     {
         &self.entries
@@ -39,6 +41,7 @@ impl Script {
 
     /// How many cues it has.
     pub fn count(&self) -> u32
+        // How many ticks the script has.
         ensures { result ≡ length self.now }
     {
         count_all(&self.entries)

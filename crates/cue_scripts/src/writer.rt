@@ -47,6 +47,7 @@ impl Model for ScriptWriter {
 impl ScriptWriter {
     /// A script without a cue.
     pub fn new(alloc: Global) -> ScriptWriter
+        // A script without a tick, whose file is the one spelling of it.
         ensures value { result ≡ nothing_written }
         ensures written { IsWritten [] result }
     {
@@ -61,6 +62,7 @@ impl ScriptWriter {
 
     /// How many cues are written.
     pub fn cues(&self) -> u32
+        // How many stimuli were written.
         ensures { result ≡ self.now.cues }
     {
         self.cues
@@ -69,8 +71,11 @@ impl ScriptWriter {
     /// Writes one cue more.
     #[tactic(auto, unfolding(crate::specs::Written::with_cue))]
     pub fn add(&mut self, cue: &ScriptCue) -> Result<(), Memory>
+        // Called with numbers that have room in their fields and below the limit of ticks.
         requires ranges { HasCueRanges (script_cue_value cue.now) }
         requires few { self.old.cues < TICKS }
+        // One stimulus more is written: the file is the one spelling of those that were added, or it is longer than a
+        // file may be, and then its length is kept.
         ensures value { OnOk result (self.new ≡ with_cue (script_cue_value cue.now) self.old) }
         ensures written { (cues : List Cue) → IsWritten cues self.old → OnOk result (IsWritten (cues ++ script_cue_value cue.now ∷ []) self.new) }
     {
@@ -83,6 +88,7 @@ impl ScriptWriter {
 
     /// The file of the script of partition `p` with the cues that are written, where it is not too long for a file.
     pub fn finish(mut self, alloc: Global, p: PartId) -> Result<Vec<u8>, ScriptFault>
+        // The file of the script that was written; refused with its length where it is longer than a file may be.
         ensures { (cues : List Cue) → IsWritten cues self → IsScriptFile (λ file. file.items) (script_text p cues) result }
     {
         self.close()?;

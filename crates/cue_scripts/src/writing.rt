@@ -31,6 +31,7 @@ pub(crate) const OTHER: u8 = 2;
 /// The one file of a script for partition `p`.
 #[tactic(auto, unfolding(crate::specs::Spelling::script_text))]
 pub fn build_script(alloc: Global, p: PartId, script: &Script) -> Result<Vec<u8>, Memory>
+    // The file of a script is the one spelling of its cues.
     ensures { IfOk result (λ file. file.items ≡ script_text p script.now) }
 {
     let mut file = Vec::new(alloc);

@@ -63,7 +63,9 @@ impl PlanClock {
     /// What runs in a tick of the frame, or `None` in a gap between slots.
     #[tactic(auto, using(crate::proofs::ClockLemmas::here_covers, crate::proofs::ClockLemmas::here_gap), unfolding(crate::specs::PlanClock::here, crate::specs::PlanClock::slot_at))]
     pub fn here(&self, conf: &Conf, now: u64) -> Option<Here>
+        // Called in the frame of a plan of the configuration.
         requires { IsInFrame conf.now self.now now }
+        // The slot that a tick is in, with its partition, and whether the tick is its first; none exactly in a gap.
         ensures value { result ≡ here conf.now self.now now }
         ensures covers { IfSome result (IsHere (moment self.now now) (slots_of conf.now self.now.plan)) }
         ensures gap { IsNone result ↔ IsGap (moment self.now now) (slots_of conf.now self.now.plan) }
@@ -73,6 +75,7 @@ impl PlanClock {
 
     /// Asks for the plan of the next frame. What was asked before is forgotten.
     pub fn ask(&mut self, plan: u8)
+        // A plan is asked for.
         ensures value { self.new ≡ record self.old { asked = Some plan } }
     {
         self.asked = Some(plan);
@@ -81,7 +84,9 @@ impl PlanClock {
     /// Ends a tick by a switch to the maintenance plan, plan 1, instead of `advance`.
     #[tactic(auto, unfolding(crate::specs::PlanClock::in_maintenance))]
     pub fn to_maintenance(&mut self, now: u64)
+        // Called below the last number of a clock.
         requires { now < 2 ^ 64 - 1 }
+        // Plan 1 begins with the next tick.
         ensures value { self.new ≡ in_maintenance now }
     {
         self.begin_frame(MAINTENANCE, now + 1);
@@ -90,8 +95,11 @@ impl PlanClock {
     /// Ends a tick. The answer is the plan that starts with the next one, where it is another than before.
     #[tactic(auto, using(crate::proofs::ClockLemmas::entered_in_frame), unfolding(crate::specs::PlanClock::ended, crate::specs::PlanClock::entered_plan))]
     pub fn advance(&mut self, conf: &Conf, now: u64) -> Option<u8>
+        // Called in the frame of a plan of the configuration and below the last number of a clock.
         requires in_frame { IsInFrame conf.now self.old now }
         requires now { now < 2 ^ 64 - 1 }
+        // The end of a tick: where the frame ends the asked plan or else the same begins, and nothing is asked; the
+        // plan is the answer where it is another; the next tick is in the frame.
         ensures clock { self.new ≡ ended conf.now self.old now }
         ensures value { result ≡ entered_plan conf.now self.old now }
         ensures changed { IfSome result (Enters conf.now self.old self.new now) }
@@ -109,7 +117,9 @@ impl PlanClock {
     /// How many ticks are left to the end of the slot or gap, with this one.
     #[tactic(auto, using(crate::proofs::ClockLemmas::ticks_alike, crate::proofs::ClockLemmas::ticks_within, crate::proofs::ClockLemmas::ticks_some), unfolding(crate::specs::PlanClock::ticks_left))]
     pub fn ticks_left(&self, conf: &Conf, now: u64) -> u64
+        // Called in the frame of a plan of the configuration.
         requires { IsInFrame conf.now self.now now }
+        // The ticks to the end of the slot or gap: it is the same slot or gap in all of them, and within the frame.
         ensures value { result ≡ ticks_left conf.now self.now now }
         ensures alike { (ticks : ℕ) → ticks < result → slot_at conf.now self.now (now + ticks) ≡ slot_at conf.now self.now now }
         ensures within { now + result ≤ self.now.frame_start + frame_of conf.now self.now.plan }

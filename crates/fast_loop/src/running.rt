@@ -41,10 +41,15 @@ impl RunEnd {
 /// needs a window spilled or filled by a search, or that stands away from the words that have rows.
 #[inline(always)]
 pub fn run<B: HasRows>(own: &mut Processor, bus: &mut B, most: u64) -> RunEnd
+    // The answered number of steps, which all went, and the registers and the memory that they leave; no more steps
+    // than are asked for.
     ensures steps { AreSteps result.went (B.areas bus.old) own.old (B.memory bus.old) own.new (B.memory bus.new) }
     ensures few { result.went ≤ most }
+    // Where it reports a call, the step that would be next is one: it calls the hypervisor, and leaves the registers at
+    // the next instruction and the memory as it is; fewer steps than are asked for went before it.
     ensures room { OnTrue result.calls (result.went < most) }
     ensures call { OnTrue result.calls (IsCall (B.areas bus.old) own.new (B.memory bus.new)) }
+    // Areas and the memories of others are as before.
     ensures areas { B.areas bus.new ≡ B.areas bus.old }
     ensures others { B.others bus.new ≡ B.others bus.old }
 {

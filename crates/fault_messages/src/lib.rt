@@ -1,4 +1,5 @@
 //! What is said of files, descriptions and plans: why one is refused, and named values in a line.
+//! The crates whose calls answer these faults export them, too.
 #![tactic(auto)]
 
 mod digits;

@@ -10,6 +10,7 @@ use xm_base::Memory;
 
 /// Writes an address with eight hexadecimal digits, after its name.
 pub fn put_address(lines: &mut Vec<u8>, name: &[u8], address: u32) -> Result<(), Memory>
+    // After the bytes so far and a name: the address with eight hexadecimal digits.
     ensures { OnOk result (lines.new.items ≡ lines.old.items ++ (name.now ++ address_text address)) }
 {
     lines.extend_from_slice(name)?;
@@ -24,6 +25,7 @@ pub fn put_number(
     name: &[u8],
     number: usize,
 ) -> Result<(), Memory>
+    // After the bytes so far and a name: the number with decimal digits.
     ensures { OnOk result (lines.new.items ≡ lines.old.items ++ (name.now ++ decimal number)) }
 {
     let digits = format!(in alloc; "{number}")?;
@@ -34,7 +36,9 @@ pub fn put_number(
 
 /// Writes a digest with 32 hexadecimal digits, after its name.
 pub fn put_digest(lines: &mut Vec<u8>, name: &[u8], digest: &[u8]) -> Result<(), Memory>
+    // Called with the 16 bytes of a digest.
     requires { length digest.now ≡ 16 }
+    // After the bytes so far and a name: the digest with 32 hexadecimal digits.
     ensures { OnOk result (lines.new.items ≡ lines.old.items ++ (name.now ++ encode_lower digest.now)) }
 {
     lines.extend_from_slice(name)?;

@@ -13,6 +13,8 @@ use xm_report::Pen;
 /// Writes the line of a call that ends so; a finished call makes no call of the sink.
 #[tactic(auto, unfolding(crate::specs::Ending::complaint))]
 pub fn complain<E: Sink>(err: &mut E, ending: &Ending<'_>) -> Result<(), Failed>
+    // The line of an ending goes out, or a prefix of it, and then the sink's count rose; a finished call leaves the
+    // sink as it was.
     ensures line { Writes result (E.got err.old) (complaint (ending_of ending.now)) (E.got err.new) }
     ensures cause { HasCause result (E.faults err.old) (E.faults err.new) }
     ensures silent { ending_of ending.now ≡ Done → err.new ≡ err.old }

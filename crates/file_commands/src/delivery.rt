@@ -53,6 +53,7 @@ pub(crate) fn write_container<'a, S: Store, O: Sink>(
 
 /// How a call ends that made nothing of a file.
 pub fn unmade<'a>(input: &'a str, why: Unmade) -> Ending<'a>
+    // A call that made nothing of a file is refused by the text of its fault, or there was no memory.
     ensures { IsUnmadeOf (ending_of result) input.now why }
 {
     match why {
@@ -100,6 +101,7 @@ pub(crate) fn print_made<'a, O: Sink>(
 
 /// Writes a text to the report, which is all that a command does.
 pub fn report<'a, O: Sink>(text: &[u8], out: &mut O) -> Ending<'a>
+    // A text goes to the report, or a prefix of it.
     ensures { Reports (ending_of result) (outcome_of_print text.now) (O.got out.old) (O.faults out.old) (O.got out.new) (O.faults out.new) }
 {
     match write_all(out, text) {

@@ -47,6 +47,7 @@ pub enum Ending<'a> {
 
 /// The status of a call that ends so.
 pub fn status_of(ending: &Ending<'_>) -> Status
+    // The status of an ending.
     ensures { result ≡ status_of (ending_of ending.now) }
 {
     match ending {

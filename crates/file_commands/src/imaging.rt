@@ -23,6 +23,7 @@ pub fn build_image<'a, S: Store, O: Sink>(
     files: &mut S,
     out: &mut O,
 ) -> Ending<'a>
+    // A program's image is written and reported, or the first refusal ends the call.
     ensures { IsDone (ending_of result) (BuildImage program.now output.now)
         (outside (S.files files.old) (S.read_faults files.old) (S.write_faults files.old) (S.calls files.old) (O.got out.old) (O.faults out.old))
         (outside (S.files files.new) (S.read_faults files.new) (S.write_faults files.new) (S.calls files.new) (O.got out.new) (O.faults out.new)) }

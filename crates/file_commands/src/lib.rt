@@ -1,4 +1,6 @@
 //! The commands that make or print files, and what all commands share: how files are read, how a call ends, and its line and status.
+//! The clauses are about a store, a report's sink and an error sink that may be any that keep their traits. An outcome
+//! is a case for each ending: it was carried out whole, or what was done up to the fault that is named.
 #![tactic(auto)]
 
 mod complaint;

@@ -35,6 +35,8 @@ pub fn pack_files<'a, S: Store, O: Sink>(
     files: &mut S,
     out: &mut O,
 ) -> Ending<'a>
+    // The container of a configuration and its images is written and reported: each file is read, or the first refusal
+    // ends the call.
     ensures { IsDone (ending_of result) (Pack configuration.now output.now (seen_files images.entry))
         (outside (S.files files.old) (S.read_faults files.old) (S.write_faults files.old) (S.calls files.old) (O.got out.old) (O.faults out.old))
         (outside (S.files files.new) (S.read_faults files.new) (S.write_faults files.new) (S.calls files.new) (O.got out.new) (O.faults out.new)) }

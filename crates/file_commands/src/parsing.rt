@@ -23,6 +23,8 @@ pub fn parse<'a, S: Store, O: Sink>(
     files: &mut S,
     out: &mut O,
 ) -> Ending<'a>
+    // A description's binary configuration is written and reported: the file is read, and what is made of it is
+    // written, or the first refusal ends the call.
     ensures { IsDone (ending_of result) (Parse description.now output.now)
         (outside (S.files files.old) (S.read_faults files.old) (S.write_faults files.old) (S.calls files.old) (O.got out.old) (O.faults out.old))
         (outside (S.files files.new) (S.read_faults files.new) (S.write_faults files.new) (S.calls files.new) (O.got out.new) (O.faults out.new)) }

@@ -23,6 +23,7 @@ pub fn print_file<'a, S: Store, O: Sink>(
     files: &mut S,
     out: &mut O,
 ) -> Ending<'a>
+    // What is printed of a file that is shown, or its refusal.
     ensures { IsDone (ending_of result) (command_printing what file.now)
         (outside (S.files files.old) (S.read_faults files.old) (S.write_faults files.old) (S.calls files.old) (O.got out.old) (O.faults out.old))
         (outside (S.files files.new) (S.read_faults files.new) (S.write_faults files.new) (S.calls files.new) (O.got out.new) (O.faults out.new)) }

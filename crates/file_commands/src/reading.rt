@@ -20,6 +20,8 @@ pub fn read_file<'a, S: Store>(
     file: &'a str,
     files: &mut S,
 ) -> Result<Vec<u8>, Ending<'a>>
+    // The bytes of a file, or its first ones where it is too long; or the call ends by the store's fault or the file's
+    // absence, or out of memory, and the store was called once.
     ensures { (got : Option (List ℕ)) (faults : ℕ) → IsFileRead result file.now
         (outside (S.files files.old) (S.read_faults files.old) (S.write_faults files.old) (S.calls files.old) got faults)
         (outside (S.files files.new) (S.read_faults files.new) (S.write_faults files.new) (S.calls files.new) got faults) }
@@ -39,6 +41,7 @@ pub fn read_files<'a, S: Store>(
     others: PartFiles<'a>,
     files: &mut S,
 ) -> Result<Vec<Vec<u8>>, Ending<'a>>
+    // The bytes of several files in their order; or the call ends at the first that is not read.
     ensures { (got : Option (List ℕ)) (faults : ℕ) → AreFilesRead result (first.now ∷ file_names (seen_files others.entry))
         (outside (S.files files.old) (S.read_faults files.old) (S.write_faults files.old) (S.calls files.old) got faults)
         (outside (S.files files.new) (S.read_faults files.new) (S.write_faults files.new) (S.calls files.new) got faults) }
@@ -73,6 +76,7 @@ pub fn read_three<'a, S: Store>(
     third: Option<&'a str>,
     files: &mut S,
 ) -> Result<Vec<Vec<u8>>, Ending<'a>>
+    // The bytes of several files in their order; or the call ends at the first that is not read.
     ensures { (got : Option (List ℕ)) (faults : ℕ) → AreFilesRead result (first.now ∷ second.now ∷ name_if_any (option_copied third.entry))
         (outside (S.files files.old) (S.read_faults files.old) (S.write_faults files.old) (S.calls files.old) got faults)
         (outside (S.files files.new) (S.read_faults files.new) (S.write_faults files.new) (S.calls files.new) got faults) }
@@ -137,6 +141,7 @@ pub fn first_long_of_three<'a>(
     third: Option<&'a str>,
     contents: &[Vec<u8>],
 ) -> Option<&'a str>
+    // The first of the files that has more bytes than a file may have.
     ensures value { option_copied result ≡ first_long (first.now ∷ second.now ∷ name_if_any (option_copied third.entry)) (map vector_bytes contents.now) }
 {
     let (bytes, others) = contents.split_first()?;
@@ -161,6 +166,7 @@ pub fn first_long<'a>(
     others: PartFiles<'a>,
     contents: &[Vec<u8>],
 ) -> Option<&'a str>
+    // The first of the files that has more bytes than a file may have.
     ensures value { option_copied result ≡ first_long (first.now ∷ file_names (seen_files others.entry)) (map vector_bytes contents.now) }
 {
     let (bytes, more) = contents.split_first()?;
@@ -189,6 +195,7 @@ fn first_long_for_parts<'a>(files: PartFiles<'a>, contents: &[Vec<u8>]) -> Optio
 
 /// The content of the first file, and those of the others.
 pub fn split_contents(contents: &[Vec<u8>]) -> (&[u8], &[Vec<u8>])
+    // The content of the first file, and those of the others.
     ensures first { result.0.now ≡ content 0 (map vector_bytes contents.now) }
     ensures others { map vector_bytes result.1.now ≡ drop 1 (map vector_bytes contents.now) }
 {

@@ -24,6 +24,7 @@ pub enum Status {
 impl Status {
     /// The program's exit status.
     pub fn code(self) -> u8
+        // The exit statuses are 0 to 6.
         ensures { IsCodeOf self result }
     {
         self as u8

@@ -13,6 +13,8 @@ use xm_base::Cursor;
 /// The bytes before the digest of a file, where it is theirs: the file begins with this name and one of the versions up to the latest, and is as long as its head says.
 #[tactic(auto, unfolding(crate::specs::Heads::unsealed))]
 pub fn unsealed<'a>(bytes: &'a [u8], name: [u8; 4], latest: u16) -> Result<&'a [u8], HeadFault>
+    // The bytes before the digest of a file, exactly where it begins with this name and a version up to the latest, is
+    // as long as its head says, and has the MD5 of these bytes at its end; else its first fault.
     ensures value { IsRead (λ front. front.now) result (unsealed head_faults name latest bytes.now) }
 {
     let count = before_digest(bytes, name, latest)?;
@@ -69,6 +71,7 @@ fn stated_length(bytes: &[u8], name: [u8; 4], latest: u16) -> Result<u32, HeadFa
 /// The version that the head of a file says, after its name.
 #[tactic(auto, unfolding(crate::specs::Heads::stated_version))]
 pub fn stated_version(bytes: &[u8], name: [u8; 4], latest: u16) -> Result<u16, HeadFault>
+    // The version that stands after the name, or the first fault.
     ensures value { IsRead (λ version. version) result (stated_version head_faults name latest bytes.now) }
 {
     let mut cursor = Cursor::new(bytes);
@@ -102,7 +105,9 @@ fn version(cursor: &mut Cursor<'_>, latest: u16) -> Result<u16, HeadFault>
 
 /// The digest at the end of a file.
 pub fn stored_digest(bytes: &[u8]) -> &[u8]
+    // Called with bytes that may end with a digest.
     requires { 16 ≤ length bytes.now }
+    // The last 16 bytes of a file.
     ensures value { result.now ≡ drop (length bytes.now - 16) bytes.now }
     ensures size { length result.now ≡ 16 }
 {

@@ -27,6 +27,9 @@ const RUN_TICKS: u64 = 16_000_000;
 
 /// Generates a system from a number, packs it, unpacks the container, runs it, and reports the run in two lines.
 pub fn run_lines(alloc: Global, number: u32) -> Result<Vec<u8>, Memory>
+    // The two lines of the system that is generated from a seed: the length of its container, and, of the machine after
+    // 1000 frames of its run without input words, the ticks done, the ticks in which partitions ran, the lines of the
+    // whole report, and the messages that wait; or there was no memory.
     ensures text { IfOk result (λ text. text.items ≡ generated_text number) }
 {
     let container = container_of(alloc, number)?;

@@ -15,6 +15,7 @@ use xm_container::{BoxFault, PackFault, System, pack, unpack};
 
 /// The container of the system that is generated out of a number.
 pub fn container_of(alloc: Global, number: u32) -> Result<Vec<u8>, Memory>
+    // The container of the system that is generated from a seed, whatever the seed; unpacking it gives that system.
     ensures text { IfOk result (λ bytes. bytes.items ≡ box_text Two (generated number)) }
     ensures read { IfOk result (λ bytes. unpacked bytes.items ≡ Ok (generated number)) }
 {
@@ -38,7 +39,9 @@ fn starved(fault: PackFault) -> Memory
 
 /// The system whose container these bytes are.
 pub fn system_in(alloc: Global, bytes: &[u8]) -> Result<System, Memory>
+    // Called with bytes that are a container.
     requires { (system : Meaning) × (unpacked bytes.now ≡ Ok system) }
+    // The system that bytes are a container of.
     ensures { IfOk result (λ system. unpacked bytes.now ≡ Ok system) }
 {
     match unpack(alloc, bytes) {

@@ -27,6 +27,7 @@ pub enum Size {
 impl Size {
     /// The number of bytes.
     pub fn bytes(self) -> u32
+        // How many bytes an access of a size has.
         ensures { result ≡ byte_len (width_of self) }
     {
         match self {
@@ -51,25 +52,39 @@ pub trait Bus {
 
     /// The instruction word at the address.
     fn fetch(&mut self, address: u32) -> Result<u32, BusFault>
+        // The big endian value; Unaligned exactly where the address is no multiple of the size, Outside exactly where
+        // it is one and some byte may not be read.
         ensures value { result ≡ fetched (areas self.old) (memory self.old) address }
+        // A fetch and a load change nothing.
         ensures memory { memory self.new ≡ memory self.old }
         ensures areas { areas self.new ≡ areas self.old }
         ensures others { others self.new ≡ others self.old }
+        // A byte stands at each address of the areas, and nothing elsewhere.
         ensures whole { IsMemoryOf (areas self.new) (memory self.new) };
 
     /// The big endian value at the address.
     fn load(&mut self, address: u32, size: Size) -> Result<u64, BusFault>
+        // The big endian value; Unaligned exactly where the address is no multiple of the size, Outside exactly where
+        // it is one and some byte may not be read.
         ensures value { result ≡ loaded (areas self.old) (memory self.old) address size }
+        // A fetch and a load change nothing.
         ensures memory { memory self.new ≡ memory self.old }
         ensures areas { areas self.new ≡ areas self.old }
         ensures others { others self.new ≡ others self.old }
+        // A byte stands at each address of the areas, and nothing elsewhere.
         ensures whole { IsMemoryOf (areas self.new) (memory self.new) };
 
     /// Writes the low bytes of the value, as many as the size, in big endian order.
     fn store(&mut self, address: u32, size: Size, value: u64) -> Result<(), BusFault>
+        // A store is refused: Unaligned exactly where the address is no multiple of the size, Outside exactly where it
+        // is one and some byte may not be written.
         ensures fault { Stores result (store_fault (areas self.old) address size) }
+        // The low bytes of the value stand at the address, and every other byte is as before; a refused store changes
+        // nothing.
         ensures memory { memory self.new ≡ after_store (areas self.old) (memory self.old) address size value }
+        // A store changes no area and no memory of others.
         ensures areas { areas self.new ≡ areas self.old }
         ensures others { others self.new ≡ others self.old }
+        // A byte stands at each address of the areas, and nothing elsewhere.
         ensures whole { IsMemoryOf (areas self.new) (memory self.new) };
 }

@@ -57,6 +57,7 @@ impl Ram {
     /// The memories of a configuration's partitions, all of zeros, with partition 0 selected. All memory is taken
     /// here: no other call needs any.
     pub fn new(alloc: Global, conf: &Conf) -> Result<Ram, Memory>
+        // The memories of a configuration's partitions, all zeros, partition 0 selected.
         ensures value { IfOk result (λ ram. ram ≡ record { areas = map memory_areas conf.now.parts; maps = map zeros_in (map memory_areas conf.now.parts); selected = 0 }) }
     {
         let made = tables_of(alloc, parts_of(conf))?;
@@ -73,7 +74,9 @@ impl Ram {
 
     /// Selects the partition whose memory a processor sees.
     pub fn select(&mut self, p: PartId)
+        // Called for a partition that exists.
         requires { p < length self.old.areas }
+        // Another partition is selected, and nothing else changes.
         ensures value { self.new ≡ with_selected p self.old }
     {
         self.selected = p;
@@ -83,7 +86,9 @@ impl Ram {
 
     /// The partition whose memory a processor sees.
     pub fn selected(&self) -> PartId
+        // Which partition is selected.
         ensures value { result ≡ self.now.selected }
+        // Each memory has a byte at exactly the addresses of its areas.
         ensures memories { AreMemories self.now }
     {
         self.selected
@@ -91,7 +96,10 @@ impl Ram {
 
     /// Copies bytes of a partition's memory from an address on, where all of them may be read.
     pub fn copy_in(&self, p: PartId, address: u32, into: &mut [u8]) -> Result<(), Outside>
+        // Called for a partition that exists.
         requires { p < length self.now.areas }
+        // A range is read, or refused with its first address that is not allowed (0 where that is past the last
+        // address), and then nothing changed.
         ensures answer { result ≡ answer_by (first_refused (is_readable (areas_at p self.now)) address (length into.old)) }
         ensures read { OnOk result (into.new ≡ bytes_at (map_at p self.now) address (length into.old)) }
         ensures unchanged { OnErr result (into.new ≡ into.old) }
@@ -101,10 +109,14 @@ impl Ram {
 
     /// Writes bytes to a partition's memory from an address on, where all of them may be written.
     pub fn copy_out(&mut self, p: PartId, address: u32, from: &[u8]) -> Result<(), Outside>
+        // Called for a partition that exists.
         requires { p < length self.old.areas }
+        // A range is written, or refused with its first address that is not allowed (0 where that is past the last
+        // address), and then nothing changed.
         ensures answer { result ≡ answer_by (first_refused (is_writable (areas_at p self.old)) address (length from.now)) }
         ensures written { OnOk result (self.new ≡ with_map p (with_bytes (map_at p self.old) address from.now) self.old) }
         ensures unchanged { OnErr result (self.new ≡ self.old) }
+        // No other partition's memory changes.
         ensures others { SameElsewhere p self.old self.new }
     {
         parts::copy_out(&self.tables[usize::from(p)], &mut self.bytes, address, from)
@@ -112,7 +124,9 @@ impl Ram {
 
     /// Whether this many bytes of a partition's memory from an address on may be read.
     pub fn may_read(&self, p: PartId, address: u32, size: u32) -> bool
+        // Called for a partition that exists.
         requires { p < length self.now.areas }
+        // Whether all of a range may be read.
         ensures value { result ≡ all_from (is_readable (areas_at p self.now)) address size }
     {
         refused(self.entries(p), Access::Read, address, size as usize).is_none()
@@ -120,7 +134,9 @@ impl Ram {
 
     /// Whether this many bytes of a partition's memory from an address on may be written.
     pub fn may_write(&self, p: PartId, address: u32, size: u32) -> bool
+        // Called for a partition that exists.
         requires { p < length self.now.areas }
+        // Whether all of a range may be written.
         ensures value { result ≡ all_from (is_writable (areas_at p self.now)) address size }
     {
         refused(self.entries(p), Access::Write, address, size as usize).is_none()
@@ -128,9 +144,12 @@ impl Ram {
 
     /// Loads an image into a partition's memory, and makes all other bytes of it zero.
     pub fn reload(&mut self, p: PartId, image: &Xef)
+        // Called for a partition that exists and with an image each of whose segments lies inside one of its areas.
         requires partition { p < length self.old.areas }
         requires inside { LiesInAreas (areas_at p self.old) image.now }
+        // The image is loaded, with zeros in all other places.
         ensures value { self.new ≡ with_map p (areas_with_image (areas_at p self.old) image.now) self.old }
+        // No other partition's memory changes.
         ensures others { SameElsewhere p self.old self.new }
     {
         parts::reload(&self.tables[usize::from(p)], &mut self.bytes, image);
@@ -138,9 +157,12 @@ impl Ram {
 
     /// The byte at an address of a partition's memory, or `None` where none of its areas has the address.
     pub fn byte(&self, p: PartId, address: u32) -> Option<u8>
+        // Called for a partition that exists.
         requires { p < length self.now.areas }
+        // The byte at an address, none exactly in no area.
         ensures value { result ≡ get (map_at p self.now) address }
         ensures none { IsNone result ↔ (is_readable (areas_at p self.now) address ≡ false) }
+        // Each memory has a byte at exactly the addresses of its areas.
         ensures memories { AreMemories self.now }
     {
         space::byte(self.entries(p), self.part(p), address)
@@ -148,6 +170,8 @@ impl Ram {
 
     /// The bytes of all areas, one area after the other, in order of partition and area.
     pub fn whole(&self) -> &[u8]
+        // The bytes of all areas, one area after the other in order of partition and area: as many as all areas have,
+        // those of an area from its place on, and the byte at each of its addresses.
         ensures size { length result.now ≡ whole_size self.now.areas }
         ensures bytes { HasBytes self.now result.now }
         ensures areas { HasAreas self.now result.now }
@@ -157,8 +181,10 @@ impl Ram {
 
     /// How many of these bytes stand before those of an area of a partition.
     pub fn place(&self, p: PartId, area: u8) -> u32
+        // Called for a partition that exists and for one of its areas.
         requires partition { p < length self.now.areas }
         requires area { area < length (areas_at p self.now) }
+        // The place of an area: how many bytes all areas before it have.
         ensures value { result ≡ place_at p area self.now }
     {
         let table = &self.tables[usize::from(p)];

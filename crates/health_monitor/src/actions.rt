@@ -11,6 +11,7 @@ use xm_conf::Action;
 /// The outcome of an action, where the partition's traps are enabled or not.
 #[tactic(auto, unfolding(crate::specs::Monitor::effect_of))]
 pub fn effect(action: Action, enabled: bool) -> Effect
+    // The outcome of an action; which pass over; PROPAGATE with traps disabled is HALT.
     ensures value { result ≡ effect_of action enabled }
     ensures passes { (result.pass ≡ true) ↔ PassesOver action }
     ensures halts { action ≡ Propagate → enabled ≡ false → result ≡ effect_of Halt enabled }

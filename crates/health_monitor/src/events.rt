@@ -9,6 +9,7 @@ use xm_conf::Event;
 /// The event that a trap of this type raises.
 #[tactic(auto, unfolding(crate::specs::Monitor::event_of_type))]
 pub fn event_of(tt: u8) -> Event
+    // The event of a trap type; the unexpected one exactly for types without a row.
     ensures value { result ≡ event_of_type tt }
     ensures unexpected { (result ≡ event.UnexpectedTrap) ↔ HasNoEvent tt }
 {

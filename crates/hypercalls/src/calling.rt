@@ -25,6 +25,10 @@ use xm_report::Line;
 /// notes nothing and reaches beyond no partition, as most do.
 #[inline(always)]
 pub fn call_reported(sys: &mut Sys, lines: &mut Lines, p: PartId, pc: u32) -> Option<(Note, Beyond)>
+    // Called for a partition that exists, with an aligned program counter, where the program resumes after the call,
+    // with room for the number of one more trace entry, with channels of the configuration's shapes, with made ports
+    // that are ends of channels, in the frame of the plan clock, where the plan that is asked for exists, with an
+    // execution clock below 2^63, with room for the numbers of more health entries, and with no lines.
     requires partition { p < length sys.old.machine.parts }
     requires pc { pc % 4 ≡ 0 }
     requires next { (part_at p sys.old.machine).core.npc ≡ ((part_at p sys.old.machine).core.pc + 4) % 2 ^ 32 }
@@ -36,6 +40,9 @@ pub fn call_reported(sys: &mut Sys, lines: &mut Lines, p: PartId, pc: u32) -> Op
     requires clock { (part_at p sys.old.machine).clocks.execution < 2 ^ 63 }
     requires log { (part_at p sys.old.machine).health.next < 4294967294 }
     requires empty { lines.old ≡ [] }
+    // A partition whose instruction called is left as it is defined, with its tick on the execution clock, the lines
+    // that are emitted, its note, and how it reaches beyond the partition; a call that notes nothing and reaches beyond
+    // no partition answers none; the note's entry and places are those of the call.
     ensures worked { IsTickWorked p (called (caller_at p pc (part_at p sys.old.machine).core.pc sys.old)) (note_in result) (reach_in result) sys.old sys.new lines.new }
     ensures alone { EmitsAlone (note_in result) (reach_in result) }
     ensures noted { IsNotedBy p (caller_at p pc (part_at p sys.old.machine).core.pc sys.old).sight (called (caller_at p pc (part_at p sys.old.machine).core.pc sys.old)) (note_in result) sys.old }

@@ -28,12 +28,20 @@ use xm_conf::Kind;
 #[inline(always)]
 #[tactic(auto, unfolding(system_state::specs::Serving::caller_of, system_state::specs::Serving::caller_at, machine_model::specs::Hypercalls::served))]
 pub fn serve(sys: &mut Sys, p: PartId, pc: u32, npc: u32) -> Served
+    // Called for a partition that exists, with an aligned program counter, with an aligned next program counter, with
+    // room for the number of one more trace entry, with channels of the configuration's shapes, and in the frame of the
+    // plan clock.
     requires partition { p < length sys.old.machine.parts }
     requires pc { pc % 4 ≡ 0 }
     requires npc { npc % 4 ≡ 0 }
     requires traces { (part_at p sys.old.machine).traces.next < 4294967295 }
     requires shapes { sys.old.shapes ≡ shapes_of sys.old.machine.system.conf }
     requires frame { IsInFrame sys.old.machine.system.conf sys.old.machine.clock sys.old.machine.time }
+    // The outcome of a hypercall is what is defined for its number: the caller, the channels, and interrupts at the
+    // partitions that hear of a message or a signal; what is reported, and what an observing call was shown; how it
+    // reaches beyond its caller, which is reported and not done, and is never an event that does nothing; the note has
+    // the very entry that was made in the traces, and the bytes that it names stand where the call's arguments say; an
+    // unknown number has the result -2.
     ensures served { IsServed p (caller_at p pc npc sys.old).sight (served (caller_at p pc npc sys.old)) result sys.old sys.new }
 {
     serve_caller(sys, CallSite { part: p, pc, npc })

@@ -40,6 +40,8 @@ fn outside_in(areas: &[Area], segments: &[Segment]) -> Option<u32>
 
 /// The address of the first segment of an image that lies inside no area of its partition.
 pub fn outside_of(part: &Part, image: &Xef) -> Option<u32>
+    // The address of the first segment of an image that lies inside no area of its partition; none where each lies
+    // inside one.
     ensures value { result ≡ outside_in part.now.areas image.now.segments }
     ensures image { IsImage image.now }
 {

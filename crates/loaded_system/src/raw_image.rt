@@ -37,6 +37,7 @@ const FRAME: u32 = 1000;
 /// The system of one partition that runs a raw image: one plan of one slot, and one area of 1 MiB at whose start
 /// the image is loaded and entered. Refused where the image has no bytes or more than `IMAGE_BYTES`.
 pub fn bare(alloc: Global, image: &[u8]) -> Result<System, BareFault>
+    // The system of a raw image; a refusal gives the length, which is 0 or above the limit.
     ensures value { IsBare result image.now }
 {
     let found = image.len();

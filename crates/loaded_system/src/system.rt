@@ -42,7 +42,10 @@ impl Model for System {
 impl System {
     /// The system of a configuration and an image for each of its partitions, in the order of their numbers.
     pub fn new(conf: Conf, images: Vec<Xef>) -> Result<System, Outside>
+        // Called with an image for each partition.
         requires { length images.items ≡ length conf.parts }
+        // The system of a configuration and its images comes exactly where every segment lies inside one area of its
+        // partition; else the first segment that does not is reported.
         ensures value { IfOk result (λ system. system ≡ record { conf = conf; images = images.items }) }
         ensures inside { IsOk result ↔ AreInside conf.parts images.items }
         ensures outside { IfErr result (λ outside. first_outside_of conf.parts images.items ≡ Some outside) }
@@ -55,7 +58,9 @@ impl System {
 
     /// Its configuration.
     pub fn conf(&self) -> &Conf
+        // The configuration.
         ensures value { result.now ≡ self.now.conf }
+        // Each segment of each image lies inside one area of its partition.
         ensures system { IsSystem self.now }
     {
         &self.conf
@@ -63,8 +68,11 @@ impl System {
 
     /// The image of a partition.
     pub fn image(&self, id: u8) -> &Xef
+        // Called for a partition that exists.
         requires { id < length self.now.conf.parts }
+        // The image of the partition.
         ensures value { slice_get self.now.images id ≡ Some result.now }
+        // Each segment of each image lies inside one area of its partition.
         ensures system { IsSystem self.now }
     {
         &self.images[usize::from(id)]
@@ -74,6 +82,7 @@ impl System {
 /// The partitions of a configuration.
 #[tactic(auto, unfolding(xm_conf::specs::Description::described))]
 pub fn parts(conf: &Conf) -> &[Part]
+    // The partitions of a configuration: no more than the limit, and the configuration meets the rules.
     ensures value { result.now ≡ conf.now.parts }
     ensures few { length result.now ≤ most_parts }
     ensures fits { Fits (described conf.now) }

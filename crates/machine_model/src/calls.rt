@@ -38,42 +38,72 @@ pub fn processor_calls()
 
 /// Call 38, on links, and its signals: the call's result, who hears of a signal, and the interrupt that comes with it.
 pub fn link_calls()
+    // Call 38: over a link that goes from the caller there is a signal, and another number is refused.
     ensures rows { LinkCallRows }
+    // Interrupt 8 and those that follow it come with links 0 to 7; a partition that has halted hears of none.
     ensures signals { SignalRows }
+    // A partition has the numbers of its own links alone; its signal is heard by the partition at the link's end, under
+    // the link's number, and by no other one; and a link to the partition itself brings nothing.
     ensures links { LinkRows }
+    // A call over link 5 is answered 0; interrupt 13 is pending at the other end, which receives the signal, and the
+    // caller is as it was.
     ensures heard { SignalsOther }
+    // One that has halted receives it and stays as it was.
     ensures halted { SignalsHalted }
+    // A number of a link that goes to the caller is refused with -3, and nothing is signalled.
     ensures refused { SignalsNotBack }
+    // The interrupt of link 0 is delivered as trap e8.
     ensures delivered { SignalIsDelivered }
 {}
 
 /// Health events: what each action does, deliveries that fail, and calls that end in an event.
 pub fn health_events()
+    // The events of trap types, those of section 7 of the SPARC V8 manual and two that have none of their own.
     ensures events { TrapsHaveEvents }
+    // Each event but a raised one is passed over where the action does so, and none where it does not.
     ensures passed { EventsPassOver }
+    // What each action does; where traps are disabled PROPAGATE is HALT; a warm reset counts modulo 2^32.
     ensures actions { ActionRows }
+    // Raised events, by each action.
     ensures raised { RaisedRows }
+    // Deliveries that fail.
     ensures deliveries { DeliveryRows }
+    // Calls 34 and 37, which an event undoes.
     ensures undone { UndoneRows }
 {}
 
 /// Observing calls: what each asks for, and what it is shown.
 pub fn observing_calls()
+    // What each observing call asks for, and the place and the size of the answer.
     ensures asked { AskingRows }
+    // What each question is answered: plan 1 is not there, so that no slot runs.
     ensures answered { AnswerRows }
+    // What the status of the plan shows.
     ensures plan { PlanStatusRows }
+    // Where there is no room for what is asked.
     ensures room { RoomRows }
+    // Call 15 in a tick; it is made, too, where interrupt 5 is due and traps are disabled.
     ensures shown { SeesPlan }
+    // Nothing is asked where an interrupt is delivered instead of the call, where an idle partition is not woken, and
+    // where a partition takes no turn.
     ensures silent { SilentRows }
 {}
 
 /// What reaches beyond a partition: messages, orders in each state, resets of the hypervisor, and
 /// console bytes by UART.
 pub fn reaching_others()
+    // Interrupt 3 of a sampling channel and 4 of a queue come at a destination that is made; a partition that has
+    // halted hears of none, and a message that is taken brings none.
     ensures heard { HearingRows }
+    // Each order in each state.
     ensures ordered { OrderRows }
+    // The counters of resets go on modulo 2^32: a partition's, and the hypervisor's.
     ensures counted { CounterRows }
+    // HYPERVISOR_COLD_RESET loads each image again, and no reset is counted; HYPERVISOR_WARM_RESET leaves the memories,
+    // and each reset is counted.
     ensures reset { ResetRows }
+    // A UART gets the bytes of the partitions whose console it is, and of no others, whichever of them writes; what is
+    // traced goes to no UART.
     ensures consoles { WritesToItsConsole }
 {}
 

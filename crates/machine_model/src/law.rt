@@ -49,6 +49,7 @@ pub fn two_runs()
 
 /// A script ends with the tick in which the hypervisor halts, and is empty from then on.
 pub fn scripts_end()
+    // A script ends with the tick in which the hypervisor halts, and is empty from then on.
     ensures last { LastCue }
     ensures none { NoScript }
 {}
@@ -76,6 +77,8 @@ pub fn has_own_tag()
 /// An observing call asks for what it tests: its place and its size are those of its tests, what it
 /// is shown is written there, and has that size.
 pub fn observes_as_tested()
+    // An observing call asks for the place and the size that the call itself tests; what it is shown is written there,
+    // and has that size where each trace entry has eight bytes, as after every run.
     ensures tested { ObservesAsTested }
     ensures sized { ShowsItsSize }
     ensures runs { ShowsItsSizeInRuns }
@@ -85,6 +88,11 @@ pub fn observes_as_tested()
 /// left out for being on a channel or a partition that it may not reach. And that is within what the
 /// partition has: its ports, the links from it, the system flag and its health table.
 pub fn acts_within_bounds()
+    // No act of a partition's work is left out: only its own channels and other partitions are acted on. Whatever it
+    // executes, a message that it puts goes by a source port of its own, fits the channel and has room there, one that
+    // it takes waits in a queue at a destination port of its own, a signal goes over a link from it, and it orders
+    // others, asks for a plan or reaches all only with the flag `system` or, but for orders and plans that are asked
+    // for, by its health table.
     ensures law { ActsWithinBounds }
     ensures own { ActsWithinOwn }
 {}
@@ -92,12 +100,16 @@ pub fn acts_within_bounds()
 /// Each call has its own number, and the outcome of a partition's call is what the call of its number
 /// tests and does.
 pub fn serves_by_number()
+    // Each of the 38 calls has its own number, and what a partition's call comes to is what the call of that number
+    // tests and does; a number that no call has is answered so.
     ensures numbers { HasOwnNumber }
     ensures serves { ServesByNumber }
 {}
 
 /// The outcome of each effect is within what its partition has, whatever tests its call makes before.
 pub fn effects_act_within_own()
+    // Each effect of a call comes to what is within what its partition has, whatever the call tests before, but that an
+    // order may be on the partition itself: so would the effect of a further call.
     ensures law { EffectsActWithinOwn }
 {}
 
@@ -109,6 +121,8 @@ pub fn same_core_file()
 /// Scripts that are equal for this many ticks are equal for fewer, and two runs in which a partition
 /// meets the same script are the same for it after each of their ticks.
 pub fn earlier_ticks()
+    // Scripts that are equal for so many ticks are equal for fewer, and so are two runs in which a partition meets the
+    // same script.
     ensures scripts { EarlierScripts }
     ensures runs { TwoRunsEarlier }
 {}
@@ -119,6 +133,11 @@ pub fn earlier_ticks()
 /// eight bytes, its input words are among those that it was given, and its made ports are ends of
 /// channels: when it boots, after each tick, and so after every run.
 pub fn keeps_facts()
+    // At boot, after each tick, and so after every run: a partition has made at most one trace entry and one health
+    // entry for each tick that is counted, and one more health entry where it or the hypervisor has halted; its
+    // execution clock is at most the ticks that have begun, of which the one in which the hypervisor halts is not
+    // counted; trace entries have eight bytes, the input words left are the last of those given, and a made port is
+    // there and is an end of a channel.
     ensures boots { BootsWithFacts }
     ensures ticks { KeepsFacts }
     ensures runs { RunsWithFacts }
@@ -126,12 +145,15 @@ pub fn keeps_facts()
 
 /// A partition alone keeps them in each tick, too, where a hypervisor event in a slot of its own is that of its own act.
 pub fn keeps_facts_alone()
+    // A tick of a partition alone keeps what `keeps_facts` says, where in a slot of its own it has no order of others
+    // and a hypervisor event is that of its own act.
     ensures law { KeepsFactsAlone }
 {}
 
 /// The hardware clock is not past the ticks that are done: when the machine boots, after each tick,
 /// and so after every run.
 pub fn keeps_hardware_clock()
+    // At boot, after each tick, and so after every run: the hardware clock is at most the ticks that are done.
     ensures boots { BootsTimed }
     ensures ticks { KeepsTimed }
     ensures runs { RunsTimed }
@@ -140,6 +162,8 @@ pub fn keeps_hardware_clock()
 /// What runs, and the numbers of partitions and of channels, are the same after each tick and so after
 /// every run; from its boot on a machine has each partition and each channel of its configuration.
 pub fn keeps_numbers()
+    // No tick, and so no run, changes what runs or how many partitions and channels there are; a machine has each of
+    // its configuration at boot, and so after every run.
     ensures ticks { KeepsNumbers }
     ensures runs { RunsKeepNumbers }
     ensures boots { BootsComplete }
@@ -150,6 +174,8 @@ pub fn keeps_numbers()
 /// the one that is asked for are there: when the machine boots, after each tick, and so after every
 /// run.
 pub fn keeps_plans()
+    // At boot, after each tick, and so after every run, under a configuration that meets the rules: the plan clock is
+    // inside its frame, and its plan and the one that is asked for are there.
     ensures boots { BootsClocked }
     ensures ticks { KeepsClocked }
     ensures runs { RunsClocked }
@@ -158,6 +184,9 @@ pub fn keeps_plans()
 /// Under a configuration that meets the rules each channel holds what its shape allows: when the
 /// machine boots, after each tick, and so after every run; and a port is of the kind of its channel.
 pub fn keeps_shapes()
+    // At boot, and under a configuration that meets the rules after each tick, and so after every run: each channel
+    // holds a content of its kind, messages of 1 to its length of bytes, and in a queue no more than its most; and a
+    // port, made or not, is of the kind of its channel.
     ensures boots { BootsWithShapes }
     ensures ticks { KeepsShapes }
     ensures runs { RunsWithShapes }
@@ -167,6 +196,8 @@ pub fn keeps_shapes()
 /// Under a configuration that meets the rules a message that a tick puts is no longer than the longest that they allow; and what a
 /// partition is shown in a tick is no longer than an entry of a trace log.
 pub fn trades_few_bytes()
+    // Under a configuration that meets the rules a message that a tick puts has at most 4096 bytes; what a partition is
+    // shown in a tick has at most 24.
     ensures messages { PutsFewBytes }
     ensures sights { ShowsFewBytes }
 {}
@@ -175,6 +206,9 @@ pub fn trades_few_bytes()
 /// one waits, as each partition hears of it; and each observing call is answered, by as many bytes as it writes or, where it asks for
 /// an entry of a log, by that the entry is not kept.
 pub fn received_as_allowed()
+    // Under a configuration that meets the rules a channel that gets a message in a tick takes one more, and in one
+    // that gives a message one waits, as each partition hears of it; an observing call is answered by as many bytes as
+    // it writes, or, where it asks for an entry of a log, by that the entry is not kept.
     ensures traffic { HearsWhatIsAllowed }
     ensures answers { AnswersCalls }
 {}

@@ -1,4 +1,9 @@
 //! The whole machine as mathematics, and its laws.
+//! The running machine meets these definitions. The type of a cue is the policy of information flow: whether the slot
+//! is the partition's own, what others put into its channels or took from them, the number of a link over which one
+//! signalled it, an order on it, the hypervisor event, and what an observing call of a system partition is shown. It
+//! has nothing of another partition's memory, registers, lines or image. Of another's state and logs, and of the plan,
+//! it has what an observing call shows a system partition, and nothing else.
 #![tactic(auto)]
 
 mod calls;

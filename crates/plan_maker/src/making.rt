@@ -24,10 +24,18 @@ const MOST_SLOTS: u32 = 64;
 /// period ends first, of those that have not had their duration yet; of two whose periods end together, the one with the
 /// lower number. The frame is the least common multiple of the periods, in microseconds.
 pub fn make(alloc: Global, conf: &Conf) -> Result<Plan, PlanFault>
+    // The plan that the definition makes tick by tick (of the partitions that have not had their duration in their
+    // current window, the one whose window ends first runs), or the first of the refusals.
     ensures answer { GivesPlan result (planned (requirements conf.now)) }
+    // Each refusal has its cause: no requirement; a common period above 1000000 at this partition; a demand above the
+    // common period; more than 64 slots.
     ensures refused { IfErr result (IsPlanRefused (requirements conf.now)) }
+    // After an overload no plan that keeps the rules meets the requirements, whatever its frame.
     ensures hopeless { IfErr result (IsHopeless (requirements conf.now)) }
+    // The frame and the slots keep the rules of a plan.
     ensures rules { IfOk result KeepsRules }
+    // In each window of each requirement the partition has exactly its duration, and the frame is whole windows: so
+    // nothing but an overload makes the rule miss a requirement.
     ensures served { IfOk result (λ plan. All (IsRequirementServed plan) (requirements conf.now)) }
 {
     made(alloc, conf)

@@ -12,11 +12,15 @@ use xm_conf::{Need, Plan, Slot};
 
 /// Whether a plan gives a partition its duration in each window of its frame.
 pub fn met(plan: &Plan, need: Option<Need>, p: PartId) -> Met
+    // Called for a plan with a frame of at most 1000000, with slots inside it that follow one another, and with a
+    // requirement that keeps its rule.
     requires frame { IsTime plan.now.frame }
     requires short { plan.now.frame ≤ 1000000 }
     requires inside { All (InFrame plan.now.frame) plan.now.slots }
     requires in_turn { InTurn plan.now.slots }
     requires need { IfSome need IsNeed }
+    // Whether a plan meets a requirement: there is none, the frame is not whole windows, the first window with too
+    // little time, or each has enough.
     ensures { IsAnswer plan.now p need result }
 {
     match need {

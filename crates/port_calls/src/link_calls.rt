@@ -17,7 +17,10 @@ use xm_conf::{Conf, LINK_NUMBERS};
 
 /// Call 38, XM_raise_ipvi(a): a signal over the caller's link of number a.
 pub fn raise_ipvi(sys: &mut Sys, site: CallSite) -> Served
+    // Called for a caller that exists.
     requires { IsCaller site sys.old }
+    // Call 38, `XM_raise_ipvi`: interrupt 8 and the link's number is pending at the partition to which the caller's
+    // link of the number goes, unless that has halted.
     ensures { IsServed site.part Unseen (raise_ipvi (caller_of site sys.old)) result sys.old sys.new }
 {
     let number = argument(sys, site, A);

@@ -26,8 +26,16 @@ pub enum PortWork {
 
 /// A call on the made port of a kind that it names by a: 17, 18 and 19 on a sampling port, 21, 22 and 23 on a queuing port.
 pub fn call_port(sys: &mut Sys, site: CallSite, kind: Kind, work: PortWork) -> Served
+    // Called for a caller that exists and with channels of the configuration's shapes.
     requires caller { IsCaller site sys.old }
     requires shapes { sys.old.shapes ≡ shapes_of sys.old.machine.system.conf }
+    // Call 17, `XM_write_sampling_message`: the bytes are the channel's message, and interrupt 3 is pending at each
+    // partition that hears of it. Call 18, `XM_read_sampling_message`: the message is written, then whether it is
+    // valid; its length is the result. Call 19, `XM_get_sampling_port_status`: the time, the length and the validity of
+    // the message are written. Call 21, `XM_send_queuing_message`: the bytes are the last message of the queue, unless
+    // it is full, and interrupt 4 is pending where its destination is made and has not halted. Call 22,
+    // `XM_receive_queuing_message`: the first message is written and taken; where a test refuses, it stays. Call 23,
+    // `XM_get_queuing_port_status`: how many messages the queue holds, and how many it may, is written.
     ensures { IsServed site.part Unseen (call_on kind work (caller_of site sys.old)) result sys.old sys.new }
 {
     let Some(port) = made_port(sys, site, kind) else {

@@ -34,7 +34,10 @@ struct Wanted {
 /// of b bytes, the way c; or b messages of c bytes, the way d.
 #[tactic(auto, unfolding(machine_model::specs::PortCalls::create_sampling_port, machine_model::specs::PortCalls::create_queuing_port))]
 pub fn create_port(sys: &mut Sys, site: CallSite, kind: Kind) -> Served
+    // Called for a caller that exists.
     requires { IsCaller site sys.old }
+    // Call 16, `XM_create_sampling_port`: the port of that name, length and way is made, and its number is the result.
+    // Call 20, `XM_create_queuing_port`: so for a queue, which has the number of messages, too.
     ensures { IsServed site.part Unseen (creation_on kind (caller_of site sys.old)) result sys.old sys.new }
 {
     let b = argument(sys, site, B);

@@ -21,9 +21,12 @@ pub(crate) const MESSAGE_BYTES: usize = 4096;
 
 /// Writes a message to a sampling channel. The partitions that hear it are interrupted.
 pub fn put_sampling(sys: &mut Sys, chan: u8, bytes: &[u8])
+    // Called with channels of the configuration's shapes, for a sampling channel, and with a message of 1 to as many
+    // bytes as the channel says.
     requires shapes { sys.old.shapes ≡ shapes_of sys.old.machine.system.conf }
     requires channel { HasSampling chan (table_in sys.old) }
     requires bytes { FitsChannel bytes.now chan (table_in sys.old) }
+    // The channel has the message, and the interrupt is pending at each partition that hears of it.
     ensures { sys.new ≡ with_machine (with_traffic (Puts chan bytes.now) sys.old.machine) sys.old }
 {
     let now = sys.now();
@@ -33,11 +36,16 @@ pub fn put_sampling(sys: &mut Sys, chan: u8, bytes: &[u8])
 
 /// Puts a message at the end of a queue, or answers `Full`. The partitions that hear it are interrupted.
 pub fn send(sys: &mut Sys, chan: u8, bytes: &[u8]) -> Result<(), Full>
+    // Called with channels of the configuration's shapes, for a queue, and with a message of 1 to as many bytes as the
+    // channel says.
     requires shapes { sys.old.shapes ≡ shapes_of sys.old.machine.system.conf }
     requires channel { HasQueue chan (table_in sys.old) }
     requires bytes { FitsChannel bytes.now chan (table_in sys.old) }
+    // `Full` exactly where the queue is.
     ensures full { IsErr result ↔ IsFull chan (table_in sys.old) }
+    // The queue has the message, and the interrupt is pending at each partition that hears of it.
     ensures sent { OnOk result (sys.new ≡ with_machine (with_traffic (Puts chan bytes.now) sys.old.machine) sys.old) }
+    // After `Full` nothing changed.
     ensures unchanged { OnErr result (sys.new ≡ sys.old) }
 {
     match sys.channels_mut().send(chan, bytes) {
@@ -51,6 +59,7 @@ pub fn send(sys: &mut Sys, chan: u8, bytes: &[u8]) -> Result<(), Full>
 
 /// Takes the first message from a queue.
 pub fn drop_first(sys: &mut Sys, chan: u8)
+    // Called for a queue in which a message of at most 4096 bytes waits.
     requires channel { HasQueue chan (table_in sys.old) }
     requires first { IsSomeAnd (first_message (content_at chan (table_in sys.old))) (λ first. length first ≤ 4096) }
     ensures { sys.new ≡ with_machine (with_traffic (Takes chan) sys.old.machine) sys.old }
@@ -61,8 +70,10 @@ pub fn drop_first(sys: &mut Sys, chan: u8)
 
 /// Signals over a link of a number to a partition: the link's interrupt is pending there, unless the partition has halted.
 pub fn signal(sys: &mut Sys, dest: PartId, number: u8)
+    // Called for a partition that exists and with the number of a link.
     requires there { dest < length sys.old.machine.parts }
     requires number { number < 8 }
+    // The interrupt of a link's number is pending at the partition to which it goes.
     ensures { sys.new ≡ with_machine (with_part dest (hearing (view_of sys.old.machine.system dest) (OwnSignals number) (part_at dest sys.old.machine)) sys.old.machine) sys.old }
 {
     raise_at(sys, dest, LINK_SIGNAL + number);

@@ -55,6 +55,8 @@ impl PredecodedRam {
     /// The memories of a configuration's partitions, all of zeros, with partition 0 selected. All memory is taken
     /// here: no other call needs any.
     pub fn new(alloc: Global, conf: &Conf) -> Result<PredecodedRam, Memory>
+        // As `Ram::new` of `guest_memory`: the memories of the configuration's partitions, all zeros, partition 0
+        // selected.
         ensures value { IfOk result (λ kept. kept ≡ record { areas = map memory_areas conf.now.parts; maps = map zeros_in (map memory_areas conf.now.parts); selected = 0 }) }
     {
         let ram = Ram::new(alloc, conf)?;
@@ -83,7 +85,9 @@ impl PredecodedRam {
 
     /// Selects the partition whose memory a processor sees.
     pub fn select(&mut self, p: PartId)
+        // Called for a partition that exists.
         requires { p < length self.old.areas }
+        // As `Ram::select`: another partition is selected, and nothing else changes.
         ensures value { self.new ≡ with_selected p self.old }
     {
         self.ram.select(p);
@@ -93,7 +97,9 @@ impl PredecodedRam {
 
     /// The partition whose memory a processor sees.
     pub fn selected(&self) -> PartId
+        // As `Ram::selected`: which partition is selected.
         ensures value { result ≡ self.now.selected }
+        // Each memory has a byte at exactly the addresses of its areas.
         ensures memories { AreMemories self.now }
     {
         self.ram.selected()
@@ -101,7 +107,10 @@ impl PredecodedRam {
 
     /// Copies bytes of a partition's memory from an address on, where all of them may be read.
     pub fn copy_in(&self, p: PartId, address: u32, into: &mut [u8]) -> Result<(), Outside>
+        // Called for a partition that exists.
         requires { p < length self.now.areas }
+        // As `Ram::copy_in`: a range is read, or refused with its first address that is not allowed, and then nothing
+        // changed.
         ensures answer { result ≡ answer_by (first_refused (is_readable (areas_at p self.now)) address (length into.old)) }
         ensures read { OnOk result (into.new ≡ bytes_at (map_at p self.now) address (length into.old)) }
         ensures unchanged { OnErr result (into.new ≡ into.old) }
@@ -111,10 +120,14 @@ impl PredecodedRam {
 
     /// Writes bytes to a partition's memory from an address on, where all of them may be written.
     pub fn copy_out(&mut self, p: PartId, address: u32, from: &[u8]) -> Result<(), Outside>
+        // Called for a partition that exists.
         requires { p < length self.old.areas }
+        // As `Ram::copy_out`: a range is written, or refused with its first address that is not allowed, and then
+        // nothing changed.
         ensures answer { result ≡ answer_by (first_refused (is_writable (areas_at p self.old)) address (length from.now)) }
         ensures written { OnOk result (self.new ≡ with_map p (with_bytes (map_at p self.old) address from.now) self.old) }
         ensures unchanged { OnErr result (self.new ≡ self.old) }
+        // No other partition's memory changes.
         ensures others { SameElsewhere p self.old self.new }
     {
         let part = self.parts[usize::from(p)];
@@ -129,7 +142,9 @@ impl PredecodedRam {
 
     /// Whether this many bytes of a partition's memory from an address on may be read.
     pub fn may_read(&self, p: PartId, address: u32, size: u32) -> bool
+        // Called for a partition that exists.
         requires { p < length self.now.areas }
+        // As `Ram::may_read`: whether all of a range may be read.
         ensures value { result ≡ all_from (is_readable (areas_at p self.now)) address size }
     {
         self.ram.may_read(p, address, size)
@@ -137,7 +152,9 @@ impl PredecodedRam {
 
     /// Whether this many bytes of a partition's memory from an address on may be written.
     pub fn may_write(&self, p: PartId, address: u32, size: u32) -> bool
+        // Called for a partition that exists.
         requires { p < length self.now.areas }
+        // As `Ram::may_write`: whether all of a range may be written.
         ensures value { result ≡ all_from (is_writable (areas_at p self.now)) address size }
     {
         self.ram.may_write(p, address, size)
@@ -145,9 +162,12 @@ impl PredecodedRam {
 
     /// Loads an image into a partition's memory, and makes all other bytes of it zero.
     pub fn reload(&mut self, p: PartId, image: &Xef)
+        // Called for a partition that exists and with an image each of whose segments lies inside one of its areas.
         requires partition { p < length self.old.areas }
         requires inside { LiesInAreas (areas_at p self.old) image.now }
+        // As `Ram::reload`: the image is loaded, with zeros in all other places.
         ensures value { self.new ≡ with_map p (areas_with_image (areas_at p self.old) image.now) self.old }
+        // No other partition's memory changes.
         ensures others { SameElsewhere p self.old self.new }
     {
         let base = self.parts[usize::from(p)].words.begin;

@@ -1,4 +1,6 @@
 //! What a partition receives in a run is a script that can be read back.
+//! Mathematics over `machine_model`, of any machine after a run, under a configuration that meets the rules and with
+//! its numbers in their ranges (`range_model`).
 #![tactic(auto)]
 
 mod law;

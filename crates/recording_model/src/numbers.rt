@@ -10,6 +10,7 @@ use xm_base::Order;
 
 /// For the proof: what a kept cue has of bytes are bytes, and the status of a reset is a word.
 pub fn has_numbers(cue: &ScriptCue)
+    // Of a cue that a program keeps, a message and what is shown are bytes, and the status of a reset is a word.
     ensures numbers { HasNumbers (script_cue_value cue.now) }
 {
     has_message_bytes(&cue.traffic);

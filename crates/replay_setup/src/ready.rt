@@ -41,7 +41,12 @@ pub fn make_ready(
     script: &[u8],
     input: &[u8],
 ) -> Result<Replay, Unready>
+    // Called with fewer than 2^34 bytes of input words.
     requires { length input.now < 2 ^ 34 }
+    // The partition, with its input words, and a script that it can take to its end: it stands as it boots, or, where
+    // the answer says that the script's cues print nothing, as they left it; or the first of these: the text of the
+    // container's fault, that it does not have the partition, the text of the script's fault, the number of bytes of
+    // the input words where it is no multiple of 4, the text of the first cue that cannot be taken.
     ensures { Readies result (replay_of container.now p script.now input.now) }
 {
     match unpack(alloc, container) {

@@ -35,14 +35,22 @@ use xm_report::Line;
 /// One tick of partition `p` in isolation, and a note with the bytes that it wrote to its console. Where it cannot take
 /// its cue there is none, and another tick or a part of one was done.
 pub fn tick_alone(sys: &mut Sys, lines: &mut Lines, p: PartId, cue: &Cue<'_>) -> Option<Note>
+    // Called for the system of a machine, for a partition that exists, where the hypervisor has not halted, below the
+    // limit of ticks, with a stimulus that a script may have, and with no lines.
     requires machine { IsMachine sys.old }
     requires partition { p < length sys.old.machine.parts }
     requires running { sys.old.machine.halted ≡ false }
     requires more { sys.old.machine.ticks < 4000000000 }
     requires cue { IsCue sys.old.machine.system.conf p (cue_value cue.now) }
     requires empty { lines.old ≡ [] }
+    // The tick was done exactly where the partition can take its cue: its part of the machine is then that of the tick
+    // alone, the hypervisor has halted exactly where the cue says so, and the lines of the tick alone are these lines,
+    // at most 24, after one of bytes for a console, which the note names and which still stand in the partition's
+    // memory.
     ensures tick { IsLoneTick result p (cue_value cue.now) sys.old.machine sys.new.machine lines.new }
+    // Whether the tick was done or not, what holds of the system of every machine holds.
     ensures machine { IsMachine sys.new }
+    // What runs and how many partitions there are is the same.
     ensures system { IsOfSystem sys.old.machine sys.new.machine }
 {
     match cue.mine {

@@ -1,4 +1,6 @@
 //! A tick of one partition of a whole system in isolation: it does its own work, and receives what the others did.
+//! What becomes of the other partitions is left open but for this: what runs and how many they are is the same, and
+//! what holds of the system of every machine holds afterwards.
 #![tactic(auto)]
 
 mod alone;

@@ -48,16 +48,23 @@ pub struct LoneSpan {
 /// At most this many ticks of partition `p` in isolation, in each of which it receives nothing but whether a slot of its own runs,
 /// up to the first in which more is done than instructions that go.
 pub fn span_alone(sys: &mut Sys, lines: &mut Lines, p: PartId, own: bool, most: u64) -> LoneSpan
+    // Called for the system of a machine, for a partition that exists, where the hypervisor has not halted, for at
+    // least one tick, within the limit of ticks, and with no lines.
     requires machine { IsMachine sys.old }
     requires partition { p < length sys.old.machine.parts }
     requires running { sys.old.machine.halted ≡ false }
     requires some { 0 < most }
     requires more { sys.old.machine.ticks + most ≤ 4000000000 }
     requires empty { lines.old ≡ [] }
+    // Many ticks, one at least and so many at most, in each of which the partition receives nothing but whether a slot
+    // of its own runs: all but the last could be taken, printed and wrote nothing, and left what the partition alone
+    // makes of as many cues; the last is as that of `tick_alone`.
     ensures some { 0 < result.ticks }
     ensures within { result.ticks ≤ most }
     ensures span { IsLoneSpan result.emitted result.ticks p own sys.old.machine sys.new.machine lines.new }
+    // Whether the ticks were done or not, what holds of the system of every machine holds.
     ensures machine { IsMachine sys.new }
+    // What runs and how many partitions there are is the same.
     ensures system { IsOfSystem sys.old.machine sys.new.machine }
 {
     let most = most.min(frame_left(sys));

@@ -10,5 +10,7 @@ use Rattle.run_commands.specs.Boards.{Plays}
 -- sink, and left what it left of the board
 pub record HasAccount (ending : Ending) (command : Option Command) (before after : Outside) (board left : BoardView) : Type 0 where
   pub contents : List (List ℕ)
+  -- what was done to the store and to the report's sink is what the ending says of these contents
   pub works : Works ending contents command before after
+  -- what the board of UARTs holds, by the ending and by the same contents
   pub plays : Plays ending contents command before.got after.got board left

@@ -40,6 +40,8 @@ pub(crate) fn write_later<'a, S: Store>(
 
 /// How a run ends whose whole report went out, by whether the files after it were written.
 pub fn ended<'a>(saved: Result<(), Ending<'a>>, board: &Board) -> Ending<'a>
+    // A run whose files after its report were all written ends well where no place is marked, else with the lowest
+    // place that is; where one was not, by that.
     ensures { (outputs : List Output) (before after : Outside) → AreSaved saved.entry outputs before after → EndsAfter (ending_of result) outputs (⟦<Board as ViewBoard>⟧.board_view board.now) before after }
 {
     match saved {

@@ -1,4 +1,5 @@
 //! The commands that run a system: its report goes out, and core files and scripts of its partitions are written after it.
+//! The clauses are about a store, a report's sink and a board of UARTs that may be any that keep their traits.
 #![tactic(auto)]
 
 mod cores;

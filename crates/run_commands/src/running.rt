@@ -38,7 +38,10 @@ pub fn run_file<'a, S: Store, O: Sink>(
     out: &mut O,
     board: &mut Board,
 ) -> Ending<'a>
+    // Called for at most the limit of ticks.
     requires { ticks ≤ TICKS }
+    // The run of a raw image results in what is defined of the contents, or the call ends where it could not; what the
+    // board of UARTs holds is by the same ending and contents.
     ensures accounted { HasAccount (ending_of result) (Some (Bare image.now ticks))
         (outside (S.files files.old) (S.read_faults files.old) (S.write_faults files.old) (S.calls files.old) (O.got out.old) (O.faults out.old))
         (outside (S.files files.new) (S.read_faults files.new) (S.write_faults files.new) (S.calls files.new) (O.got out.new) (O.faults out.new))

@@ -39,11 +39,15 @@ pub fn run_container<'a, S: Store, O: Sink>(
     out: &mut O,
     board: &mut Board,
 ) -> Ending<'a>
+    // Called for at most the limit of ticks or of major frames.
     requires { count_of (span_in (seen_options options)) ≤ TICKS }
+    // A container is run with the files that its options name: it results in what is defined of the contents, or the
+    // call ends where it could not; what the board of UARTs holds is by the same ending and contents.
     ensures accounted { HasAccount (ending_of result) (Some (Run container.now (seen_options options.entry)))
         (outside (S.files files.old) (S.read_faults files.old) (S.write_faults files.old) (S.calls files.old) (O.got out.old) (O.faults out.old))
         (outside (S.files files.new) (S.read_faults files.new) (S.write_faults files.new) (S.calls files.new) (O.got out.new) (O.faults out.new))
         (⟦<Board as ViewBoard>⟧.board_view board.old) (⟦<Board as ViewBoard>⟧.board_view board.new) }
+    // A run that made its scripts: what its partitions received is bytes and words, where it has numbers of them.
     ensures numbers { HasScripts (ending_of result) → ReceivesOf container.now (seen_options options.entry) (S.files files.old) }
 {
     match read_files(alloc, container, options.inputs(), files) {

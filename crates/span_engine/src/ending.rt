@@ -193,6 +193,7 @@ fn put_reset(lines: &mut Lines, n: u64, count: u8, mode: Mode)
 
 /// Resets all partitions and the hypervisor, and empties all channels.
 pub fn reset_all(sys: &mut Sys, mode: Mode)
+    // A reset of all partitions with the hypervisor, whose channels then hold nothing; it adds no line.
     ensures { sys.new ≡ with_machine (evented (AllReset mode) sys.old.machine) sys.old }
 {
     reset_parts(sys, mode);

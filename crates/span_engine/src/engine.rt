@@ -59,6 +59,7 @@ impl Model for Engine {
 impl Engine {
     /// Nothing, as before the first tick.
     pub fn new(alloc: Global) -> Result<Engine, Memory>
+        // Nothing is kept before the first tick.
         ensures { IfOk result (λ kept. kept ≡ no_kept) }
     {
         Ok(Engine {
@@ -72,7 +73,10 @@ impl Engine {
     /// The place of a system in its plan. The slot of the last tick and the one after it are looked at first.
     #[inline(always)]
     pub fn place_of(&self, sys: &Sys) -> Place
+        // Called for the system of a machine.
         requires { IsMachine sys.now }
+        // Where a machine stands in its plan: whose slot it is, or that it is a gap, and exactly how many ticks are
+        // left of it.
         ensures { IsPlace result sys.now.machine }
     {
         place_of(sys, self.slot_number())
@@ -90,12 +94,19 @@ impl Engine {
     /// The bytes that its note names still stand in its partition's memory.
     #[inline(always)]
     pub fn run(&mut self, sys: &mut Sys, lines: &mut Lines, most: u64) -> Span
+        // Called for the system of a machine, where the hypervisor has not halted, for at least one tick, within the
+        // limit of ticks, and with no lines.
         requires machine { IsMachine sys.old }
         requires running { sys.old.machine.halted ≡ false }
         requires some { 0 < most }
         requires ticks { sys.old.machine.ticks + most ≤ TICKS }
         requires empty { lines.old ≡ [] }
+        // Ticks, so many at most, over the ends of slots and gaps, up to the first with output, or that reaches beyond
+        // its partition: the system is that of as many defined ticks; none but the last has lines, and these are its
+        // lines but for one of bytes for a console, which its note names and which still stand in its partition's
+        // memory; the span says whether the act of the last ends a stretch.
         ensures done { IsSpanDone result most sys.old sys.new lines.new }
+        // What happened in the last tick is kept, with the bytes of its message or of what was shown.
         ensures kept { self.new ≡ kept_tick (run sys.old.machine (result.ticks - 1)) }
     {
         proof! {
@@ -114,7 +125,9 @@ impl Engine {
     /// What partition `p` received in the last tick.
     #[tactic(auto, unfolding(tick_steps::specs::Kept::kept_cue))]
     pub fn cue(&self, conf: &Conf, p: PartId) -> Cue<'_>
+        // Called for a partition that exists.
         requires { p < length conf.now.parts }
+        // What a partition was told in that tick.
         ensures { cue_value result ≡ kept_cue conf.now self.now p }
     {
         let bytes = &self.bytes[..self.size];

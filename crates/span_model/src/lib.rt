@@ -1,4 +1,5 @@
 //! Runs of the machine slot by slot, as mathematics: what ticks of one slot leave of any machine.
+//! Mathematics over `machine_model`, of any machine.
 #![tactic(auto)]
 
 mod law;

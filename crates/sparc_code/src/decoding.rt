@@ -24,6 +24,7 @@ use crate::instruction::{Arith, Instr, MemOp, Src};
 
 /// The instruction of a word. Bits that its format leaves unused are ignored.
 pub fn decode(word: u32) -> Instr
+    // The word spells the instruction, whose fields are in their ranges.
     ensures spelled { Spells word result }
     ensures in_range { InRange result }
 {

@@ -10,7 +10,9 @@ use crate::instruction::{Arith, Instr, MemOp, Src};
 
 /// The word of an instruction, with 0 in the bits that its format leaves unused.
 pub fn encode(instr: &Instr) -> u32
+    // Called with fields in their ranges.
     requires { InRange instr.now }
+    // The word spells the instruction, and is the least that does.
     ensures spelled { Spells result instr.now }
     ensures least { (word : ℕ) → Spells word instr.now → result ≤ word }
 {

@@ -22,6 +22,7 @@ ghost use Rattle.sparc_code.specs.Fields.{
 /// The format.
 #[tactic(auto, unfolding(crate::specs::Fields::op))]
 pub fn op(word: u32) -> u32
+    // The field of the word that has the format, below its bound.
     ensures value { result ≡ op word }
     ensures below { result < 4 }
 {
@@ -31,6 +32,7 @@ pub fn op(word: u32) -> u32
 /// The selector of format 2.
 #[tactic(auto, unfolding(crate::specs::Fields::op2))]
 pub fn op2(word: u32) -> u32
+    // The selector of format 2, below its bound.
     ensures value { result ≡ op2 word }
     ensures below { result < 8 }
 {
@@ -40,6 +42,7 @@ pub fn op2(word: u32) -> u32
 /// The selector of format 3.
 #[tactic(auto, unfolding(crate::specs::Fields::op3))]
 pub fn op3(word: u32) -> u32
+    // The selector of format 3, below its bound.
     ensures value { result ≡ op3 word }
     ensures below { result < 64 }
 {
@@ -49,6 +52,7 @@ pub fn op3(word: u32) -> u32
 /// The register of the result.
 #[tactic(auto, unfolding(crate::specs::Fields::rd))]
 pub fn rd(word: u32) -> u8
+    // The field of the result's register, below its bound.
     ensures value { result ≡ rd word }
     ensures below { result < 32 }
 {
@@ -58,6 +62,7 @@ pub fn rd(word: u32) -> u8
 /// The register of the first operand.
 #[tactic(auto, unfolding(crate::specs::Fields::rs1))]
 pub fn rs1(word: u32) -> u8
+    // The field of the first operand's register, below its bound.
     ensures value { result ≡ rs1 word }
     ensures below { result < 32 }
 {
@@ -67,6 +72,7 @@ pub fn rs1(word: u32) -> u8
 /// The register of operand 2.
 #[tactic(auto, unfolding(crate::specs::Fields::rs2))]
 pub fn rs2(word: u32) -> u8
+    // The field of the second operand's register, below its bound.
     ensures value { result ≡ rs2 word }
     ensures below { result < 32 }
 {
@@ -76,6 +82,7 @@ pub fn rs2(word: u32) -> u8
 /// 1 where operand 2 stands in the word, else 0.
 #[tactic(auto, unfolding(crate::specs::Fields::i))]
 pub fn i(word: u32) -> u32
+    // The bit that says whether operand 2 stands in the word.
     ensures value { result ≡ i word }
     ensures below { result < 2 }
 {
@@ -125,6 +132,7 @@ pub fn disp22(word: u32) -> i32
 /// The upper bits that SETHI sets.
 #[tactic(auto, unfolding(crate::specs::Fields::imm22))]
 pub fn imm22(word: u32) -> u32
+    // The field of the upper bits that SETHI sets, below its bound.
     ensures value { result ≡ imm22 word }
     ensures below { result < 2 ^ 22 }
 {
@@ -134,6 +142,7 @@ pub fn imm22(word: u32) -> u32
 /// The condition of a branch or a trap.
 #[tactic(auto, unfolding(crate::specs::Fields::cond))]
 pub fn cond(word: u32) -> u8
+    // The field of the condition of a branch or a trap, below its bound.
     ensures value { result ≡ cond word }
     ensures below { result < 16 }
 {
@@ -143,6 +152,7 @@ pub fn cond(word: u32) -> u8
 /// The annul bit of a branch.
 #[tactic(auto, unfolding(crate::specs::Fields::annul))]
 pub fn annul(word: u32) -> u32
+    // A field of a word, below its bound.
     ensures { result ≡ annul word }
 {
     (word >> 29) & 1

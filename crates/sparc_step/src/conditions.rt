@@ -41,7 +41,9 @@ fn codes_of(value: u32, overflow: bool, carry: bool) -> u8
 /// The condition codes of a result, with an overflow and without a carry.
 #[tactic(auto, unfolding(crate::specs::Conditions::codes_of_result))]
 pub fn codes_of_result(value: u32, overflow: bool) -> u8
+    // The condition codes of a result, with an overflow and without a carry, as defined.
     ensures value { result ≡ codes_of_result value overflow }
+    // They are four bits.
     ensures four { result < 16 }
 {
     codes_of(value, overflow, false)
@@ -50,7 +52,9 @@ pub fn codes_of_result(value: u32, overflow: bool) -> u8
 /// The condition codes of a sum.
 #[tactic(auto, unfolding(crate::specs::Conditions::codes_of_sum))]
 pub fn codes_of_sum(a: u32, b: u32, carry: bool) -> u8
+    // The condition codes of a sum, as defined.
     ensures value { result ≡ codes_of_sum a b carry }
+    // They are four bits.
     ensures four { result < 16 }
 {
     let overflow = sum_overflows(a, b, carry);
@@ -61,7 +65,9 @@ pub fn codes_of_sum(a: u32, b: u32, carry: bool) -> u8
 #[inline(always)]
 #[tactic(auto, unfolding(crate::specs::Conditions::codes_of_sum, crate::specs::Conditions::codes_of_tagged_sum))]
 pub fn codes_of_addition(a: u32, b: u32) -> u8
+    // The condition codes of a sum without a carry, as defined.
     ensures value { result ≡ codes_of_sum a b false }
+    // They are four bits.
     ensures four { result < 16 }
 {
     codes_of_tagged_sum(a, b, addition_overflows(a, b))
@@ -92,7 +98,9 @@ pub(crate) fn codes_of_difference(a: u32, b: u32, borrow: bool) -> u8
 #[inline(always)]
 #[tactic(auto, unfolding(crate::specs::Conditions::codes_of_difference, crate::specs::Conditions::codes_of_tagged_difference))]
 pub fn codes_of_comparison(a: u32, b: u32) -> u8
+    // The condition codes of a difference without a borrow, as defined.
     ensures value { result ≡ codes_of_difference a b false }
+    // They are four bits.
     ensures four { result < 16 }
 {
     codes_of_tagged_difference(a, b, comparison_overflows(a, b))
@@ -118,6 +126,7 @@ const HELD: [u16; 16] = [
 /// A condition holds of the codes.
 #[inline(always)]
 pub fn holds(condition: u8, icc: u8) -> bool
+    // Called with a condition below 16 and with condition codes of four bits.
     requires condition { condition < 16 }
     requires icc { icc < 16 }
     ensures { result ≡ holds condition icc }

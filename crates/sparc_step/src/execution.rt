@@ -21,9 +21,13 @@ use sparc_code::fields::{op, op2, op3, rd, rs1};
 /// Executes the instruction at `pc`.
 #[inline(never)]
 pub fn turn<B: Bus>(core: &mut Core, bus: &mut B) -> Turn
+    // What an instruction came to, and the registers and the memory that it leaves.
     ensures turned { turned (B.areas bus.old) core.old (B.memory bus.old) ≡ record { turn = result; core = core.new; memory = B.memory bus.new } }
+    // After a trap the registers and the memory are as before.
     ensures trapped { IsUndone result core.old core.new (B.memory bus.old) (B.memory bus.new) }
+    // After a call the program resumes after it.
     ensures called { result ≡ Turn.Call → core.new ≡ advanced core.old }
+    // Areas and the memories of others are as before.
     ensures areas { B.areas bus.new ≡ B.areas bus.old }
     ensures others { B.others bus.new ≡ B.others bus.old }
 {
@@ -38,11 +42,15 @@ impl Processor {
     #[inline(always)]
     #[tactic(auto, unfolding(crate::specs::Execution::turned))]
     pub fn turn<B: Bus>(&mut self, bus: &mut B) -> Turn
+        // What an instruction came to, and the registers and the memory that it leaves.
         ensures turn { result ≡ (turned (B.areas bus.old) self.old (B.memory bus.old)).turn }
         ensures core { self.new ≡ (turned (B.areas bus.old) self.old (B.memory bus.old)).core }
         ensures memory { B.memory bus.new ≡ (turned (B.areas bus.old) self.old (B.memory bus.old)).memory }
+        // After a trap the registers and the memory are as before.
         ensures trapped { IsUndone result self.old self.new (B.memory bus.old) (B.memory bus.new) }
+        // After a call the program resumes after it.
         ensures called { result ≡ Turn.Call → self.new ≡ advanced self.old }
+        // Areas and the memories of others are as before.
         ensures areas { B.areas bus.new ≡ B.areas bus.old }
         ensures others { B.others bus.new ≡ B.others bus.old }
     {

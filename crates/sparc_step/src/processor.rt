@@ -57,6 +57,7 @@ impl Processor {
     /// Takes registers to hand.
     #[tactic(auto, unfolding(crate::specs::Cached::gathered))]
     pub fn of(core: &Core) -> Processor
+        // The registers, those of the current window cached.
         ensures { result ≡ core.now }
     {
         let mut cached = [0; 32];
@@ -77,6 +78,7 @@ impl Processor {
     /// The registers as they are now.
     #[tactic(auto, unfolding(crate::specs::Cached::gathered))]
     pub fn core(&self) -> Core
+        // The registers, none of them cached.
         ensures { result ≡ self.now }
     {
         let mut globals = [0; 8];
@@ -98,7 +100,9 @@ impl Processor {
     /// The program counter.
     #[tactic(auto, unfolding(crate::specs::Cached::gathered))]
     pub fn pc(&self) -> u32
+        // The program counter.
         ensures value { result ≡ self.now.pc }
+        // It is a multiple of 4.
         ensures aligned { result % 4 ≡ 0 }
     {
         // The two low bits are 0, and the compiler needs to know.
@@ -108,7 +112,9 @@ impl Processor {
     /// Where the program goes on after the instruction at `pc`.
     #[tactic(auto, unfolding(crate::specs::Cached::gathered))]
     pub fn npc(&self) -> u32
+        // The next program counter.
         ensures value { result ≡ self.now.npc }
+        // It is a multiple of 4.
         ensures aligned { result % 4 ≡ 0 }
     {
         self.npc
@@ -117,6 +123,7 @@ impl Processor {
     /// Puts the program counters.
     #[tactic(auto, unfolding(crate::specs::Registers::placed, crate::specs::Cached::gathered))]
     pub fn place(&mut self, pc: u32, npc: u32)
+        // Called with an aligned program counter and with an aligned next program counter.
         requires pc { pc % 4 ≡ 0 }
         requires npc { npc % 4 ≡ 0 }
         ensures { self.new ≡ placed pc npc self.old }
@@ -128,6 +135,7 @@ impl Processor {
     /// The Y register.
     #[tactic(auto, unfolding(crate::specs::Cached::gathered))]
     pub fn y(&self) -> u32
+        // The Y register.
         ensures { result ≡ self.now.y }
     {
         self.y
@@ -136,7 +144,9 @@ impl Processor {
     /// The condition codes.
     #[tactic(auto, unfolding(crate::specs::Cached::gathered))]
     pub fn icc(&self) -> u8
+        // The condition codes.
         ensures value { result ≡ self.now.icc }
+        // They are four bits.
         ensures four { result < 16 }
     {
         self.icc
@@ -145,7 +155,9 @@ impl Processor {
     /// The current window.
     #[tactic(auto, unfolding(crate::specs::Cached::gathered))]
     pub fn cwp(&self) -> u8
+        // The number of the current window.
         ensures value { result ≡ self.now.cwp }
+        // It is below 8.
         ensures below { result < 8 }
     {
         self.cwp
@@ -154,7 +166,9 @@ impl Processor {
     /// The window that a program may not enter.
     #[tactic(auto, unfolding(crate::specs::Cached::gathered))]
     pub fn inv(&self) -> u8
+        // The number of the invalid window.
         ensures value { result ≡ self.now.inv }
+        // It is below 8.
         ensures below { result < 8 }
     {
         self.inv
@@ -163,6 +177,7 @@ impl Processor {
     /// Makes another window that which a program may not enter.
     #[tactic(auto, unfolding(crate::specs::Registers::with_inv, crate::specs::Cached::gathered))]
     pub fn set_inv(&mut self, window: u8)
+        // Called for a window below 8 that is not the current one.
         requires window { window < 8 }
         requires other { window ≢ self.old.cwp }
         ensures { self.new ≡ with_inv self.old window }
@@ -173,6 +188,7 @@ impl Processor {
     /// The stack pointer of a window, which is neither the current one nor the one above it.
     #[inline(always)]
     pub fn stack_of(&self, window: u8) -> u32
+        // Called for a window below 8 that is not the current one and that is not the one above it.
         requires window { window < 8 }
         requires other { window ≢ self.now.cwp }
         requires above { window ≢ (self.now.cwp + 1) % 8 }
@@ -184,10 +200,13 @@ impl Processor {
     /// The locals of a window, and after them its ins. The window is neither the current one nor the one below it.
     #[inline(always)]
     pub fn saved(&self, window: u8) -> [u32; 16]
+        // Called for a window below 8 that is not the current one and that is not the one below it.
         requires window { window < 8 }
         requires other { window ≢ self.now.cwp }
         requires below { (window + 1) % 8 ≢ self.now.cwp }
+        // The locals and ins of a window of which nothing is cached.
         ensures saved { result ≡ locals_and_ins self.now.windows window }
+        // The eight windows have 128 registers.
         ensures whole { length self.now.windows ≡ 128 }
     {
         let mut words = [0; 16];
@@ -200,8 +219,11 @@ impl Processor {
     /// The value of a register of the current window.
     #[tactic(auto, using(crate::specs::lemmas::CachedLemmas::register_at_gathered))]
     pub fn get(&self, r: u8) -> u32
+        // Called for a register below 32.
         requires { r < 32 }
+        // The value of a register of the current window.
         ensures value { result ≡ register_at self.now r }
+        // Register 0 is zero.
         ensures zero { r ≡ 0 → result ≡ 0 }
     {
         self.cached[usize::from(r)]
@@ -210,6 +232,7 @@ impl Processor {
     /// Sets a register of the current window.
     #[tactic(auto, using(crate::specs::lemmas::CachedLemmas::with_register_gathered))]
     pub fn set(&mut self, r: u8, value: u32)
+        // Called for a register below 32.
         requires { r < 32 }
         ensures { self.new ≡ with_register self.old r value }
     {
@@ -220,6 +243,7 @@ impl Processor {
     #[inline(always)]
     #[tactic(auto, using(crate::specs::lemmas::CachedLemmas::with_register_gathered))]
     pub fn set_held(&mut self, r: u8, value: u32)
+        // Called for a register below 32 that is not register 0.
         requires r { r < 32 }
         requires held { 0 < r }
         ensures { self.new ≡ with_register self.old r value }
@@ -269,6 +293,7 @@ impl Processor {
     #[inline(never)]
     #[tactic(auto, unfolding(crate::specs::Registers::in_window, crate::specs::Cached::gathered))]
     pub fn enter(&mut self, window: u8)
+        // Called for a window below 8 that is not the invalid one.
         requires window { window < 8 }
         requires valid { window ≢ self.old.inv }
         ensures { self.new ≡ in_window self.old window }
@@ -282,6 +307,7 @@ impl Processor {
     #[inline(always)]
     #[tactic(auto, unfolding(crate::specs::Registers::in_window, crate::specs::Cached::gathered))]
     pub fn enter_below(&mut self)
+        // Called where the window below is not the invalid one.
         requires valid { (self.old.cwp + 7) % 8 ≢ self.old.inv }
         ensures { self.new ≡ in_window self.old ((self.old.cwp + 7) % 8) }
     {
@@ -295,9 +321,13 @@ impl Processor {
     #[inline(always)]
     #[tactic(auto, unfolding(crate::specs::Registers::in_window, crate::specs::Registers::with_inv, crate::specs::Registers::with_saved, crate::specs::Registers::window_filled, crate::specs::Cached::gathered))]
     pub fn enter_filled(&mut self, words: &[u32; 16])
+        // Called where the window above is the invalid one.
         requires needed { (self.old.cwp + 1) % 8 ≡ self.old.inv }
+        // The invalid window is filled with these registers and entered.
         ensures entered { self.new ≡ in_window (window_filled self.old words.now) self.old.inv }
+        // The registers of the current window are not changed by what is filled in.
         ensures apart { (r : ℕ) → r < 32 → register_at (window_filled self.old words.now) r ≡ register_at self.old r }
+        // The eight windows have 128 registers.
         ensures whole { length self.old.windows ≡ 128 }
     {
         let above = self.inv;
@@ -317,6 +347,7 @@ impl Processor {
     /// Sets the condition codes.
     #[tactic(auto, unfolding(crate::specs::Registers::with_icc, crate::specs::Cached::gathered))]
     pub fn set_icc(&mut self, icc: u8)
+        // Called with condition codes of four bits.
         requires { icc < 16 }
         ensures { self.new ≡ with_icc self.old icc }
     {

@@ -42,8 +42,11 @@ impl Core {
     /// The registers of a program that begins at the entry.
     #[tactic(auto, unfolding(crate::specs::Registers::registers_started))]
     pub fn start(entry: u32) -> Core
+        // Called with an entry that is a multiple of 4.
         requires { entry % 4 ≡ 0 }
+        // The registers at an entry that is a multiple of 4.
         ensures started { result ≡ registers_started entry }
+        // Register 0 is zero, pc and npc are multiples of 4, the codes are below 16, the windows below 8 and apart.
         ensures registers { AreRegisters result }
     {
         Core {
@@ -61,8 +64,11 @@ impl Core {
     /// The value of a register of the current window.
     #[tactic(auto, unfolding(crate::specs::Registers::register_at))]
     pub fn get(&self, r: u8) -> u32
+        // Called for a register below 32.
         requires { r < 32 }
+        // The value of a register of the current window.
         ensures value { result ≡ register_at self.now r }
+        // Register 0 is zero, pc and npc are multiples of 4, the codes are below 16, the windows below 8 and apart.
         ensures registers { AreRegisters self.now }
     {
         if r < 8 {
@@ -75,8 +81,11 @@ impl Core {
     /// Sets a register of the current window.
     #[tactic(auto, unfolding(crate::specs::Registers::with_register))]
     pub fn set(&mut self, r: u8, value: u32)
+        // Called for a register below 32.
         requires { r < 32 }
+        // The register is set, and no other; register 0 stays zero.
         ensures value { self.new ≡ with_register self.old r value }
+        // Register 0 is zero, pc and npc are multiples of 4, the codes are below 16, the windows below 8 and apart.
         ensures registers { AreRegisters self.new }
     {
         if r >= 8 {
@@ -89,9 +98,11 @@ impl Core {
 
 /// Where a register of a window stands.
 pub fn place_in_windows(window: u8, r: u8) -> usize
+    // Called for a window below 8, for a register from 8 on, and for a register below 32.
     requires window { window < 8 }
     requires low { 8 ≤ r }
     requires high { r < 32 }
+    // Where a register stands in the eight windows.
     ensures place { result ≡ place_in_windows window r }
     ensures inside { result < 128 }
 {

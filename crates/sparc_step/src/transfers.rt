@@ -19,7 +19,9 @@ impl Processor {
     /// The double word in a pair of registers.
     #[tactic(auto, unfolding(crate::specs::Transfers::pair_at))]
     pub fn pair(&self, rd: u8) -> u64
+        // Called for a register below 31.
         requires { rd + 1 < 32 }
+        // The double word in a pair of registers.
         ensures { result ≡ pair_at self.now rd }
     {
         (u64::from(self.get(rd)) << 32) + u64::from(self.get(rd + 1))
@@ -28,7 +30,9 @@ impl Processor {
     /// Sets a pair of registers to a double word, its high half in the first.
     #[tactic(auto, unfolding(crate::specs::Transfers::with_pair))]
     pub fn set_pair(&mut self, rd: u8, value: u64)
+        // Called for a register below 31.
         requires { rd + 1 < 32 }
+        // The pair of registers has the double word, and nothing else changes.
         ensures { self.new ≡ with_pair rd value self.old }
     {
         self.set(rd, (value >> 32) as u32);

@@ -140,6 +140,7 @@ pub fn signed_product(a: u32, b: u32) -> u64
 /// The quotient of a double word, as far as a word holds it.
 #[tactic(auto, unfolding(crate::specs::Words::quotient))]
 pub fn quotient(dividend: u64, divisor: u32) -> u32
+    // Called with a divisor above zero.
     requires { 0 < divisor }
     ensures { result ≡ quotient dividend divisor }
 {
@@ -166,6 +167,7 @@ fn exact_quotient(dividend: u64, divisor: u32) -> Option<i64>
 /// The quotient of a signed double word, as far as a signed word holds it.
 #[tactic(auto, unfolding(crate::specs::Words::signed_quotient))]
 pub fn signed_quotient(dividend: u64, divisor: u32) -> u32
+    // Called with a divisor above zero.
     requires { 0 < divisor }
     ensures { result ≡ signed_quotient dividend divisor }
 {
@@ -204,6 +206,7 @@ pub(crate) fn is_tagged(a: u32, b: u32) -> bool
 
 #[tactic(auto, unfolding(crate::specs::Words::shifted_left))]
 pub fn shifted_left(a: u32, count: u32) -> u32
+    // The word shifted left by the low five bits of the count.
     ensures { result ≡ shifted_left a count }
 {
     a.wrapping_shl(count)
@@ -211,6 +214,7 @@ pub fn shifted_left(a: u32, count: u32) -> u32
 
 #[tactic(auto, unfolding(crate::specs::Words::shifted_right))]
 pub fn shifted_right(a: u32, count: u32) -> u32
+    // The word shifted right by the low five bits of the count, with zeros from the left.
     ensures { result ≡ shifted_right a count }
 {
     a.wrapping_shr(count)
@@ -218,6 +222,7 @@ pub fn shifted_right(a: u32, count: u32) -> u32
 
 #[tactic(auto, unfolding(crate::specs::Words::shifted_arithmetically))]
 pub fn shifted_arithmetically(a: u32, count: u32) -> u32
+    // The word shifted right by the low five bits of the count, with its sign from the left.
     ensures { result ≡ shifted_arithmetically a count }
 {
     a.cast_signed().wrapping_shr(count).cast_unsigned()

@@ -58,8 +58,10 @@ pub const NOT_ALLOWED: u32 = 0xffff_fff8;
 /// A call's number, which is argument 0, or an argument.
 #[tactic(auto, unfolding(crate::specs::Serving::caller_of))]
 pub fn argument(sys: &Sys, site: CallSite, k: u8) -> u32
+    // Called for a caller that exists and for an argument up to 5.
     requires caller { IsCaller site sys.now }
     requires register { k < 6 }
+    // The argument of the call that has this number.
     ensures value { result ≡ register_at (caller_of site sys.now).state.core (8 + k) }
 {
     sys.part(site.part).core.get(OUT_0 + k)
@@ -75,6 +77,7 @@ pub fn refused_if(is: bool, code: u32) -> Option<u32>
 /// Whether the caller has the system flag.
 #[tactic(auto, unfolding(crate::specs::Serving::caller_of, machine_model::specs::View::view_of, machine_model::specs::View::part_of))]
 pub fn is_system(sys: &Sys, site: CallSite) -> bool
+    // Called for a caller that exists.
     requires { IsCaller site sys.now }
     ensures { result ≡ (caller_of site sys.now).view.part.system }
 {
@@ -84,6 +87,7 @@ pub fn is_system(sys: &Sys, site: CallSite) -> bool
 
 /// Only a system partition may call.
 pub fn system_only(sys: &Sys, site: CallSite) -> Option<u32>
+    // Called for a caller that exists.
     requires { IsCaller site sys.now }
     ensures { result ≡ system_only (caller_of site sys.now) }
 {
@@ -93,9 +97,13 @@ pub fn system_only(sys: &Sys, site: CallSite) -> Option<u32>
 /// A partition that may be named is the caller; for a system partition it is any that there is.
 #[tactic(auto, unfolding(crate::specs::Serving::caller_of, machine_model::specs::View::view_of))]
 pub fn target(sys: &Sys, site: CallSite, id: u32) -> Option<u32>
+    // Called for a caller that exists.
     requires { IsCaller site sys.now }
+    // The refusal that the definition gives for this partition number, or none.
     ensures value { result ≡ target (caller_of site sys.now) id }
+    // Where there is none, the partition exists.
     ensures there { IfNone result (id < length sys.now.machine.parts) }
+    // Where there is none, the number is below the limit.
     ensures few { IfNone result (id < most_parts) }
 {
     let count = u32::from(sys.count());
@@ -111,6 +119,7 @@ pub fn target(sys: &Sys, site: CallSite, id: u32) -> Option<u32>
 /// All of this many bytes from an address on may be written.
 #[tactic(auto, unfolding(crate::specs::Serving::caller_of))]
 pub fn room(sys: &Sys, site: CallSite, address: u32, size: u32) -> Option<u32>
+    // Called for a caller that exists.
     requires { IsCaller site sys.now }
     ensures { result ≡ room (caller_of site sys.now) address size }
 {
@@ -120,6 +129,7 @@ pub fn room(sys: &Sys, site: CallSite, address: u32, size: u32) -> Option<u32>
 /// All of this many bytes from an address on may be read.
 #[tactic(auto, unfolding(crate::specs::Serving::caller_of))]
 pub fn text(sys: &Sys, site: CallSite, address: u32, size: u32) -> Option<u32>
+    // Called for a caller that exists.
     requires { IsCaller site sys.now }
     ensures { result ≡ text (caller_of site sys.now) address size }
 {
@@ -129,6 +139,7 @@ pub fn text(sys: &Sys, site: CallSite, address: u32, size: u32) -> Option<u32>
 /// Reads bytes of the caller's memory, all of which it may read.
 #[tactic(auto, unfolding(crate::specs::Serving::caller_of))]
 pub fn read(sys: &Sys, site: CallSite, address: u32, into: &mut [u8])
+    // Called for a caller that exists and with a range that the caller may read.
     requires caller { IsCaller site sys.now }
     requires readable { MayRead (caller_of site sys.now) address (length into.old) }
     ensures { into.new ≡ caller_bytes (caller_of site sys.now) address (length into.old) }
@@ -144,6 +155,7 @@ pub fn read(sys: &Sys, site: CallSite, address: u32, into: &mut [u8])
 /// Writes bytes to the caller's memory, all of which it may write.
 #[tactic(auto, unfolding(crate::specs::Serving::caller_of))]
 pub fn write(sys: &mut Sys, site: CallSite, address: u32, bytes: &[u8])
+    // Called for a caller that exists and with a range that the caller may write.
     requires caller { IsCaller site sys.old }
     requires room { is_room (caller_of site sys.old) address (length bytes.now) ≡ true }
     ensures { sys.new ≡ with_machine (with_part site.part (with_written address bytes.now (caller_of site sys.old).state) sys.old.machine) sys.old }
@@ -157,6 +169,7 @@ pub fn write(sys: &mut Sys, site: CallSite, address: u32, bytes: &[u8])
 /// A call that answers with a result and does nothing else.
 #[tactic(auto, unfolding(crate::specs::Serving::caller_of, machine_model::specs::Caller::with_answer))]
 pub fn answer(sys: &mut Sys, site: CallSite, value: u32) -> Served
+    // Called for a caller that exists.
     requires { IsCaller site sys.old }
     ensures { IsServed site.part Unseen (answering value (caller_of site sys.old).state) result sys.old sys.new }
 {
@@ -176,6 +189,7 @@ pub fn answer_written(
     bytes: &[u8],
     value: u32,
 ) -> Served
+    // Called for a caller that exists and with a range that the caller may write.
     requires caller { IsCaller site sys.old }
     requires room { is_room (caller_of site sys.old) address (length bytes.now) ≡ true }
     ensures { IsServed site.part Unseen (answering value (with_written address bytes.now (caller_of site sys.old).state)) result sys.old sys.new }

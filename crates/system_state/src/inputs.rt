@@ -35,6 +35,7 @@ impl Model for Inputs {
 impl Inputs {
     /// No word for any of this many partitions.
     pub fn new(alloc: Global, parts: u8) -> Result<Inputs, Memory>
+        // No input word for any partition.
         ensures value { IfOk result (λ inputs. inputs ≡ replicate parts []) }
     {
         let mut words = Vec::with_capacity(alloc, usize::from(parts))?;
@@ -46,8 +47,11 @@ impl Inputs {
 
     /// Gives a partition these input words, the highest byte of each first, instead of those that it had.
     pub fn set(&mut self, p: PartId, bytes: &[u8]) -> Result<(), InputFault>
+        // Called for a partition that exists and with fewer than 2^34 bytes.
         requires partition { p < length self.old }
         requires few { length bytes.now < 2 ^ 34 }
+        // The input words of a partition are those that the bytes spell; `Length` with the number of bytes exactly
+        // where that is no multiple of 4, and where it is one out of memory alone; then nothing changed.
         ensures set { OnOk result (self.new ≡ slice_set self.old p (words_in bytes.now)) }
         ensures length { (result ≡ Err (InputFault.Length (length bytes.now))) ↔ (length bytes.now % 4 ≢ 0) }
         ensures cause { IfErr result (HasInputCause (length bytes.now)) }

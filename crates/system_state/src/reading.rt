@@ -9,8 +9,10 @@ use xm_base::PartId;
 
 /// Reads bytes of a partition's memory from an address on, all of which the partition may read.
 pub fn read_memory(sys: &Sys, p: PartId, address: u32, into: &mut [u8])
+    // Called for a partition that exists and with a range that it may read.
     requires partition { p < length sys.now.machine.parts }
     requires readable { all_from (is_readable (areas_in p sys.now.machine)) address (length into.old) ≡ true }
+    // Bytes of a partition's memory that it may read.
     ensures { into.new ≡ bytes_at (memory_of p sys.now.machine) address (length into.old) }
 {
     let count = sys.count();

@@ -53,8 +53,11 @@ impl Structure {
 
     /// Writes bytes as they are.
     pub fn text(&mut self, bytes: &[u8])
+        // Called where the structure has room for the bytes.
         requires { length self.old + length bytes.now ≤ 28 }
+        // The bytes stand after what was written before.
         ensures value { self.new ≡ self.old ++ bytes.now }
+        // The structure has grown by their number.
         ensures size { length self.new ≡ length self.old + length bytes.now }
     {
         self.bytes.try_extend_from_slice(bytes).unwrap();
@@ -62,8 +65,11 @@ impl Structure {
 
     /// Writes a byte.
     pub fn byte(&mut self, byte: u8)
+        // Called where the structure has room for a byte.
         requires { length self.old + 1 ≤ 28 }
+        // The byte stands after what was written before.
         ensures value { self.new ≡ self.old ++ byte ∷ [] }
+        // The structure has grown by 1.
         ensures size { length self.new ≡ length self.old + 1 }
     {
         self.text(&[byte]);
@@ -71,8 +77,11 @@ impl Structure {
 
     /// Writes a half word.
     pub fn half(&mut self, half: u16)
+        // Called where the structure has room for two bytes.
         requires { length self.old + 2 ≤ 28 }
+        // The big endian bytes of the half word stand after what was written before.
         ensures value { self.new ≡ self.old ++ to_be_bytes w16 half }
+        // The structure has grown by 2.
         ensures size { length self.new ≡ length self.old + 2 }
     {
         self.text(&half.to_be_bytes());
@@ -80,8 +89,11 @@ impl Structure {
 
     /// Writes a word.
     pub fn word(&mut self, number: u32)
+        // Called where the structure has room for four bytes.
         requires { length self.old + 4 ≤ 28 }
+        // The big endian bytes of the word stand after what was written before.
         ensures value { self.new ≡ self.old ++ word number }
+        // The structure has grown by 4.
         ensures size { length self.new ≡ length self.old + 4 }
     {
         self.text(&number.to_be_bytes());
@@ -89,8 +101,11 @@ impl Structure {
 
     /// Writes a double word.
     pub fn double(&mut self, number: u64)
+        // Called where the structure has room for eight bytes.
         requires { length self.old + 8 ≤ 28 }
+        // The big endian bytes of the double word stand after what was written before.
         ensures value { self.new ≡ self.old ++ double number }
+        // The structure has grown by 8.
         ensures size { length self.new ≡ length self.old + 8 }
     {
         self.text(&number.to_be_bytes());
@@ -122,7 +137,9 @@ fn or_none(number: Option<u8>) -> u32
 /// The status of a partition, 20 bytes.
 #[tactic(auto, unfolding(machine_model::specs::Structures::partition_status))]
 pub fn partition_status(own: &PartState) -> Structure
+    // The bytes of a partition's status, as the structure is defined.
     ensures value { (memory : Memory) (words : List ℕ) → result ≡ partition_status (with_memory own.now memory words) }
+    // They are 20.
     ensures size { length result ≡ 20 }
 {
     let mut status = Structure::new();
@@ -136,7 +153,9 @@ pub fn partition_status(own: &PartState) -> Structure
 /// The status of the system, 8 bytes.
 #[tactic(auto, unfolding(machine_model::specs::Structures::system_status))]
 pub fn system_status(resets: u32, parts: u8) -> Structure
+    // The bytes of the system's status, as the structure is defined.
     ensures value { result ≡ system_status resets parts }
+    // They are 8.
     ensures size { length result ≡ 8 }
 {
     let mut status = Structure::new();
@@ -158,7 +177,9 @@ fn slot_number(here: Option<Here>) -> Option<u8>
 /// The status of the plan, 20 bytes.
 #[tactic(auto, unfolding(machine_model::specs::Structures::plan_status))]
 pub fn plan_status(clock: &PlanClock, here: Option<Here>) -> Structure
+    // The bytes of the plan's status, as the structure is defined.
     ensures value { result ≡ plan_status clock.now here }
+    // They are 20.
     ensures size { length result ≡ 20 }
 {
     let mut status = Structure::new();
@@ -195,8 +216,11 @@ fn status_of_sample(refresh: u32, now: u64, sample: &Sample<'_>) -> Structure
 
 /// The status of a sampling port, 16 bytes; where there is no message, all are zero.
 pub fn sampling_status(refresh: u32, now: u64, sample: Option<Sample<'_>>) -> Structure
+    // Called with a message of at most 4096 bytes.
     requires { IfSome sample (λ held. length held.bytes ≤ 4096) }
+    // The bytes of a sampling port's status, as the structure is defined.
     ensures value { result ≡ sample_status (kind.Sampling refresh) now sample.entry }
+    // They are 16.
     ensures size { length result ≡ 16 }
 {
     match sample {
@@ -213,7 +237,9 @@ pub fn sampling_status(refresh: u32, now: u64, sample: Option<Sample<'_>>) -> St
 
 /// The status of a queuing port, 8 bytes: how many messages wait, and how many may.
 pub fn queuing_status(count: u32, most: u8) -> Structure
+    // The bytes of a queuing port's status: how many messages wait, and how many may.
     ensures value { result ≡ word count ++ word most }
+    // They are 8.
     ensures size { length result ≡ 8 }
 {
     let mut status = Structure::new();
@@ -225,7 +251,9 @@ pub fn queuing_status(count: u32, most: u8) -> Structure
 /// A trace entry, 24 bytes.
 #[tactic(auto, unfolding(machine_model::specs::Structures::trace_bytes))]
 pub fn trace_bytes(entry: &TraceEntry) -> Structure
+    // The bytes of a trace entry, as the structure is defined.
     ensures value { result ≡ trace_bytes entry.now }
+    // They are 24.
     ensures size { length result ≡ 24 }
 {
     let mut bytes = Structure::new();
@@ -239,7 +267,9 @@ pub fn trace_bytes(entry: &TraceEntry) -> Structure
 /// A health entry, 20 bytes.
 #[tactic(auto, unfolding(machine_model::specs::Structures::health_bytes))]
 pub fn health_bytes(entry: &HealthEntry) -> Structure
+    // The bytes of a health entry, as the structure is defined.
     ensures value { result ≡ health_bytes entry.now }
+    // They are 20.
     ensures size { length result ≡ 20 }
 {
     let mut bytes = Structure::new();
@@ -255,7 +285,9 @@ pub fn health_bytes(entry: &HealthEntry) -> Structure
 /// The counts of entries, 8 bytes: the first number that is kept, and the next number.
 #[tactic(auto, unfolding(machine_model::specs::Structures::counts_bytes))]
 pub fn counts_bytes<T: Copy>(entries: &Ring<T>) -> Structure
+    // The bytes of the counts of a log, as the structure is defined.
     ensures value { result ≡ counts_bytes entries.now }
+    // They are 8.
     ensures size { length result ≡ 8 }
 {
     let counts = entries.counts();

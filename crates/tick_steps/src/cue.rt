@@ -48,6 +48,7 @@ pub struct Cue<'a> {
 
 /// What was done to the whole system. Nobody receives the maintenance plan.
 pub fn whole_of(reach: Beyond) -> WholeEvent
+    // The hypervisor event of an act, where it has one.
     ensures { event_value result ≡ event_of (act_beyond reach) }
 {
     match reach {

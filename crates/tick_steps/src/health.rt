@@ -36,9 +36,11 @@ pub fn handle_event(
     word: u32,
     trap: Option<u8>,
 ) -> Whole
+    // Called for a partition that exists, with room for the numbers of more health entries, and with at most 20 lines.
     requires partition { p < length sys.old.machine.parts }
     requires log { (part_at p sys.old.machine).health.next < 4294967294 }
     requires room { length lines.old ≤ 20 }
+    // A health event as it is answered, with its lines and how it reaches beyond its partition.
     ensures done { IsPartDone p (event_handled (view_of sys.old.machine.system p) sys.old.machine.time event word trap (part_at p sys.old.machine)).after (event_handled (view_of sys.old.machine.system p) sys.old.machine.time event word trap (part_at p sys.old.machine)).emitted sys.old sys.new lines.old lines.new }
     ensures act { (event_handled (view_of sys.old.machine.system p) sys.old.machine.time event word trap (part_at p sys.old.machine)).act ≡ done_to_all result }
     ensures few { length lines.new ≤ length lines.old + 3 }
@@ -233,8 +235,11 @@ fn give_up(sys: &mut Sys, lines: &mut Lines, p: PartId)
 
 /// The program counter of a partition.
 pub fn program_counter(sys: &Sys, p: PartId) -> u32
+    // Called for a partition that exists.
     requires { p < length sys.now.machine.parts }
+    // The partition's program counter.
     ensures value { result ≡ (part_at p sys.now.machine).core.pc }
+    // It is a multiple of 4.
     ensures aligned { result % 4 ≡ 0 }
 {
     sys.part(p).core.pc()

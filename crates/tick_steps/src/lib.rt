@@ -1,4 +1,5 @@
 //! What a tick consists of beside the call of a partition: turns, traps, health events, orders, rest, lines.
+//! What holds of the system of every machine is `IsMachine`.
 #![tactic(auto)]
 
 mod beyond;

@@ -34,6 +34,7 @@ impl Model for Lines {
 impl Lines {
     /// No line, and room for all of a tick.
     pub fn new(alloc: Global) -> Result<Lines, Memory>
+        // No lines, and room for all of a tick.
         ensures { IfOk result (λ lines. lines ≡ []) }
     {
         Ok(Lines {
@@ -43,6 +44,7 @@ impl Lines {
 
     /// Forgets all lines.
     pub fn clear(&mut self)
+        // There are no lines again.
         ensures { self.new ≡ [] }
     {
         self.lines.clear();
@@ -50,10 +52,14 @@ impl Lines {
 
     /// One line more.
     pub fn push(&mut self, line: Line<'static>)
+        // Called with fewer than 40 lines and with a line that is no longer than a line may be and that is not one of
+        // console bytes.
         requires room { length self.old < 40 }
         requires short { IsShort (line_value line) }
         requires other { IsOtherLine (line_value line) }
+        // A line is added after the others.
         ensures value { self.new ≡ self.old ++ line_value line.entry ∷ [] }
+        // There is one line more.
         ensures count { length self.new ≡ length self.old + 1 }
     {
         self.lines.push_reserved(line);
@@ -61,8 +67,11 @@ impl Lines {
 
     /// The lines.
     pub fn as_slice(&self) -> &[Line<'static>]
+        // The lines as they stand.
         ensures value { map line_value result.now ≡ self.now }
+        // None is longer than a line may be.
         ensures short { All IsShort (map line_value result.now) }
+        // None is of console bytes.
         ensures other { All IsOtherLine self.now }
     {
         self.lines.as_slice()

@@ -21,9 +21,12 @@ use xm_report::{Line, Move};
 /// A partition obeys an order. One that does not apply changes nothing and reports nothing.
 #[tactic(auto, unfolding(machine_model::specs::Partition::ordered, machine_model::specs::Partition::ordered_emissions))]
 pub fn obey(sys: &mut Sys, lines: &mut Lines, p: PartId, order: Order)
+    // Called for a partition that exists and with fewer than 40 lines.
     requires partition { p < length sys.old.machine.parts }
     requires room { length lines.old < 40 }
+    // The partition obeys the order, with its line.
     ensures done { IsPartDone p (ordered (view_of sys.old.machine.system p) order (part_at p sys.old.machine)) (ordered_emissions order (part_at p sys.old.machine)) sys.old sys.new lines.old lines.new }
+    // It is one line at most.
     ensures few { length lines.new ≤ length lines.old + 1 }
 {
     if applies(order, sys.part(p).state) {
@@ -62,6 +65,7 @@ fn put_moved(lines: &mut Lines, n: u64, p: PartId, order: Order)
 
 /// The change of state that a reset emits.
 pub fn reset_move(mode: Mode) -> Move
+    // How a reset is reported: cold or warm.
     ensures { result ≡ reset_move mode }
 {
     match mode {
@@ -98,7 +102,9 @@ fn halt(sys: &mut Sys, p: PartId)
 /// Resets a partition: it begins at its image's entry, with no trap, timer or port. A cold reset loads its memory again. Its traces, its
 /// health log and the input words that it has used stay.
 pub fn reset(sys: &mut Sys, p: PartId, mode: Mode, status: u32)
+    // Called for a partition that exists.
     requires { p < length sys.old.machine.parts }
+    // A reset of a partition, which adds no line.
     ensures { sys.new ≡ with_machine (with_part p (reset (view_of sys.old.machine.system p) mode status (part_at p sys.old.machine)) sys.old.machine) sys.old }
 {
     reload(sys, p, mode);

@@ -16,6 +16,7 @@ use xm_base::{PartId, State};
 /// as they are.
 #[inline(always)]
 pub fn rest(sys: &mut Sys, working: Option<PartId>, time: u64)
+    // All partitions, or all but one, rest in this tick.
     ensures { sys.new ≡ with_machine (rest_but working time sys.old.machine) sys.old }
 {
     if engine::is_known_untimed(sys) {
@@ -61,7 +62,9 @@ fn is_working(working: Option<PartId>, p: PartId) -> bool
 
 /// A partition rests: only its hardware timer is looked at, where it is armed.
 pub fn rest_one(sys: &mut Sys, p: PartId, time: u64)
+    // Called for a partition that exists.
     requires { p < length sys.old.machine.parts }
+    // The partition rests in this tick, and nothing else changes.
     ensures { sys.new ≡ with_machine (with_part p (rested time (part_at p sys.old.machine)) sys.old.machine) sys.old }
 {
     match hardware_timer(sys, p) {

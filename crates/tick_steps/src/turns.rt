@@ -11,7 +11,9 @@ use xm_base::{PartId, State};
 
 /// Whether a partition takes its turn in its slots: it is not suspended, and has not halted.
 pub fn takes_turns(sys: &Sys, p: PartId) -> bool
+    // Called for a partition that exists.
     requires partition { p < length sys.now.machine.parts }
+    // Whether the partition takes its turn, as it is defined.
     ensures { result ≡ takes_turns (part_at p sys.now.machine).state }
 {
     match sys.part(p).state {
@@ -22,8 +24,10 @@ pub fn takes_turns(sys: &Sys, p: PartId) -> bool
 
 /// Whether the partition goes on: an idle one is woken by the start of its slot or an interrupt that is due.
 pub fn goes_on(sys: &Sys, p: PartId, first: bool) -> bool
+    // Called for a partition that exists and that takes its turn.
     requires partition { p < length sys.now.machine.parts }
     requires turns { takes_turns (part_at p sys.now.machine).state ≡ true }
+    // Whether the partition goes on in its tick, as it is defined.
     ensures { result ≡ goes_on (part_at p sys.now.machine).state first (due (part_at p sys.now.machine).traps) }
 {
     sys.part(p).state == State::Ready || is_woken(sys, p, first)
@@ -40,8 +44,11 @@ fn is_woken(sys: &Sys, p: PartId, first: bool) -> bool
 
 /// The interrupt that is delivered to the partition, where one is due and traps are enabled.
 pub fn interrupt(sys: &Sys, p: PartId) -> Option<u8>
+    // Called for a partition that exists.
     requires partition { p < length sys.now.machine.parts }
+    // The lowest interrupt that is due, where traps are enabled.
     ensures value { result ≡ (if (part_at p sys.now.machine).traps.enabled then due (part_at p sys.now.machine).traps else None) }
+    // It is below 32.
     ensures below { IfSome result (λ n. n < 32) }
 {
     let virt = &sys.part(p).virt;

@@ -23,6 +23,7 @@ pub struct Board {
 impl Board {
     /// A board without UARTs and without marks.
     pub fn new() -> Board
+        // A new board has no UART and no mark.
         ensures value { result ≡ empty_board }
     {
         Board {
@@ -33,8 +34,11 @@ impl Board {
 
     /// Puts the UART at the place, and hands back the one that stood there. A mark stays.
     pub fn set(&mut self, place: u8, uart: Box<dyn Uart>) -> Option<Box<dyn Uart>>
+        // Called with a place below 8.
         requires { place < 8 }
+        // The UART that stood there is handed back.
         ensures handed { result ≡ uart_at place self.old }
+        // The UART is put at its place, and nothing else of the board changes.
         ensures board { self.new ≡ with_uart place (Some uart) self.old }
     {
         self.places[usize::from(place)].replace(uart)
@@ -42,8 +46,11 @@ impl Board {
 
     /// Empties the place, and hands back the UART that stood there. A mark stays.
     pub fn take(&mut self, place: u8) -> Option<Box<dyn Uart>>
+        // Called with a place below 8.
         requires { place < 8 }
+        // The UART that stood there is handed back.
         ensures handed { result ≡ uart_at place self.old }
+        // The place is empty, and nothing else of the board changes.
         ensures board { self.new ≡ with_uart place None self.old }
     {
         self.places[usize::from(place)].take()
@@ -51,6 +58,7 @@ impl Board {
 
     /// Forgets all marks.
     pub fn begin(&mut self)
+        // The marks are forgotten, and nothing else.
         ensures board { self.new ≡ unmarked self.old }
         ensures view { ⟦<Board as ViewBoard>⟧.board_view self.new ≡ without_marks (⟦<Board as ViewBoard>⟧.board_view self.old) }
     {
@@ -60,12 +68,23 @@ impl Board {
     /// Says the bytes to the UART at the place, by one write. Where the write fails, the UART is taken out and
     /// dropped, and the place is marked with the number of failed writes that the UART then counts. A write of no bytes may fail, too.
     pub fn say(&mut self, place: u8, bytes: &[u8])
+        // Called with a place below 8.
         requires { place < 8 }
+        // What is written to an empty place changes nothing.
         ensures empty { uart_at place self.old ≡ None → self.new ≡ self.old }
+        // The UART took all of the bytes and stands in its place, and nothing else has changed; or its write failed
+        // after a prefix of them, its place is empty and has as its mark what it counts after that write, and nothing
+        // else has changed.
         ensures said { IfSome (uart_at place self.old) (λ uart.
             IsTaken ⟦<Box<dyn Uart> as ViewUart>⟧.uart_view place bytes.now uart self.old self.new
             ⊎ LosesUart ⟦<Box<dyn Uart> as ViewUart>⟧.uart_view place bytes.now uart self.old self.new) }
+        // The same by what a board holds: the UART of one place got the bytes, or the place is empty and its mark is
+        // above what its UART had counted; every other place is as before. A write of no bytes may fail, too, and then
+        // its UART is lost.
         ensures write { IsOneWrite place bytes.now (⟦<Board as ViewBoard>⟧.board_view self.old) (⟦<Board as ViewBoard>⟧.board_view self.new) }
+        // A write of at least one byte, as bytes to each place: each UART got those of its place, or it failed and at
+        // least one byte was written to it. What is written in turn adds up, so a UART to which nothing is written is
+        // never lost.
         ensures heard { 0 < length bytes.now → IsHeard (said_to place bytes.now) (⟦<Board as ViewBoard>⟧.board_view self.old) (⟦<Board as ViewBoard>⟧.board_view self.new) }
     {
         let Some(uart) = self.take(place) else {
@@ -79,6 +98,7 @@ impl Board {
 
     /// The lowest place that was marked since `begin`.
     pub fn failed(&self) -> Option<u8>
+        // The lowest place that is marked, and None exactly where none is.
         ensures marked { IfSome result (λ place. IsSome (mark_at place self.now.marks)) }
         ensures lowest { IfSome result (λ place. (lower : ℕ) → lower < place → IsNone (mark_at lower self.now.marks)) }
         ensures none { IsNone result ↔ ((place : ℕ) → IsNone (mark_at place self.now.marks)) }

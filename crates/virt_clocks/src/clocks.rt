@@ -41,6 +41,7 @@ impl Clocks {
 
     /// How many ticks the partition ran.
     pub fn exec(&self) -> u64
+        // The execution clock.
         ensures value { result ≡ self.now.execution }
     {
         self.execution
@@ -48,6 +49,7 @@ impl Clocks {
 
     /// The timer on a clock, or `None` where it is not armed.
     pub fn timer(&self, clock: Clock) -> Option<Timer>
+        // The timer of a clock.
         ensures value { result ≡ timer_of clock self.now }
     {
         match clock {
@@ -60,6 +62,8 @@ impl Clocks {
     ///
     /// The deadline is a reading of that clock, in microseconds. With an interval of 0 the timer is due once.
     pub fn set_timer(&mut self, clock: Clock, deadline: i64, interval: i64) -> Result<(), Negative>
+        // Refused exactly where the deadline or the interval is negative, and then nothing changed; else the timer is
+        // set, or disarmed by the deadline 0.
         ensures negative { IsErr result ↔ ((deadline <ℤ pos 0) ⊎ (interval <ℤ pos 0)) }
         ensures set { OnOk result (self.new ≡ with_timer clock (armed (unsigned_abs deadline) (unsigned_abs interval)) self.old) }
         ensures unchanged { OnErr result (self.new ≡ self.old) }
@@ -77,7 +81,9 @@ impl Clocks {
 
     /// Counts a tick in which the partition ran.
     pub fn pass(&mut self)
+        // Called below 2^63 ticks.
         requires { self.old.execution < 2 ^ 63 }
+        // A tick that the partition ran is counted.
         ensures value { self.new ≡ record self.old { execution = self.old.execution + 1 } }
     {
         self.execution += 1;
@@ -85,8 +91,11 @@ impl Clocks {
 
     /// Counts ticks in which the partition ran. More can be counted after them.
     pub fn pass_many(&mut self, ticks: u64)
+        // Called for ticks that leave fewer than 2^63.
         requires { self.old.execution + ticks < 2 ^ 63 }
+        // The ticks that the partition ran are counted.
         ensures value { self.new ≡ record self.old { execution = self.old.execution + ticks } }
+        // More can be counted after them.
         ensures passes { self.new.execution < 2 ^ 63 }
     {
         self.execution += ticks;
@@ -94,6 +103,7 @@ impl Clocks {
 
     /// Disarms both timers.
     pub fn disarm(&mut self)
+        // Both timers are disarmed.
         ensures value { self.new ≡ record self.old { hardware_timer = None; execution_timer = None } }
     {
         self.hardware_timer = None;
@@ -103,7 +113,9 @@ impl Clocks {
     /// Whether the timer on the hardware clock is due. If so, it is moved on or disarmed.
     #[tactic(auto, using(crate::proofs::LookLemmas::stays_undue))]
     pub fn hw_due(&mut self, now: u64) -> bool
+        // The timer is due where it is armed and the clock is at its deadline or past it.
         ensures value { result ≡ is_due now self.old.hardware_timer }
+        // A timer that is due is moved on to its least deadline past the clock, or disarmed.
         ensures timer { self.new ≡ record self.old { hardware_timer = looked_at now self.old.hardware_timer } }
     {
         if !is_due(now, self.hardware_timer) {
@@ -116,7 +128,9 @@ impl Clocks {
     /// Whether the timer on the execution clock is due. If so, it is moved on or disarmed.
     #[tactic(auto, using(crate::proofs::LookLemmas::stays_undue))]
     pub fn exec_due(&mut self) -> bool
+        // The timer is due where it is armed and the clock is at its deadline or past it.
         ensures value { result ≡ is_due self.old.execution self.old.execution_timer }
+        // A timer that is due is moved on to its least deadline past the clock, or disarmed.
         ensures timer { self.new ≡ record self.old { execution_timer = looked_at self.old.execution self.old.execution_timer } }
     {
         if !is_due(self.execution, self.execution_timer) {
@@ -129,6 +143,7 @@ impl Clocks {
     /// How many ticks are left until a timer is due if nothing changes, 0 where one is due at once, or `None` where no
     /// timer is armed. The timer on the execution clock counts only where the partition runs.
     pub fn next_due(&self, now: u64, running: bool) -> Option<u64>
+        // How many ticks are left until a timer is due; none where none is armed and counted; it is the least number.
         ensures value { result ≡ next_due now running self.now }
         ensures none { IsNone result ↔ NoneCounted running self.now }
         ensures least { IfSome result (IsFirstDue now running self.now) }

@@ -53,13 +53,17 @@ const TRAPS_ENABLED: u32 = 1 << 5;
 /// below, with traps disabled. What is pending stays so.
 #[tactic(auto, unfolding(crate::specs::Delivery::delivered))]
 pub fn deliver<B: Bus>(v: &mut Virt, core: &mut Core, bus: &mut B, tt: u8) -> Result<(), StackFault>
+    // A virtual trap is delivered: the window below, its locals, the entry in the table; what is pending stays.
     ensures answer { result ≡ (delivered (B.areas bus.old) v.old core.old (B.memory bus.old) tt).answer }
     ensures traps { v.new ≡ (delivered (B.areas bus.old) v.old core.old (B.memory bus.old) tt).traps }
     ensures core { core.new ≡ (delivered (B.areas bus.old) v.old core.old (B.memory bus.old) tt).core }
     ensures memory { B.memory bus.new ≡ (delivered (B.areas bus.old) v.old core.old (B.memory bus.old) tt).memory }
+    // It is refused exactly where the window below has to be spilled and cannot be, and nothing changed then.
     ensures fault { IsErr result ↔ (((core.old.cwp + 7) % 8 ≡ core.old.inv) × IsFalse (is_usable (is_writable (B.areas bus.old)) (spill_address core.old))) }
     ensures unchanged { OnErr result ((v.new ≡ v.old) × (core.new ≡ core.old) × (B.memory bus.new ≡ B.memory bus.old)) }
+    // What is pending stays.
     ensures pending { v.new.pending ≡ v.old.pending }
+    // Areas and the memories of others are as before.
     ensures areas { B.areas bus.new ≡ B.areas bus.old }
     ensures others { B.others bus.new ≡ B.others bus.old }
 {
@@ -74,14 +78,19 @@ pub fn deliver<B: Bus>(v: &mut Virt, core: &mut Core, bus: &mut B, tt: u8) -> Re
 /// the window above. Memory does not change.
 #[tactic(auto, unfolding(crate::specs::Delivery::returned))]
 pub fn iret<B: Bus>(v: &mut Virt, core: &mut Core, bus: &mut B) -> Result<(), IretFault>
+    // A return from a virtual trap, which changes no memory.
     ensures answer { result ≡ (returned (B.areas bus.old) v.old core.old (B.memory bus.old)).answer }
     ensures traps { v.new ≡ (returned (B.areas bus.old) v.old core.old (B.memory bus.old)).traps }
     ensures core { core.new ≡ (returned (B.areas bus.old) v.old core.old (B.memory bus.old)).core }
     ensures memory { B.memory bus.new ≡ B.memory bus.old }
+    // It is refused exactly where a program counter is no multiple of 4, or else where the window above has to be
+    // filled and cannot be; nothing changed then.
     ensures unaligned { (result ≡ Err IretFault.Unaligned) ↔ IsFalse (are_aligned core.old) }
     ensures stack { (result ≡ Err IretFault.Stack) ↔ LacksWindow (B.areas bus.old) core.old }
     ensures unchanged { OnErr result ((v.new ≡ v.old) × (core.new ≡ core.old)) }
+    // What is pending stays.
     ensures pending { v.new.pending ≡ v.old.pending }
+    // Areas and the memories of others are as before.
     ensures areas { B.areas bus.new ≡ B.areas bus.old }
     ensures others { B.others bus.new ≡ B.others bus.old }
 {

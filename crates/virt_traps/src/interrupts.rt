@@ -52,6 +52,7 @@ impl Virt {
     /// Makes interrupt n pending.
     #[tactic(auto, unfolding(crate::specs::Virtual::raised))]
     pub fn raise(&mut self, n: u8)
+        // Called for an interrupt below 32.
         requires { n < 32 }
         ensures value { self.new ≡ raised n self.old }
     {
@@ -61,6 +62,7 @@ impl Virt {
     /// Makes interrupt n no longer pending.
     #[tactic(auto, unfolding(crate::specs::Virtual::interrupt_cleared))]
     pub fn clear(&mut self, n: u8)
+        // Called for an interrupt below 32.
         requires { n < 32 }
         ensures value { self.new ≡ interrupt_cleared n self.old }
     {
@@ -69,6 +71,7 @@ impl Virt {
 
     /// The lowest interrupt that is pending and not masked, whether or not traps are enabled.
     pub fn due(&self) -> Option<u8>
+        // The lowest interrupt that is pending and not masked; none exactly where there is none.
         ensures value { result ≡ due self.now }
         ensures none { IsNone result ↔ NoneIsDue self.now }
         ensures lowest { IfSome result (IsLowestDue self.now) }

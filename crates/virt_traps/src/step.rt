@@ -16,10 +16,15 @@ const UNDERFLOW: u8 = 6;
 
 /// Executes the instruction at `pc`. A window that it needs is spilled or filled before.
 pub fn settle<B: Bus>(core: &mut Core, bus: &mut B) -> Turn
+    // A step: one instruction with the spill or the fill that it needs.
     ensures turned { settled (B.areas bus.old) core.old (B.memory bus.old) ≡ record { turn = result; core = core.new; memory = B.memory bus.new } }
+    // Window overflow and underflow come only where the spill or the fill was refused, and nothing changed then.
     ensures failed { FailsAlone result (B.areas bus.old) core.old core.new (B.memory bus.old) (B.memory bus.new) }
+    // After another trap nothing changed, but for a spill that overwrote the word at pc.
     ensures trapped { IsUndoneButSpill result (B.areas bus.old) core.old core.new (B.memory bus.old) (B.memory bus.new) }
+    // After a call the program resumes after it.
     ensures called { result ≡ Turn.Call → GoesOn core.old core.new }
+    // Areas and the memories of others are as before.
     ensures areas { B.areas bus.new ≡ B.areas bus.old }
     ensures others { B.others bus.new ≡ B.others bus.old }
 {
@@ -33,12 +38,17 @@ pub fn settle<B: Bus>(core: &mut Core, bus: &mut B) -> Turn
 #[inline(always)]
 #[tactic(auto, unfolding(crate::specs::Settled::settled))]
 pub fn settle_cached<B: Bus>(processor: &mut Processor, bus: &mut B) -> Turn
+    // A step: one instruction with the spill or the fill that it needs.
     ensures turn { result ≡ (settled (B.areas bus.old) processor.old (B.memory bus.old)).turn }
     ensures core { processor.new ≡ (settled (B.areas bus.old) processor.old (B.memory bus.old)).core }
     ensures memory { B.memory bus.new ≡ (settled (B.areas bus.old) processor.old (B.memory bus.old)).memory }
+    // Window overflow and underflow come only where the spill or the fill was refused, and nothing changed then.
     ensures failed { FailsAlone result (B.areas bus.old) processor.old processor.new (B.memory bus.old) (B.memory bus.new) }
+    // After another trap nothing changed, but for a spill that overwrote the word at pc.
     ensures trapped { IsUndoneButSpill result (B.areas bus.old) processor.old processor.new (B.memory bus.old) (B.memory bus.new) }
+    // After a call the program resumes after it.
     ensures called { result ≡ Turn.Call → GoesOn processor.old processor.new }
+    // Areas and the memories of others are as before.
     ensures areas { B.areas bus.new ≡ B.areas bus.old }
     ensures others { B.others bus.new ≡ B.others bus.old }
 {

@@ -32,12 +32,17 @@ const FRAME: u8 = 30;
 /// Stores the window below the invalid one, which becomes the invalid one.
 #[tactic(auto, unfolding(crate::specs::Moves::spilled, crate::specs::Moves::spill_address))]
 pub fn spill<B: Bus>(core: &mut Core, bus: &mut B) -> Result<(), StackFault>
+    // Called where the window above the current one is not the invalid one.
     requires { (core.old.cwp + 1) % 8 ≢ core.old.inv }
+    // A spill: its answer, and the registers and the memory that it leaves.
     ensures answer { result ≡ (spilled (B.areas bus.old) core.old (B.memory bus.old)).answer }
     ensures core { core.new ≡ (spilled (B.areas bus.old) core.old (B.memory bus.old)).core }
     ensures memory { B.memory bus.new ≡ (spilled (B.areas bus.old) core.old (B.memory bus.old)).memory }
+    // StackFault exactly where the stack's address is no multiple of 8 or one of its 64 bytes is not allowed, and
+    // nothing changed then.
     ensures fault { IsErr result ↔ IsFalse (is_usable (is_writable (B.areas bus.old)) (spill_address core.old)) }
     ensures unchanged { OnErr result ((core.new ≡ core.old) × (B.memory bus.new ≡ B.memory bus.old)) }
+    // Areas and the memories of others are as before.
     ensures areas { B.areas bus.new ≡ B.areas bus.old }
     ensures others { B.others bus.new ≡ B.others bus.old }
 {
@@ -54,13 +59,18 @@ pub fn spill<B: Bus>(core: &mut Core, bus: &mut B) -> Result<(), StackFault>
 /// Loads the invalid window, and the one above it becomes the invalid one.
 #[tactic(auto, unfolding(crate::specs::Moves::filled, crate::specs::Moves::fill_address))]
 pub fn fill<B: Bus>(core: &mut Core, bus: &mut B) -> Result<(), StackFault>
+    // Called where the window above the invalid one is not the current one.
     requires { (core.old.inv + 1) % 8 ≢ core.old.cwp }
+    // A fill, which changes no memory.
     ensures answer { result ≡ (filled (B.areas bus.old) core.old (B.memory bus.old)).answer }
     ensures core { core.new ≡ (filled (B.areas bus.old) core.old (B.memory bus.old)).core }
     ensures memory { B.memory bus.new ≡ (filled (B.areas bus.old) core.old (B.memory bus.old)).memory }
     ensures untouched { B.memory bus.new ≡ B.memory bus.old }
+    // StackFault exactly where the stack's address is no multiple of 8 or one of its 64 bytes is not allowed, and
+    // nothing changed then.
     ensures fault { IsErr result ↔ IsFalse (is_usable (is_readable (B.areas bus.old)) (fill_address core.old)) }
     ensures unchanged { OnErr result (core.new ≡ core.old) }
+    // Areas and the memories of others are as before.
     ensures areas { B.areas bus.new ≡ B.areas bus.old }
     ensures others { B.others bus.new ≡ B.others bus.old }
 {

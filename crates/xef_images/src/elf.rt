@@ -220,6 +220,7 @@ fn image(alloc: Global, bytes: &[u8]) -> Result<(u32, Vec<Segment>), ElfFault>
 /// Reads a program file: an executable of ELF, of 32 bits, big endian, for SPARC. Gives the image
 /// of its loaded headers, or its first fault.
 pub fn read_elf(alloc: Global, bytes: &[u8]) -> Result<Xef, ElfFault>
+    // The image of a linker's program file, or its first fault.
     ensures { ElfGives (λ image. image) result (elf bytes.now) }
 {
     let (entry, segments) = image(alloc, bytes)?;

@@ -16,7 +16,9 @@ use xm_base::Memory;
 /// at its end.
 #[tactic(auto, unfolding(crate::specs::Texts::xef_lines))]
 pub fn describe(alloc: Global, bytes: &[u8], image: &Xef) -> Result<Vec<u8>, Memory>
+    // Called with the file of the image.
     requires { bytes.now ≡ xef_text image.now }
+    // The lines that describe an image's file.
     ensures { IfOk result (λ lines. lines.items ≡ xef_lines image.now) }
 {
     let mut lines = Vec::new(alloc);

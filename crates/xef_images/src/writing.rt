@@ -21,6 +21,7 @@ pub(crate) const VERSION: u16 = 1;
 /// The one file of an image.
 #[tactic(auto, unfolding(crate::specs::Spelling::xef_text))]
 pub fn build_xef(alloc: Global, image: &Xef) -> Result<Vec<u8>, Memory>
+    // The file of an image is its one spelling.
     ensures { IfOk result (λ file. file.items ≡ xef_text image.now) }
 {
     let mut file = before_digest(alloc, image)?;

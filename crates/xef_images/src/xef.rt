@@ -29,7 +29,9 @@ impl Model for Xef {
 impl Xef {
     /// The image with this entry and these segments, or `None` where they make none.
     pub fn new(entry: u32, segments: Vec<Segment>) -> Option<Xef>
+        // The image has the segments and the entry that were handed in.
         ensures value { IfSome result (λ xef. xef ≡ record { entry = entry; segments = segments.items }) }
+        // None exactly where the segments or the entry break a rule, or its file would be too long.
         ensures refused { IsNone result ↔ ¬ (IsImage record { entry = entry; segments = segments.items }) }
     {
         if !is_image(entry, &segments) {
@@ -40,7 +42,9 @@ impl Xef {
 
     /// The address where it starts.
     pub fn entry(&self) -> u32
+        // The address where it starts.
         ensures value { result ≡ self.now.entry }
+        // The image keeps the rules.
         ensures image { IsImage self.now }
     {
         self.entry
@@ -48,7 +52,9 @@ impl Xef {
 
     /// Its segments, by rising addresses.
     pub fn segments(&self) -> &[Segment]
+        // Its segments, by rising addresses.
         ensures value { result.now ≡ self.now.segments }
+        // The image keeps the rules.
         ensures image { IsImage self.now }
     {
         &self.segments

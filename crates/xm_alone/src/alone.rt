@@ -56,8 +56,10 @@ impl Model for Alone {
 impl Alone {
     /// Partition `p` of a system with these input words, as it boots. All memory of a replay is taken here.
     pub fn new(alloc: Global, system: System, inputs: Inputs, p: PartId) -> Result<Alone, Memory>
+        // Called for a partition that exists and with inputs for each partition.
         requires partition { p < length system.conf.parts }
         requires inputs { length inputs ≡ length system.conf.parts }
+        // A partition as it boots with these input words.
         ensures { IfOk result (λ lone. lone ≡ booted_alone (with_inputs system inputs) p) }
     {
         proof! {
@@ -80,9 +82,14 @@ impl Alone {
         p: PartId,
         script: &Script,
     ) -> Result<Option<Alone>, ScriptFault>
+        // Called for a partition that exists, with inputs for each partition, and with a script that the partition may
+        // receive.
         requires partition { p < length system.conf.parts }
         requires inputs { length inputs ≡ length system.conf.parts }
         requires script { IsScript system.conf p script.now }
+        // As `fits`; and where it can take each cue, and the answer has the partition, then the cues printed and wrote
+        // nothing, and it stands as they left it. It may answer without the partition where they printed nothing, too,
+        // by which a replay is slower and no other: only its measured time shows that it does not.
         ensures fits { AnswersFit (view_of (with_inputs system inputs) p) script.now result }
         ensures silent { IfOk result (λ silent. IfSome silent (IsSilentReplay script.now (booted_alone (with_inputs system inputs) p))) }
     {
@@ -105,6 +112,8 @@ impl Alone {
 
     /// The line of the partition's end goes out. It is the whole report of a replay whose cues printed and said nothing.
     pub fn end<O: Sink>(&self, out: &mut O) -> Result<(), WriteFault>
+        // The line of the partition's end is the whole report of a replay whose cues print and say nothing, answered as
+        // `Alone::play` answers it.
         ensures replay { (old : Lone) (cues : List Cue) (board : BoardView) → IsSilentReplay cues old self.now → IsReplay result cues (replay_lines (own_view old) cues) old self.now (O.got out.old) (O.got out.new) board board }
         ensures cause { HasWriteCause result (O.faults out.old) (O.faults out.new) }
     {
@@ -119,10 +128,18 @@ impl Alone {
         out: &mut O,
         board: &mut Board,
     ) -> Result<(), WriteFault>
+        // Called for a partition as it boots and with a script that the partition may receive and that it can take to
+        // its end.
         requires fresh { self.old ≡ booted_alone self.old.system self.old.p }
         requires script { IsScript self.old.system.conf self.old.p script.now }
         requires fits { TakesAll (own_view self.old) script.now }
+        // A replay of a script that fits leaves of the partition what it is alone under these cues, and the hypervisor
+        // halted where the last of them halts it; its lines and that of its end went out, and its console bytes were
+        // written. Where the sink failed, so many of the cues were done, their console bytes were written, and a prefix
+        // of the same lines went out: the last of these cues is the one whose lines were cut, or the last of all.
         ensures replay { IsReplay result script.now (replay_lines (own_view self.old) script.now) self.old self.new (O.got out.old) (O.got out.new) (⟦<Board as ViewBoard>⟧.board_view board.old) (⟦<Board as ViewBoard>⟧.board_view board.new) }
+        // A replay is answered by a fault only where the sink's count of faults rose, and nothing else of it moves that
+        // count.
         ensures cause { HasWriteCause result (O.faults out.old) (O.faults out.new) }
     {
         play_cues(&mut self.machine, self.p, script, out, board)?;
@@ -131,7 +148,9 @@ impl Alone {
 
     /// How many bytes the core file has. No replay changes it.
     pub fn core_length(&self) -> usize
+        // The length of the core file, which depends on the configuration alone.
         ensures value { result ≡ core_length_of (own_view self.now) }
+        // It is that of the defined list of bytes.
         ensures length { result ≡ length (core_file (own_view self.now) self.now.part.state) }
     {
         self.machine.core_length(self.p)
@@ -139,7 +158,9 @@ impl Alone {
 
     /// Writes the core file into a slice of its length.
     pub fn core_into(&self, into: &mut [u8])
+        // Called with a slice of the core file's length.
         requires size { length into.old ≡ core_length_of (own_view self.now) }
+        // The slice gets exactly the bytes of the core file of the partition as it stands.
         ensures file { into.new ≡ core_file (own_view self.now) self.now.part.state }
     {
         self.machine.core_into(self.p, into);

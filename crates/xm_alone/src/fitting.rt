@@ -28,9 +28,13 @@ pub fn fits(
     p: PartId,
     script: &Script,
 ) -> Result<(), ScriptFault>
+    // Called for a partition that exists, with inputs for each partition, and with a script that the partition may
+    // receive.
     requires partition { p < length system.conf.parts }
     requires inputs { length inputs ≡ length system.conf.parts }
     requires script { IsScript system.conf p script.now }
+    // Whether a partition, from boot on and with these input words, can take each cue of a script in the state which
+    // the cues before it leave; else the number of the first that it cannot, counted from 0; or there was no memory.
     ensures { AnswersFit (view_of (with_inputs system inputs) p) script.now result }
 {
     match Alone::tried(alloc, system, inputs, p, script) {

@@ -57,7 +57,10 @@ impl<'a> Cursor<'a> {
 
     /// The next byte.
     pub fn u8(&mut self) -> Result<u8, Short>
+        // The bytes are there and the cursor is past them; or fewer are left than asked, the answer has the cursor's
+        // place, and it stays.
         ensures moves { Moves 1 self.old self.new result }
+        // The number is the big endian number of the next bytes, and they are the number's bytes.
         ensures number { IfOk result (λ number. IsNumberOf w8 (next 1 self.old) number) }
     {
         Ok(self.take(1)?[0])
@@ -65,7 +68,10 @@ impl<'a> Cursor<'a> {
 
     /// The next two bytes as a number.
     pub fn u16(&mut self) -> Result<u16, Short>
+        // The bytes are there and the cursor is past them; or fewer are left than asked, the answer has the cursor's
+        // place, and it stays.
         ensures moves { Moves 2 self.old self.new result }
+        // The number is the big endian number of the next bytes, and they are the number's bytes.
         ensures number { IfOk result (λ number. IsNumberOf w16 (next 2 self.old) number) }
     {
         Ok(half_word(self.take(2)?))
@@ -73,7 +79,10 @@ impl<'a> Cursor<'a> {
 
     /// The next four bytes as a number.
     pub fn u32(&mut self) -> Result<u32, Short>
+        // The bytes are there and the cursor is past them; or fewer are left than asked, the answer has the cursor's
+        // place, and it stays.
         ensures moves { Moves 4 self.old self.new result }
+        // The number is the big endian number of the next bytes, and they are the number's bytes.
         ensures number { IfOk result (λ number. IsNumberOf w32 (next 4 self.old) number) }
     {
         Ok(word(self.take(4)?))
@@ -81,7 +90,10 @@ impl<'a> Cursor<'a> {
 
     /// The next eight bytes as a number.
     pub fn u64(&mut self) -> Result<u64, Short>
+        // The bytes are there and the cursor is past them; or fewer are left than asked, the answer has the cursor's
+        // place, and it stays.
         ensures moves { Moves 8 self.old self.new result }
+        // The number is the big endian number of the next bytes, and they are the number's bytes.
         ensures number { IfOk result (λ number. IsNumberOf w64 (next 8 self.old) number) }
     {
         Ok(double_word(self.take(8)?))
@@ -89,7 +101,10 @@ impl<'a> Cursor<'a> {
 
     /// The next bytes, this many.
     pub fn take(&mut self, n: usize) -> Result<&'a [u8], Short>
+        // The bytes are there and the cursor is past them; or fewer are left than asked, the answer has the cursor's
+        // place, and it stays.
         ensures moves { Moves n self.old self.new result }
+        // The bytes are the next ones.
         ensures bytes { IfOk result (λ bytes. bytes.now ≡ next n self.old) }
     {
         if self.left() < n {

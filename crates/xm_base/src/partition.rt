@@ -46,6 +46,7 @@ pub enum Order {
 impl State {
     /// The state's name as the report has it.
     pub fn text(self) -> &'static str
+        // A state's name is the one of the report.
         ensures { result.now ≡ state_text self }
     {
         match self {

@@ -7,7 +7,9 @@ use Rattle.file_commands.specs.declared.status.Status.TheVariants.{NoMemory}
 
 -- out of memory for the words or for the UARTs: nothing was done, and no line went out
 pub record HadNoWords (status : Status) (before after : World) : Type 0 where
+  -- the status is NoMemory
   pub starved : status ≡ NoMemory
+  -- nothing was done, and no line went out
   pub unchanged : after ≡ before
 
 -- the call ran out of memory for these words, or the status answers them

@@ -11,9 +11,13 @@ use Rattle.file_commands.specs.declared.status.Status.TheVariants.{Done, NoMemor
 -- nothing stands against a command: no count of the store or of the report's sink rose; where the store's files are known, each that the command reads is
 -- among them; their contents are not refused; and no place of the board has a mark
 pub record IsUnhindered (command : Command) (before after : World) : Type 0 where
+  -- no count of the store or of the report's sink rose
   pub faultless : HasNoFault before.disk after.disk
+  -- where the store's files are known, each that the command reads is among them
   pub there : IsOneAbsent before.disk.files (inputs_of command) → ⊥
+  -- their contents are not refused
   pub granted : (contents : List (List ℕ)) → AreContents before.disk.files command contents → (outcome_of command contents).denial ≡ None
+  -- no place of the board has a mark
   pub unmarked : HasNoMark after.board
 
 -- such a command is done, or memory ran out

@@ -45,11 +45,11 @@ pub record IsAnswer (status : Status) (words : List (List ℕ)) (before after : 
   pub replayed : ReplaysAlone status (command_of words) before after
   -- After UartFault a place of the board is marked.
   pub marked : status ≡ UartFault → IsMarked after.board
-  -- After Refused, Usage, ReadFault and NoMemory the board is as before,
+  -- After Refused, Usage, ReadFault and NoMemory the board is as before.
   pub still : IsQuiet status → after.board ≡ before.board
-  -- the report got nothing,
+  -- After Refused, Usage, ReadFault and NoMemory the report got nothing.
   pub quiet : IsQuiet status → after.disk.got ≡ before.disk.got
-  -- and every file is as before.
+  -- After Refused, Usage, ReadFault and NoMemory every file is as before.
   pub barren : IsQuiet status → after.disk.files ≡ before.disk.files
   -- Every file is as before, except those that the words name to be written.
   pub files : OtherFilesStay (command_of words) before.disk.files after.disk.files

@@ -129,11 +129,21 @@ CallsAsNamed (Some command) before after = HasCalls command before.calls after.c
 
 -- each status has its cause, and leaves what it says
 pub record HasCauses (status : Status) (command : Option Command) (before after : Outside) : Type 0 where
+  -- ReadFault: the count of failed reads rose, or the files of the store are known and one that the words name to be
+  -- read is not among them
   pub read_fault : status ≡ ReadFault → IsReadCause command before after
+  -- Refused: the contents of the files to be read have a refusal, the report has got nothing, and no file is written
   pub refused : status ≡ Refused → IsRefusal command before after
+  -- WriteFault: the count of the report's sink rose, it has got a prefix of the report, the file before it is written
+  -- and none after it; or the count of failed writes rose, the words name a file to be written before the report, and
+  -- the report has got nothing; or the count of failed writes rose at a file after the report: the report is whole, the
+  -- files before that one are written, and every file but these and that one is as before
   pub write_fault : status ≡ WriteFault → IsWriteCause command before after
+  -- Done: no count of faults of the store or of the report's sink moved
   pub done : status ≡ Done → IsFaultless before after
+  -- UartFault: no count of faults of the store or of the report's sink moved
   pub uart_fault : status ≡ UartFault → IsFaultless before after
+  -- the store is called at most once for each time that the words name a file
   pub calls : CallsAsNamed command before after
 
 -- one of the statuses after which the report has got nothing, and no file was written

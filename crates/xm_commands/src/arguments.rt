@@ -16,6 +16,7 @@ use xm_outside::{Sink, Store};
 
 /// The words of the command line: all arguments but the first, which is the program's name.
 pub fn words_after_name(alloc: Global, given: &[String]) -> Result<Words, Memory>
+    // The words are exactly the arguments after the first, in their order.
     ensures words { IfOk result (λ words. words ≡ after_name given.now) }
 {
     match given.split_first() {
@@ -45,9 +46,12 @@ pub fn carry_out<S: Store, O: Sink, E: Sink>(
     err: &mut E,
     board: &mut Board,
 ) -> Status
+    // Whatever happens, the status answers the words after the first argument as `xm_main` answers its words; or the
+    // call ran out of memory for the words, the status is NoMemory, and the world is as before.
     ensures call { IsCall result (after_name given.now)
         (⟦<(S, O, E, Board) as Surroundings>⟧.world (files.old, out.old, err.old, board.old))
         (⟦<(S, O, E, Board) as Surroundings>⟧.world (files.new, out.new, err.new, board.new)) }
+    // After Done the error output is as before.
     ensures silent { result ≡ Status.Done → err.new ≡ err.old }
 {
     let Ok(words) = words_after_name(alloc, given) else {

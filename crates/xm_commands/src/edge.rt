@@ -35,7 +35,15 @@ pub fn program<O: Write + Drop, E: Write + Drop>(
     stdout: O,
     stderr: E,
 ) -> ExitCode
+    // The exit status is the code of a status to which the given arguments come. Arguments that were read: the status
+    // answers the words after the first as that of `do_command` does, over a store that reports nothing but its counts,
+    // which were 0, with a board that has at each of its eight places the UART of a file before its first write, and
+    // with a report and an error output that report nothing but their faults, of which there were none; or there was no
+    // memory for the UARTs, and nothing was done. Arguments that could not be read: NoMemory where the cause was
+    // memory, and Usage for every other cause. After Done no write to the error output failed.
     ensures ended { IsEndedBy given (exit_status result) }
+    // Of arguments that were read: but after 6, the exit status is 2 exactly where the words after the first are no
+    // command.
     ensures usage { IfOk given (λ texts. exit_status result ≢ 6
         → ((exit_status result ≡ 2) ↔ (command_of (after_name texts.items) ≡ None))) }
 {

@@ -1,5 +1,7 @@
 //! The commands: files are read, made and written, systems are run, and each call ends with a status. And the program over them, below its
 //! `main`: what the arguments of a process say is done, over the system's files and streams.
+//! The clauses are about a store, a report's sink, an error sink and a board of UARTs that may be any that keep their
+//! traits.
 #![tactic(auto)]
 
 mod arguments;

@@ -47,6 +47,7 @@ pub fn xm_main<S: Store, O: Sink, E: Sink>(
 
 /// The answer to words that cannot be read: they are misused, and the line on `err` says so.
 pub fn misused<E: Sink>(err: &mut E) -> Status
+    // Words that cannot be read are answered Usage, with its line.
     ensures usage { result ≡ Status.Usage }
     ensures line { IsSaid (complaint Usage) (sink_view (E.got err.old) (E.faults err.old))
         (sink_view (E.got err.new) (E.faults err.new)) }

@@ -46,6 +46,8 @@ impl Model for Conf {
 impl Conf {
     /// The configuration, where it meets the rules, or else the first rule that is broken.
     pub fn new(raw: RawConf) -> Result<Conf, Broken>
+        // A configuration is taken exactly where it meets the rules, as it was given; else the answer is the first rule
+        // that is broken, with its item and the item that it clashes with.
         ensures value { IfOk result (λ conf. conf ≡ raw) }
         ensures fits { IsOk result ↔ Fits (described raw) }
         ensures refused { IfErr result (λ broken. first_broken_of most_parts (described raw) ≡ Some broken) }
@@ -56,7 +58,10 @@ impl Conf {
     /// The same, where it may have no more than this many partitions.
     #[tactic(auto, using(crate::proofs::RuleLaws::first_broken_none, crate::specs::lemmas::FitLemmas::fits_within))]
     pub fn within(most: u8, raw: RawConf) -> Result<Conf, Broken>
+        // Called for a number of partitions that is within the limit.
         requires { most ≤ most_parts }
+        // As `Conf::new` with a lesser limit of partitions, as version 1 of the formats has it; what is taken meets the
+        // rules.
         ensures value { IfOk result (λ conf. conf ≡ raw) }
         ensures fits { IsOk result ↔ FitsWithin most (described raw) }
         ensures refused { IfErr result (λ broken. first_broken_of most (described raw) ≡ Some broken) }
@@ -69,6 +74,7 @@ impl Conf {
 
     /// The configuration as it was given.
     pub fn raw(&self) -> &RawConf
+        // The configuration as it was given, which meets the rules.
         ensures value { result.now ≡ self.now }
         ensures fits { Fits (described self.now) }
     {
@@ -78,6 +84,7 @@ impl Conf {
     /// The channel that has a port of a partition as an end, or `None` where none has.
     #[tactic(auto, using(crate::proofs::ViewLemmas::channel_of_found, crate::proofs::ViewLemmas::channel_of_none), unfolding(crate::specs::View::channel_of, crate::specs::Description::described))]
     pub fn channel_of(&self, part: u8, port: u8) -> Option<u8>
+        // The channel of a port, and none exactly where it is the end of no channel.
         ensures value { result ≡ channel_of self.now part port }
         ensures found { IfSome result (λ c. IsSomeAnd (slice_get self.now.chans c) (HasEnd part port)) }
         ensures none { IsNone result ↔ All (λ chan. ¬ (HasEnd part port chan)) self.now.chans }
@@ -88,6 +95,7 @@ impl Conf {
     /// The partition to which a partition's link of a number goes, or `None` where it has none.
     #[tactic(auto, using(crate::proofs::ViewLemmas::link_of_found, crate::proofs::ViewLemmas::link_of_none), unfolding(crate::specs::View::link_of))]
     pub fn link_of(&self, part: u8, number: u8) -> Option<u8>
+        // The partition to which a partition's link of a number goes, and none exactly where it has none.
         ensures value { result ≡ link_of self.now part number }
         ensures found { IfSome result (λ dest. Contains self.now.links (record { number = number; source = part; dest = dest })) }
         ensures none { IsNone result ↔ All (λ link. ¬ (IsLinkOf part number link)) self.now.links }
@@ -98,6 +106,7 @@ impl Conf {
     /// What a partition sees: the two counts for a system partition, and 0 and 0 for another.
     #[tactic(auto, unfolding(crate::specs::View::sees, crate::specs::Description::described))]
     pub fn sees(&self, part: u8) -> Seen
+        // The counts that a partition sees.
         ensures { result ≡ sees self.now part }
     {
         let parts = self.raw.parts.len() as u8;

@@ -53,7 +53,9 @@ pub const EVENTS: [Event; 12] = [
 impl Event {
     /// The event's number.
     pub fn number(self) -> u8
+        // The event's number, as in its row of the table.
         ensures value { result ≡ (event_row self).number }
+        // It is below 12.
         ensures below { result < 12 }
     {
         self as u8
@@ -61,6 +63,7 @@ impl Event {
 
     /// The event's name as a configuration and the report have it.
     pub fn text(self) -> &'static str
+        // The event's text, as in its row of the table.
         ensures { result.now ≡ (event_row self).text }
     {
         match self {
@@ -101,6 +104,7 @@ impl Event {
 
     /// The event that these bytes name, or `None` where they name none.
     pub fn named(bytes: &[u8]) -> Option<Event>
+        // The event with this text, and none where there is none.
         ensures value { result ≡ event_named bytes.now }
         ensures exact { IsEventNamed bytes.now result }
     {
@@ -167,6 +171,7 @@ const ACTIONS: [Action; 11] = [
 impl Action {
     /// The action's number.
     pub fn number(self) -> u8
+        // The action's number, as in its row of the table.
         ensures { result ≡ (action_row self).number }
     {
         self as u8
@@ -181,6 +186,7 @@ impl Action {
 
     /// The action's name as a configuration and the report have it.
     pub fn text(self) -> &'static str
+        // The action's text, as in its row of the table.
         ensures { result.now ≡ (action_row self).text }
     {
         match self {
@@ -200,6 +206,7 @@ impl Action {
 
     /// The action that these bytes name, or `None` where they name none.
     pub fn named(bytes: &[u8]) -> Option<Action>
+        // The action with this text, and none where there is none.
         ensures value { result ≡ action_named bytes.now }
         ensures exact { IsActionNamed bytes.now result }
     {

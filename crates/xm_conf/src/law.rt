@@ -4,5 +4,6 @@ ghost use Rattle.xm_conf.specs.Laws.{IsBrokenUnlessFits};
 
 /// A description breaks no rule exactly where it meets each of them.
 pub fn broken_unless_fits()
+    // Law: no rule is broken exactly where the rules are met, whatever the limit of partitions.
     ensures law { IsBrokenUnlessFits }
 {}

@@ -35,6 +35,7 @@ impl Model for Name {
 impl Name {
     /// The name that these bytes are, or `None` where they are none.
     pub fn new(bytes: &[u8]) -> Option<Name>
+        // The name of the bytes, and none exactly where they are no name.
         ensures value { result ≡ name_from_bytes bytes.now }
         ensures refused { IsNone result ↔ ¬ (IsName bytes.now) }
     {
@@ -51,6 +52,7 @@ impl Name {
 
     /// The name's bytes.
     pub fn bytes(&self) -> &[u8]
+        // The bytes of a name, which are one.
         ensures value { result.now ≡ self.now }
         ensures name { IsName self.now }
     {

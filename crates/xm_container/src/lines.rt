@@ -16,7 +16,9 @@ use xm_conf::RawConf;
 /// image.
 #[tactic(auto, unfolding(crate::specs::Texts::box_lines))]
 pub fn list_lines(alloc: Global, bytes: &[u8], system: &System) -> Result<Vec<u8>, Memory>
+    // Called with the system that the bytes unpack to.
     requires { unpacked bytes.now ≡ Ok system.now }
+    // The lines that describe a container.
     ensures { IfOk result (λ lines. lines.items ≡ box_lines bytes.now system.now) }
 {
     let mut lines = Vec::new(alloc);

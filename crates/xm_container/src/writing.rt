@@ -162,6 +162,8 @@ fn sealed(alloc: Global, fields: &[u8]) -> Result<Vec<u8>, PackFault>
 /// images of one number the first one counts.
 #[tactic(auto, unfolding(crate::specs::Pack::packed))]
 pub fn pack(alloc: Global, conf: &Conf, images: &[Image]) -> Result<Vec<u8>, PackFault>
+    // The one spelling, in version 2, of a configuration and its images, which is read as that configuration with those
+    // images; or the first refusal: Extra, Missing, Outside, Long.
     ensures exact { Packs result (packed conf.now images.now) }
     // What is written is read as that configuration with those images.
     ensures read { IfOk result (λ bytes. unpacked bytes.items ≡ Ok (system_of conf.now images.now)) }

@@ -18,6 +18,7 @@ pub struct Group {
 impl Group {
     /// Whether a partition is a member.
     pub fn has(self, p: PartId) -> bool
+        // Whether the partition's bit is set.
         ensures { result ≡ members_of self.members p }
     {
         is_member(self.members, p)

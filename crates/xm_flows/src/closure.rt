@@ -123,10 +123,17 @@ fn parts_of(conf: &Conf) -> &[Part]
 /// The group of a partition: the least set that has it and from which, whatever a channel or a link joins to a member, no partition is left
 /// out that could change by it what the member meets.
 pub fn group(conf: &Conf, p: PartId) -> Group
+    // Called for a partition that exists.
     requires { p < length conf.now.parts }
+    // The group is what as many rounds over the channels and links as there are partitions leave.
     ensures value { result ≡ group_of conf.now p }
+    // The group of a partition has it, and each partition that by a channel or a link can change what a member meets;
+    // it is part of every set of partitions that does both.
     ensures members { IsGroupOf conf.now p (members_of result.members) }
+    // Its members are partitions that there are.
     ensures within { (q : ℕ) → members_of result.members q ≡ true → q < length conf.now.parts }
+    // It is covered exactly where no member is a system partition, and so exactly where its members are a closed set,
+    // of which the laws speak.
     ensures covered { IsTrue result.covered ↔ HasNoSystem conf.now (members_of result.members) }
     ensures closed { IsTrue result.covered ↔ IsClosed conf.now (members_of result.members) }
 {

@@ -10,6 +10,11 @@ use machine_model::{
 /// What a partition does beyond itself is by right: it puts messages by its source ports, takes them from its queues, and reaches others
 /// in any other way only as a system partition, or by an action of its health table that reaches all.
 pub fn acts_by_right()
+    // Law: whatever a partition executes, it puts messages by its source ports alone, takes them from queues of which
+    // it is the destination, and signals over its own links; only a system partition gives an order to another one, and
+    // asks for a plan, which is one that it sees; the maintenance plan is started only by an action of its health table
+    // that does that, and an event of all only by a system partition or by an action of its health table that does this
+    // very event.
     ensures law { ActsByRight }
 {
     acts_within_bounds();
@@ -18,13 +23,22 @@ pub fn acts_by_right()
 /// What as many rounds over the channels and links as there are partitions leave of a partition's bit is its group: the least set that has
 /// it and that keeps the rules of channels and links.
 pub fn rounds_find_groups()
+    // Law: what those rounds leave, of each partition of a configuration that meets the rules, is its group, of
+    // partitions that there are, and it is covered exactly where the group is a closed set.
     ensures law { RoundsFindGroups }
 {}
 
 /// Two runs of systems that are the same for a closed set of partitions, and in which each tick steers the set alike, are the same for it:
 /// states, channels, lines and console bytes. Where no partition may steer others, no tick steers.
 pub fn closed_runs()
+    // Law: two systems that meet the rules are the same for a set of partitions, which is closed in both: each member
+    // has the same things of its own, and frames, slots of members, channels with an end at a member and links to
+    // members are the same. Where each of so many ticks steers the set alike in both runs, they agree on it after these
+    // ticks: on states, channels, counts, clocks, the plan and its frame; and each member has printed the same lines
+    // and written the same console bytes.
     ensures law { ClosedRunsAlike }
+    // Law: where there is no system partition, and no health table has an action on the hypervisor or on the plan, no
+    // tick steers; so the law needs no premise but on configurations, images and input words.
     ensures none { NoneSteers }
     ensures unsteered { UnsteeredRunsAlike }
 {

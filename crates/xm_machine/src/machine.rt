@@ -80,7 +80,10 @@ impl Model for Machine {
 impl Machine {
     /// The machine with this system and the input words of its partitions, before its first tick. All memory of a run is taken here.
     pub fn boot(alloc: Global, system: System, inputs: Inputs) -> Result<Machine, Memory>
+        // Called with inputs for each partition.
         requires { length inputs ≡ length system.conf.parts }
+        // The machine before its first tick is that of the definitions, with the input words of its partitions, and
+        // keeps nothing of a tick: each partition is away and received nothing.
         ensures state { IfOk result (λ machine. machine.state ≡ start (with_inputs system inputs)) }
         ensures kept { IfOk result (λ machine. machine.kept ≡ no_kept) }
     {
@@ -99,6 +102,9 @@ impl Machine {
 
     /// The whole system as it stands, and what holds of it at all times.
     pub fn sys(&self) -> &Sys
+        // The system as it stands, with what holds of every machine at all times: its configuration meets the rules, it
+        // has each partition and channel of it, the plan clock runs a plan that there is in its frame, and the counters
+        // are bounded.
         ensures machine { result.now.machine ≡ self.now.state }
         ensures kept { IsMachine result.now }
     {
@@ -107,6 +113,7 @@ impl Machine {
 
     /// The channels, with what they hold.
     pub fn channels(&self) -> &Channels
+        // The channels, whose shapes are those of the configuration.
         ensures contents { result.now.contents ≡ self.now.state.channels }
         ensures shapes { result.now.shapes ≡ shapes_of self.now.state.system.conf }
     {
@@ -115,7 +122,12 @@ impl Machine {
 
     /// How many ticks were done. The one in which the hypervisor halts is not counted.
     pub fn done(&self) -> u64
+        // The ticks done; the one in which the hypervisor halts is not counted.
         ensures done { result ≡ self.now.state.ticks }
+        // No counter wraps but those of resets. The next number of a trace log is at most the ticks that are done; that
+        // of a health log, too, or one more where the partition or the hypervisor has halted; the hardware clock is at
+        // most the ticks that are done; an execution clock is at most the ticks that have begun, the one in which the
+        // hypervisor halts with them; and no more have begun than 4000000000.
         ensures counters { IsCounted self.now.state }
     {
         self.sys.ticks()
@@ -123,6 +135,7 @@ impl Machine {
 
     /// Whether the hypervisor has halted.
     pub fn halted(&self) -> bool
+        // Whether the hypervisor has halted.
         ensures { result ≡ self.now.state.halted }
     {
         self.sys.halted()
@@ -131,7 +144,9 @@ impl Machine {
     /// What partition `p` received in the last tick that was done. Ticks of a machine whose hypervisor has halted are none, and a reset
     /// from without is none.
     pub fn cue(&self, p: PartId) -> Cue<'_>
+        // Called for a partition that exists.
         requires { p < length self.now.state.parts }
+        // What the partition received in the last tick that was done; its bytes are lent by the machine.
         ensures { cue_value result ≡ last_received self.now p }
     {
         self.kept.cue(self.sys.conf(), p)
@@ -140,12 +155,26 @@ impl Machine {
     /// One tick, whose lines go out, and whose console bytes go to their UARTs. After `WriteFault` the tick was done whole, and its bytes
     /// were said. A machine whose hypervisor has halted stays as it is.
     pub fn tick<O: Sink>(&mut self, out: &mut O, board: &mut Board) -> Result<(), WriteFault>
+        // Called below the limit of ticks.
         requires { self.old.state.ticks < TICKS }
+        // A tick is the defined step of the whole machine for every state, and its lines went out; after `WriteFault`
+        // it was done whole and a prefix of them went out.
         ensures tick { IsTick result self.old.state self.new.state (O.got out.old) (O.got out.new) }
+        // Each partition's part of the machine (its state, its copies of its channels, the ticks done and the hardware
+        // clock) is what it is alone under its script of this tick, whatever the others are and do; its own lines and
+        // its console bytes are those that it has alone.
         ensures alone { AreAlone 1 self.old.state self.new.state }
+        // What each partition received last is the last stimulus of its script of this tick, the tick in which the
+        // hypervisor halts included; where there was none, since the hypervisor had halted, it is what it received
+        // before.
         ensures cues { AreCued 1 self.old self.new }
+        // Each UART of the board has got the console bytes of the tick, of all partitions whose console it is, in their
+        // order; one whose write failed is taken out and its place is marked, and that changes nothing at the other
+        // places, in a partition or in the report.
         ensures heard { IsHeard (console self.old.state 1) (⟦<Board as ViewBoard>⟧.board_view board.old) (⟦<Board as ViewBoard>⟧.board_view board.new) }
+        // `WriteFault` comes only where the sink's count rose, and nothing else moves it.
         ensures cause { HasWriteCause result (O.faults out.old) (O.faults out.new) }
+        // No counter wraps but those of resets.
         ensures counters { IsCounted self.new.state }
     {
         proof! {
@@ -168,10 +197,18 @@ impl Machine {
         out: &mut O,
         board: &mut Board,
     ) -> Result<u64, WriteFault>
+        // Called on a machine that has not halted, for at least one tick, and within the limit of ticks.
         requires running { self.old.state.halted ≡ false }
         requires some { 0 < most }
         requires most { self.old.state.ticks + most ≤ TICKS }
+        // A stretch: its ticks are those of the slot or gap, so many at most, up to and with the first whose act is
+        // neither none nor a message put or taken, and exactly the least of these; the state is that of as many defined
+        // steps, and their lines went out; after `WriteFault` the ticks done are the first of these, the last of them
+        // whole, and a prefix of their lines went out.
         ensures stretch { Stretches result most self.old.state self.new.state (O.got out.old) (O.got out.new) }
+        // After a stretch each partition is what it is alone, each UART got the console bytes of its ticks, what each
+        // partition received last is that of its last tick, the sink's count is the only cause of a fault, and no
+        // counter wraps.
         ensures alone { StretchesAlone result most self.old.state self.new.state }
         ensures cues { StretchesCued result most self.old self.new }
         ensures heard { IsRunHeard self.old.state self.new.state (⟦<Board as ViewBoard>⟧.board_view board.old) (⟦<Board as ViewBoard>⟧.board_view board.new) }
@@ -198,15 +235,33 @@ impl Machine {
         out: &mut O,
         board: &mut Board,
     ) -> Result<Ran, WriteFault>
+        // Called at tick 0, on a machine that has not halted, and for at most the limit of ticks.
         requires fresh { self.old.state.ticks ≡ 0 }
         requires running { self.old.state.halted ≡ false }
         requires most { ticks ≤ TICKS }
+        // A run: the state is that of as many defined steps, and the whole report of the definitions went out; `Ran`
+        // has its ticks, fewer than asked exactly where the hypervisor halted, its lines and whether it halted; after
+        // `WriteFault` a prefix of the report, the current tick done and no later one. The state, the report and what
+        // each UART of the board got are those of one number of ticks.
         ensures run { IsRun result ticks self.old.state self.new.state (O.got out.old) (O.got out.new) (⟦<Board as ViewBoard>⟧.board_view board.old) (⟦<Board as ViewBoard>⟧.board_view board.new) }
+        // After the ticks that the run did, each partition's part of the machine (its state, its copies of its
+        // channels, the ticks done and the hardware clock) is what it is alone under its script of these ticks,
+        // whatever the others are and do; its own lines of them and its console bytes are those that it has alone.
         ensures alone { RunsEachAlone result ticks self.old.state self.new.state }
+        // Of a machine that was only booted, each partition's part is that of the partition alone at its boot, and its
+        // own lines of the whole report of a run are its lines alone and the line of its end alone.
         ensures booted { AreBootedAlone self.old.state ticks }
+        // What each partition received last is the last stimulus of its script of the ticks that the run did, the tick
+        // in which the hypervisor halts included; where there was none, it is what it received before.
         ensures cues { RunsCued result ticks self.old self.new }
+        // Each UART of the board has got the console bytes of the ticks that the run did, of all partitions whose
+        // console it is, in their order; one whose write failed is taken out and its place is marked, and that changes
+        // nothing at the other places, in a partition or in the report. After `WriteFault` these are the ticks done,
+        // the current one with them, whatever number of ticks leads to the state.
         ensures heard { IsRunHeard self.old.state self.new.state (⟦<Board as ViewBoard>⟧.board_view board.old) (⟦<Board as ViewBoard>⟧.board_view board.new) }
+        // `WriteFault` comes only where the sink's count rose, and nothing else moves it.
         ensures cause { HasWriteCause result (O.faults out.old) (O.faults out.new) }
+        // No counter wraps but those of resets.
         ensures counters { IsCounted self.new.state }
     {
         proof! {
@@ -235,11 +290,19 @@ impl Machine {
         out: &mut O,
         board: &mut Board,
     ) -> Result<(), AloneFault>
+        // Called for a partition that exists, on a machine that has not halted, below the limit of ticks, and with a
+        // stimulus that a script may have.
         requires partition { p < length self.old.state.parts }
         requires running { self.old.state.halted ≡ false }
         requires more { self.old.state.ticks < TICKS }
         requires cue { IsCue self.old.state.system.conf p (cue_value cue.now) }
+        // A tick of one partition in isolation, under any cue that a script may have: its part of the machine is that
+        // of the tick alone, and the lines of that tick went out; after `Write` it was done whole, and a prefix of them
+        // went out; `Cue` comes exactly where the partition cannot take the cue, and then nothing went out.
         ensures step { StepsAlone result p (cue_value cue.now) self.old.state self.new.state (O.got out.old) (O.got out.new) }
+        // Its console bytes were written to their UART; `Write` comes only where the sink's count rose, and nothing
+        // else moves it; what runs and how many partitions there are is the same; what is kept of the last tick stays;
+        // no counter wraps. This holds after `Cue`, too, when nothing was written.
         ensures cause { HasStepCause result (O.faults out.old) (O.faults out.new) }
         ensures heard { IsSaidAlone result p (cue_value cue.now) self.old.state (⟦<Board as ViewBoard>⟧.board_view board.old) (⟦<Board as ViewBoard>⟧.board_view board.new) }
         ensures system { IsOfSystem self.old.state self.new.state }
@@ -262,10 +325,15 @@ impl Machine {
         out: &mut O,
         board: &mut Board,
     ) -> AloneSpan
+        // Called for a partition that exists, on a machine that has not halted, for at least one tick, and within the
+        // limit of ticks.
         requires partition { p < length self.old.state.parts }
         requires running { self.old.state.halted ≡ false }
         requires some { 0 < most }
         requires more { self.old.state.ticks + most ≤ TICKS }
+        // Many ticks of one partition in isolation, one at least and so many at most, in each of which it receives
+        // nothing but whether a slot of its own runs: all but the last could be taken, printed and wrote nothing, and
+        // left what the partition alone makes of as many cues; the last answers as `Machine::step_alone` does.
         ensures some { 0 < result.ticks }
         ensures within { result.ticks ≤ most }
         ensures span { SpansAlone result.ended result.ticks p own self.old.state self.new.state (O.got out.old) (O.got out.new) (⟦<Board as ViewBoard>⟧.board_view board.old) (⟦<Board as ViewBoard>⟧.board_view board.new) }
@@ -287,8 +355,11 @@ impl Machine {
 
     /// How many bytes the core file of a partition has. No tick and no reset changes it.
     pub fn core_length(&self, p: PartId) -> usize
+        // Called for a partition that exists.
         requires { p < length self.now.state.parts }
+        // The length of the partition's core file, which its configuration alone gives.
         ensures value { result ≡ core_length_of (view_of self.now.state.system p) }
+        // It is that of the defined list of bytes.
         ensures length { result ≡ length (core_file (view_of self.now.state.system p) (part_at p self.now.state)) }
     {
         core_length(&self.sys, p)
@@ -296,8 +367,10 @@ impl Machine {
 
     /// Writes the core file of a partition into a slice of its length.
     pub fn core_into(&self, p: PartId, into: &mut [u8])
+        // Called for a partition that exists and with a slice of the core file's length.
         requires partition { p < length self.now.state.parts }
         requires size { length into.old ≡ core_length_of (view_of self.now.state.system p) }
+        // The slice gets exactly the bytes of the core file.
         ensures file { into.new ≡ core_file (view_of self.now.state.system p) (part_at p self.now.state) }
     {
         core_into(&self.sys, p, into);
@@ -305,9 +378,13 @@ impl Machine {
 
     /// Resets a partition, with this status for it to ask for.
     pub fn reset_part(&mut self, p: PartId, mode: Mode, status: u32)
+        // Called for a partition that exists and where the next number of its health log is at most the ticks done,
+        // which is so but for a partition that has just halted over a delivery that failed.
         requires partition { p < length self.old.state.parts }
         requires log { (part_at p self.old.state).health.next ≤ self.old.state.ticks }
+        // The partition is reset, cold or warm, with this status; nothing is printed.
         ensures value { self.new.state ≡ with_part p (reset (view_of self.old.state.system p) mode status (part_at p self.old.state)) self.old.state }
+        // A reset from outside keeps what the last tick left to be asked for.
         ensures kept { self.new.kept ≡ self.old.kept }
     {
         reset(&mut self.sys, p, mode, status);
@@ -315,8 +392,12 @@ impl Machine {
 
     /// Resets all partitions and the hypervisor: the hardware clock and the plans begin again, and the channels are empty.
     pub fn reset_all(&mut self, mode: Mode)
+        // Called where the next number of each health log is at most the ticks done, which is so but for a partition
+        // that has just halted over a delivery that failed.
         requires log { All (λ part. part.health.next ≤ self.old.state.ticks) self.old.state.parts }
+        // All partitions are reset with the hypervisor; nothing is printed.
         ensures value { self.new.state ≡ record (evented (AllReset mode) self.old.state) { clock = started; time = 0 } }
+        // A reset from outside keeps what the last tick left to be asked for.
         ensures kept { self.new.kept ≡ self.old.kept }
     {
         reset_all(&mut self.sys, mode);

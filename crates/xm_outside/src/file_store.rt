@@ -23,6 +23,7 @@ pub struct FileStore<R> {
 impl<R: Files + Alloc> FileStore<R> {
     /// The store over a clone of the runtime.
     pub fn new(rt: R) -> FileStore<R>
+        // All counts are 0.
         ensures calls { ⟦<FileStore<R> as Store>⟧.calls result ≡ 0 }
         ensures reads { ⟦<FileStore<R> as Store>⟧.read_faults result ≡ 0 }
         ensures writes { ⟦<FileStore<R> as Store>⟧.write_faults result ≡ 0 }

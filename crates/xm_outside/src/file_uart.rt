@@ -25,9 +25,12 @@ pub struct FileUart<R> {
 impl<R: Files + Drop> FileUart<R> {
     /// The UART of a place, over a clone of the runtime.
     pub fn new(rt: R, place: u8) -> FileUart<R>
+        // Called with a place below 8.
         requires { place < 8 }
+        // The UART of a file is for the file `uart0.out` to `uart7.out` of its place, which no write has made yet.
         ensures name { result.name.now ≡ uart_file place }
         ensures unmade { result.made ≡ false }
+        // Its count of faults is 0.
         ensures faults { ⟦<FileUart<R> as Uart>⟧.faults result ≡ 0 }
     {
         FileUart {

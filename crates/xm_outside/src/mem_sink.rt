@@ -35,6 +35,7 @@ impl Model for MemSink {
 impl MemSink {
     /// A sink that got nothing. The numbers of calls count from 0.
     pub fn new(alloc: Global, fails: Vec<u64>, step: usize) -> MemSink
+        // All counts are 0 and nothing is held.
         ensures { result ≡ record { uart = unused fails.items 0; step = step } }
     {
         MemSink {
@@ -64,18 +65,24 @@ impl Sink for MemSink {
     ghost faults = { λ s. s.uart.faults };
 
     fn write(&mut self, piece: &[u8]) -> Result<usize, Failed>
+        // The clauses of the trait, over the bytes that the sink got.
         ensures bound { IfOk result (λ count. count ≤ length piece.now) }
         ensures progress { IfOk result (λ count. 0 < length piece.now → 0 < count) }
         ensures got { TakesPiece result (Some self.old.uart.got) piece.now (Some self.new.uart.got) }
         ensures cause { HasCause result self.old.uart.faults self.new.uart.faults }
+        // It takes its step, or the piece where that is shorter.
         ensures taken { IfOk result (λ count. count ≡ min self.old.step (length piece.now)) }
+        // It fails exactly where it is set to, or out of memory.
         ensures listed { IsListed self.old.uart → IsErr result }
         ensures full { self.old.step ≡ 0 → 0 < length piece.now → IsErr result }
         ensures only { OnErr result (IsRefused self.old piece.now ⊎ Rose self.old.uart.starved self.new.uart.starved) }
+        // `starved` counts no listed call, and no call that succeeds.
         ensures starved { OnOk result (self.new.uart.starved ≡ self.old.uart.starved) }
         ensures refused { IsRefused self.old piece.now → self.new.uart.starved ≡ self.old.uart.starved }
+        // What it was set to stays.
         ensures fails { self.new.uart.fails ≡ self.old.uart.fails }
         ensures step { self.new.step ≡ self.old.step }
+        // Each call is counted.
         ensures calls { self.new.uart.calls ≡ counted self.old.uart.calls }
     {
         let count = piece.len().min(self.step);

@@ -47,6 +47,7 @@ impl Model for MemStore {
 impl MemStore {
     /// A store with no file. The numbers of calls count reads and writes together, from 0.
     pub fn new(alloc: Global, fails: Vec<u64>) -> MemStore
+        // All counts are 0 and nothing is held.
         ensures { result ≡ record {
           files = map.empty;
           fails = fails.items;
@@ -69,6 +70,7 @@ impl MemStore {
 
     /// Makes the file, or replaces the whole of it. This is no call that is counted.
     pub fn put(&mut self, name: &str, bytes: &[u8]) -> Result<(), Memory>
+        // A file is put; after a refusal all is as before.
         ensures stored { OnOk result (self.new ≡ record self.old { files = map.insert self.old.files name.now bytes.now }) }
         ensures unchanged { OnErr result (self.new ≡ self.old) }
     {
@@ -80,6 +82,7 @@ impl MemStore {
 
     /// The bytes of the file.
     pub fn get(&self, name: &str) -> Option<&[u8]>
+        // The bytes of a file, or that there is none.
         ensures { option_copied result ≡ map.get self.now.files name.now }
     {
         let file = self.files.get(name)?;
@@ -111,16 +114,21 @@ impl Store for MemStore {
     ghost calls = { λ s. s.calls };
 
     fn read(&mut self, alloc: Global, name: &str, most: usize) -> Result<Vec<u8>, StoreFault>
+        // Called for fewer than 2^32 bytes.
         requires { most < 2 ^ 32 }
+        // The clauses of the trait, over the files that the store has.
         ensures bytes { IfOk result (λ v. ReadsFile (Some self.old.files) name.now most v.items) }
         ensures absent { IsErrOf result StoreFault.Absent → IsAbsent (Some self.old.files) name.now }
         ensures bound { IfOk result (λ v. vec_len v ≤ most + 1) }
         ensures cause { HasReadCause result self.old.read_faults self.new.read_faults }
         ensures files { self.new.files ≡ self.old.files }
         ensures writes { self.new.write_faults ≡ self.old.write_faults }
+        // It is one call.
         ensures calls { self.new.calls ≡ counted self.old.calls }
+        // Failed comes exactly at the listed reads, and Absent exactly where the file is not there.
         ensures failed { IsErrOf result StoreFault.Failed ↔ Contains self.old.fails self.old.calls }
         ensures missing { IsErrOf result StoreFault.Absent ↔ IsMissing self.old name.now }
+        // What it was set to stays, and so does `starved`.
         ensures fails { self.new.fails ≡ self.old.fails }
         ensures starved { self.new.starved ≡ self.old.starved }
     {
@@ -137,15 +145,21 @@ impl Store for MemStore {
     }
 
     fn write(&mut self, name: &str, bytes: &[u8]) -> Result<(), Failed>
+        // The clauses of the trait, over the files that the store has.
         ensures files { StoresFile result (Some self.old.files) name.now bytes.now (Some self.new.files) }
         ensures cause { HasCause result self.old.write_faults self.new.write_faults }
         ensures reads { self.new.read_faults ≡ self.old.read_faults }
+        // It is one call.
         ensures calls { self.new.calls ≡ counted self.old.calls }
+        // It fails at the listed writes, and otherwise only out of memory.
         ensures listed { Contains self.old.fails self.old.calls → IsErr result }
         ensures only { OnErr result (Contains self.old.fails self.old.calls ⊎ Rose self.old.starved self.new.starved) }
+        // `starved` counts no listed call, and no call that succeeds.
         ensures starved { OnOk result (self.new.starved ≡ self.old.starved) }
         ensures refused { Contains self.old.fails self.old.calls → self.new.starved ≡ self.old.starved }
+        // A failed write leaves the file, too.
         ensures unchanged { OnErr result (self.new.files ≡ self.old.files) }
+        // What it was set to stays.
         ensures fails { self.new.fails ≡ self.old.fails }
     {
         let listed = self.is_listed();

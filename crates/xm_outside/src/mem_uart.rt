@@ -40,6 +40,7 @@ impl Model for MemUart {
 impl MemUart {
     /// A UART that got nothing. The numbers of calls count from 0.
     pub fn new(alloc: Global, fails: Vec<u64>, keep: usize) -> MemUart
+        // All counts are 0 and nothing is held.
         ensures { result ≡ unused fails.items keep }
     {
         MemUart {
@@ -89,15 +90,21 @@ impl Uart for MemUart {
     ghost faults = { λ u. u.faults };
 
     fn write(&mut self, bytes: &[u8]) -> Result<(), Failed>
+        // The clauses of the trait, over the bytes that the UART got.
         ensures got { Receives result (Some self.old.got) bytes.now (Some self.new.got) }
         ensures cause { HasCause result self.old.faults self.new.faults }
+        // It fails at the listed calls, and otherwise only out of memory.
         ensures listed { IsListed self.old → IsErr result }
         ensures only { OnErr result (IsListed self.old ⊎ Rose self.old.starved self.new.starved) }
+        // Of a listed call it keeps the first of the bytes, or nothing where there was no memory for them.
         ensures kept { OnErr result (Keeps self.old bytes.now self.new.got) }
+        // `starved` counts no listed call, and no call that succeeds.
         ensures starved { OnOk result (self.new.starved ≡ self.old.starved) }
         ensures refused { IsListed self.old → self.new.starved ≡ self.old.starved }
+        // What it was set to stays.
         ensures fails { self.new.fails ≡ self.old.fails }
         ensures keep { self.new.keep ≡ self.old.keep }
+        // Each call is counted.
         ensures calls { self.new.calls ≡ counted self.old.calls }
     {
         let listed = self.is_listed();
@@ -117,6 +124,7 @@ impl Uart for MemUart {
     }
 
     fn faulted(&self) -> u64
+        // Its count of faults.
         ensures count { result ≡ self.now.faults }
     {
         self.faults

@@ -17,6 +17,7 @@ pub struct OutSink<W> {
 impl<W: io::Write + Drop> OutSink<W> {
     /// The sink over the writer.
     pub fn new(writer: W) -> OutSink<W>
+        // Its count of faults is 0.
         ensures { ⟦<OutSink<W> as Sink>⟧.faults result ≡ 0 }
     {
         OutSink { writer, faults: 0 }

@@ -37,19 +37,30 @@ pub trait Store {
 
     /// The bytes of a file: all of them where it has at most `most`, else its first `most + 1`.
     fn read(&mut self, alloc: Global, name: &str, most: usize) -> Result<Vec<u8>, StoreFault>
+        // Called for fewer than 2^32 bytes.
         requires { most < 2 ^ 32 }
+        // The whole file, or of a longer one the first `most + 1` bytes.
         ensures bytes { IfOk result (λ v. ReadsFile (files self.old) name.now most v.items) }
+        // Absent comes only where the files of the store are known and none has the name.
         ensures absent { IsErrOf result StoreFault.Absent → IsAbsent (files self.old) name.now }
+        // There are no more bytes than these.
         ensures bound { IfOk result (λ v. vec_len v ≤ most + 1) }
+        // Failed comes only where the count rose, and no other answer moves it.
         ensures cause { HasReadCause result (read_faults self.old) (read_faults self.new) }
+        // A read changes no file and no count of writes.
         ensures files { files self.new ≡ files self.old }
         ensures writes { write_faults self.new ≡ write_faults self.old }
+        // It is one call.
         ensures calls { calls self.new ≡ counted (calls self.old) };
 
     /// Makes the file, or replaces the whole of it. After a fault nothing is said of this file.
     fn write(&mut self, name: &str, bytes: &[u8]) -> Result<(), Failed>
+        // A write replaces the whole file; after a fault all others stand.
         ensures files { StoresFile result (files self.old) name.now bytes.now (files self.new) }
+        // A fault of a write comes only where the count rose.
         ensures cause { HasCause result (write_faults self.old) (write_faults self.new) }
+        // A write changes no count of reads.
         ensures reads { read_faults self.new ≡ read_faults self.old }
+        // It is one call.
         ensures calls { calls self.new ≡ counted (calls self.old) };
 }

@@ -14,6 +14,7 @@ pub struct SureSink;
 impl SureSink {
     /// The sink.
     pub fn new() -> SureSink
+        // Its count of faults is 0.
         ensures { ⟦<SureSink as Sink>⟧.faults result ≡ 0 }
     {
         SureSink
@@ -26,10 +27,12 @@ impl Sink for SureSink {
     ghost faults = { λ _. 0 };
 
     fn write(&mut self, piece: &[u8]) -> Result<usize, Failed>
+        // The clauses of the trait, over a sink that reports nothing and never fails.
         ensures bound { IfOk result (λ count. count ≤ length piece.now) }
         ensures progress { IfOk result (λ count. 0 < length piece.now → 0 < count) }
         ensures got { TakesPiece result None piece.now None }
         ensures cause { HasCause result 0 0 }
+        // It takes all at once.
         ensures all { result ≡ Ok (length piece.now) }
     {
         Ok(piece.len())

@@ -14,6 +14,7 @@ pub struct SureUart;
 impl SureUart {
     /// The UART.
     pub fn new() -> SureUart
+        // Its count of faults is 0.
         ensures { ⟦<SureUart as Uart>⟧.faults result ≡ 0 }
     {
         SureUart
@@ -26,14 +27,17 @@ impl Uart for SureUart {
     ghost faults = { λ _. 0 };
 
     fn write(&mut self, bytes: &[u8]) -> Result<(), Failed>
+        // The clauses of the trait, over a UART that reports nothing and never fails.
         ensures got { Receives result None bytes.now None }
         ensures cause { HasCause result 0 0 }
+        // It takes all.
         ensures all { result ≡ Ok _ }
     {
         Ok(())
     }
 
     fn faulted(&self) -> u64
+        // It counts no fault.
         ensures count { result ≡ 0 }
     {
         0

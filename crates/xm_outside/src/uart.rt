@@ -16,10 +16,13 @@ pub trait Uart: Drop {
 
     /// Takes the bytes. After a fault it has got a prefix of them, which may be all.
     fn write(&mut self, bytes: &[u8]) -> Result<(), Failed>
+        // A UART takes all of the bytes, and after a fault a prefix of them.
         ensures got { Receives result (got self.old) bytes.now (got self.new) }
+        // A fault comes only where the UART's count rose.
         ensures cause { HasCause result (faults self.old) (faults self.new) };
 
     /// How many writes failed.
     fn faulted(&self) -> u64
+        // The count of faults.
         ensures count { result ≡ faults self.now };
 }

@@ -34,6 +34,7 @@ impl Channels {
     /// The channels of a configuration, without a message. All room for messages is taken here: no other call
     /// needs memory.
     pub fn new(alloc: Global, conf: &Conf) -> Result<Channels, Memory>
+        // All channels of a configuration, empty, with room for all that they will hold.
         ensures value { IfOk result (λ table. table ≡ record { shapes = shapes_of conf.now; contents = map empty (shapes_of conf.now) }) }
     {
         let channels = made(alloc, chans_of(conf))?;
@@ -42,8 +43,10 @@ impl Channels {
 
     /// Writes a message to a sampling channel at a time, in microseconds. It replaces the one before.
     pub fn put_sampling(&mut self, chan: u8, bytes: &[u8], now: u64)
+        // Called for a sampling channel and with a message of 1 to as many bytes as the channel says.
         requires channel { HasSampling chan self.old }
         requires bytes { FitsChannel bytes.now chan self.old }
+        // The message is what the sampling channel holds.
         ensures put { self.new ≡ with_content (put now bytes.now) chan self.old }
     {
         self.channels[usize::from(chan)].put_sampling(bytes, now);
@@ -51,9 +54,12 @@ impl Channels {
 
     /// The message that a sampling channel holds, or `None` before the first. It stays.
     pub fn get_sampling(&self, chan: u8) -> Option<Sample<'_>>
+        // Called for a sampling channel.
         requires channel { HasSampling chan self.now }
+        // The message that the sampling channel holds, or none before the first.
         ensures value { result ≡ sample_of (content_at chan self.now) }
         ensures none { IsNone result ↔ (sample_of (content_at chan self.now) ≡ None) }
+        // What holds of the channels at all times.
         ensures kept { IsTable self.now }
     {
         self.channels[usize::from(chan)].last()
@@ -61,8 +67,11 @@ impl Channels {
 
     /// Puts a message at the end of a queue, or answers `Full` where the queue holds as many as it may.
     pub fn send(&mut self, chan: u8, bytes: &[u8]) -> Result<(), Full>
+        // Called for a queue and with a message of 1 to as many bytes as the channel says.
         requires channel { HasQueue chan self.old }
         requires bytes { FitsChannel bytes.now chan self.old }
+        // Refused exactly where the queue is full, and then nothing changed; else the message is its last, at whatever
+        // time.
         ensures full { IsErr result ↔ IsFull chan self.old }
         ensures sent { OnOk result ((now : ℕ) → self.new ≡ with_content (put now bytes.now) chan self.old) }
         ensures unchanged { OnErr result (self.new ≡ self.old) }
@@ -72,9 +81,12 @@ impl Channels {
 
     /// The message that waits longest in a queue, or `None` where none waits. It stays.
     pub fn first(&self, chan: u8) -> Option<&[u8]>
+        // Called for a queue.
         requires channel { HasQueue chan self.now }
+        // The first message of the queue, or none exactly where none waits. It stays.
         ensures value { option_map (λ bytes. bytes.now) result ≡ first_message (content_at chan self.now) }
         ensures none { IsNone result ↔ (first_message (content_at chan self.now) ≡ None) }
+        // What holds of the channels at all times.
         ensures kept { IsTable self.now }
     {
         self.channels[usize::from(chan)].first()
@@ -83,12 +95,16 @@ impl Channels {
     /// Takes the message that waits longest in a queue, copies it to the beginning of `into`, and answers how many bytes
     /// it has; or `None` where none waits.
     pub fn receive(&mut self, chan: u8, into: &mut [u8]) -> Option<usize>
+        // Called for a queue and with room for the first message.
         requires channel { HasQueue chan self.old }
         requires room { IfSome (first_message (content_at chan self.old)) (λ first. length first ≤ length into.old) }
+        // None exactly where no message waits, and then nothing changed.
         ensures none { IsNone result ↔ (first_message (content_at chan self.old) ≡ None) }
         ensures unchanged { IfNone result ((self.new ≡ self.old) × (into.new ≡ into.old)) }
+        // The first message, at the beginning of the bytes that were lent, and its length.
         ensures length { result ≡ option_map length (first_message (content_at chan self.old)) }
         ensures bytes { IfSome (first_message (content_at chan self.old)) (λ first. into.new ≡ first ++ drop (length first) into.old) }
+        // It is taken out of the queue.
         ensures taken { OnSome result (self.new ≡ with_content first_taken chan self.old) }
     {
         self.channels[usize::from(chan)].receive(into)
@@ -96,7 +112,9 @@ impl Channels {
 
     /// How many messages wait in a queue.
     pub fn count(&self, chan: u8) -> usize
+        // Called for a queue.
         requires channel { HasQueue chan self.now }
+        // How many messages wait.
         ensures value { result ≡ length (messages_of (content_at chan self.now)) }
     {
         self.channels[usize::from(chan)].count()
@@ -104,6 +122,7 @@ impl Channels {
 
     /// Drops all messages of all channels.
     pub fn clear(&mut self)
+        // All messages are dropped.
         ensures contents { self.new ≡ all_cleared self.old }
     {
         clear_all(&mut self.channels);

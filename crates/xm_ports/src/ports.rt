@@ -52,6 +52,7 @@ impl Ports {
 
     /// Whether the port of a number is made. A partition has no port of a number above 31.
     pub fn is_made(&self, port: u8) -> bool
+        // Whether the port of a number is, never above 31.
         ensures value { result ≡ is_made port self.now }
         ensures count { length_of self.now ≡ 32 }
     {
@@ -71,7 +72,9 @@ impl Ports {
         length: u32,
         most: u32,
     ) -> Result<u8, CreateFault>
+        // Called for a partition that exists.
         requires { p < length_of conf.now.parts }
+        // The port's number, or the first of the four tests that fails; a refusal changes nothing.
         ensures answer { result ≡ created conf.now p name.now kind way length most self.old }
         ensures made { IfOk result (λ port. self.new ≡ with_port port self.old) }
         ensures unchanged { OnErr result (self.new ≡ self.old) }

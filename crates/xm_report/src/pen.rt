@@ -44,8 +44,11 @@ impl Pen {
 
     /// Writes bytes as they are.
     pub fn text(&mut self, bytes: &[u8])
+        // Called where there is room for the bytes.
         requires { HasRoom self.old (length bytes.now) }
+        // The bytes are written after the text so far.
         ensures value { self.new ≡ self.old ++ bytes.now }
+        // The text grows by no more than their number.
         ensures room { length self.new ≤ length self.old + length bytes.now }
     {
         self.line.try_extend_from_slice(bytes).unwrap();
@@ -63,8 +66,11 @@ impl Pen {
 
     /// Writes a number in decimal.
     pub fn number(&mut self, n: u64)
+        // Called where there is room for a number.
         requires { HasRoom self.old 20 }
+        // The number is written in decimal after the text so far.
         ensures value { self.new ≡ self.old ++ decimal n }
+        // The text grows by no more than 20 bytes.
         ensures room { length self.new ≤ length self.old + 20 }
     {
         let mut buffer = Buffer::new();
@@ -73,8 +79,11 @@ impl Pen {
 
     /// Writes what stands before a number, and the number in decimal.
     pub fn field(&mut self, before: &[u8], n: u64)
+        // Called where there is room for both.
         requires { HasRoom self.old (length before.now + 20) }
+        // The bytes and the number are written after the text so far.
         ensures value { self.new ≡ self.old ++ before.now ++ decimal n }
+        // The text grows by no more than their number and 20.
         ensures room { length self.new ≤ length self.old + (length before.now + 20) }
     {
         self.text(before);
@@ -83,8 +92,11 @@ impl Pen {
 
     /// Writes a word with eight hexadecimal digits.
     pub fn word(&mut self, word: u32)
+        // Called where there is room for a word.
         requires { HasRoom self.old 8 }
+        // The word is written with eight hexadecimal digits after the text so far.
         ensures value { self.new ≡ self.old ++ encode_lower (to_be_bytes w32 word) }
+        // The text grows by no more than 8 bytes.
         ensures room { length self.new ≤ length self.old + 8 }
     {
         let mut digits = [0; 8];

@@ -44,6 +44,7 @@ impl<T: Copy> Ring<T> {
     /// A ring that has no entry, with room for all that it will keep.
     #[tactic(auto, unfolding(crate::specs::Ring::nothing_kept))]
     pub fn new(alloc: Global) -> Result<Ring<T>, Memory>
+        // A ring without entries.
         ensures empty { IfOk result (λ ring. ring ≡ nothing_kept) }
     {
         let entries = HeapCircularBuffer::with_capacity(alloc, RING_ENTRIES)?;
@@ -53,7 +54,9 @@ impl<T: Copy> Ring<T> {
     /// Notes an entry, which takes no memory. Where 64 are kept, the oldest goes.
     #[tactic(auto, unfolding(crate::specs::Ring::noted))]
     pub fn note(&mut self, entry: T)
+        // Called below the last number of an entry.
         requires { self.old.next < 4294967295 }
+        // One more entry, the last of at most 64.
         ensures noted { self.new ≡ noted entry self.old }
     {
         self.entries.push_back(entry);
@@ -63,6 +66,7 @@ impl<T: Copy> Ring<T> {
     /// The entry of a number, or `None` where it is not kept.
     #[tactic(auto, unfolding(crate::specs::Ring::entry_at))]
     pub fn read(&self, seq: u32) -> Option<T>
+        // The entry of a number, none exactly where it is not kept.
         ensures value { result ≡ entry_at seq self.now }
         ensures none { IsNone result ↔ (seq < first_kept self.now) ⊎ (self.now.next ≤ seq) }
     {
@@ -72,6 +76,7 @@ impl<T: Copy> Ring<T> {
 
     /// The numbers of the entries that are kept.
     pub fn counts(&self) -> Counts
+        // The numbers that it has.
         ensures first { result.first ≡ first_kept self.now }
         ensures next { result.next ≡ self.now.next }
         ensures kept { IsKept self.now }

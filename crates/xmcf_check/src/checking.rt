@@ -18,7 +18,10 @@ use xmcf_reader::Draft;
 /// one that breaks it and of the one that it clashes with. A place is how many bytes stand before an element's `<`; the
 /// whole has that of the root. The numbers of the draft are tested as they are written, and never cut.
 pub fn check(alloc: Global, draft: &Draft) -> Result<Conf, CheckFault>
+    // The configuration that the draft describes comes only where it breaks no rule; else the first broken rule is
+    // reported, with the places of the item that breaks it and of the one that it clashes with, or there was no memory.
     ensures verdict { IsVerdict result draft.now }
+    // What is given meets the rules.
     ensures fits { OnOk result (Fits (description_of draft.now)) }
 {
     proof! { broken_unless_fits(); }

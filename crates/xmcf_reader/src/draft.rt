@@ -168,6 +168,8 @@ impl Draft {
 
     /// The elements, in the order of their `<`.
     pub fn entries(&self) -> &[Entry]
+        // The entries of a draft: entry 0 is the root, a parent stands before its children, and each entry has the
+        // children that the table allows and demands.
         ensures entries { result.now ≡ self.now }
         ensures draft { IsDraft self.now }
     {

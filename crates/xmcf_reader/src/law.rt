@@ -16,6 +16,7 @@ pub fn taken()
 /// What a text without a fault gives is a draft: each start tag gives its entry, after its parent, and each entry has the
 /// children that the table allows and demands.
 pub fn drafted()
+    // Law: the draft of a text without a fault is one.
     ensures { FaultlessIsDraft }
 {}
 
@@ -23,5 +24,7 @@ pub fn drafted()
 /// the values of the tag, below the innermost element that is open there, which is found by counting where elements begin and
 /// end.
 pub fn nested()
+    // Law: the entries of a text without a fault are those of its start tags, each with the place and the values of its
+    // tag; the parent is found by counting tags, without a stack.
     ensures { FaultlessIsOfTags }
 {}

@@ -34,7 +34,10 @@ fn read_tokens(alloc: Global, text: &[u8]) -> Result<Draft, ReadFault>
 
 /// Reads an XM_CF text: its draft, or its first fault.
 pub fn read_xmcf(alloc: Global, text: &[u8]) -> Result<Draft, ReadFault>
+    // Called with a text of fewer than 2^32 bytes.
     requires { length text.now < 2 ^ 32 }
+    // A draft comes only where the text has no fault, and is the draft of its tokens; a fault is the text's first one,
+    // by place and then by kind, or out of memory.
     ensures draft { IfOk result (λ draft. (xmcf_fault text.now ≡ None) × (draft ≡ draft_of text.now)) }
     ensures refused { IfErr result (λ found. (found ≡ fault.Memory) ⊎ (xmcf_fault text.now ≡ Some found)) }
 {

@@ -155,6 +155,7 @@ const ELEMENTS: [Word; 29] = [
 impl Word {
     /// The name as a text has it.
     pub fn text(self) -> &'static str
+        // The name of an element or an attribute.
         ensures { result.now ≡ word_text self }
     {
         match self {

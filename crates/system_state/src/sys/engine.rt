@@ -15,6 +15,7 @@ use xm_base::{PartId, State};
 
 /// Whether it is known, without a look at the partitions, that no hardware timer is armed.
 pub fn is_known_untimed(sys: &Sys) -> bool
+    // Where it is known without a look that no timer is armed, none is.
     ensures { OnTrue result (any_timed sys.now.machine.parts ≡ false) }
 {
     sys.untimed
@@ -23,6 +24,7 @@ pub fn is_known_untimed(sys: &Sys) -> bool
 /// Whether the hardware timer of a partition is armed. Where none is, that stays known until a partition's state is lent.
 #[inline(never)]
 pub fn is_timed(sys: &mut Sys) -> bool
+    // Whether the hardware timer of some partition is armed; the look changes nothing.
     ensures value { result ≡ any_timed sys.old.machine.parts }
     ensures unchanged { sys.new ≡ sys.old }
 {
@@ -36,7 +38,9 @@ pub fn is_timed(sys: &mut Sys) -> bool
 /// The interrupts of a tick become pending at a partition: the start of a slot, and those of its timers that are due.
 #[inline(always)]
 pub fn meet(sys: &mut Sys, p: PartId, first: bool)
+    // Called for a partition that exists.
     requires { p < length sys.old.machine.parts }
+    // The interrupts of a tick are pending at the partition, and nothing else changes.
     ensures value { sys.new ≡ with_machine (with_part p (with_interrupts sys.old.machine.time first (part_at p sys.old.machine)) sys.old.machine) sys.old }
 {
     sys.parts[usize::from(p)].meet(sys.time, first);
@@ -45,7 +49,9 @@ pub fn meet(sys: &mut Sys, p: PartId, first: bool)
 /// A partition becomes ready.
 #[inline(always)]
 pub fn wake(sys: &mut Sys, p: PartId)
+    // Called for a partition that exists.
     requires { p < length sys.old.machine.parts }
+    // The partition is ready, and nothing else changes.
     ensures value { sys.new ≡ with_machine (with_part p (awake (part_at p sys.old.machine)) sys.old.machine) sys.old }
 {
     sys.parts[usize::from(p)].state = State::Ready;
@@ -54,9 +60,12 @@ pub fn wake(sys: &mut Sys, p: PartId)
 /// A tick more on a partition's execution clock.
 #[inline(always)]
 pub fn count_tick(sys: &mut Sys, p: PartId)
+    // Called for a partition that exists and with an execution clock below 2^63.
     requires partition { p < length sys.old.machine.parts }
     requires clock { (part_at p sys.old.machine).clocks.execution < 2 ^ 63 }
+    // One tick more counts on the partition's execution clock, and nothing else changes.
     ensures value { sys.new ≡ with_machine (with_part p (clocked (part_at p sys.old.machine)) sys.old.machine) sys.old }
+    // The health log is as before.
     ensures log { (part_at p sys.new.machine).health ≡ (part_at p sys.old.machine).health }
 {
     sys.parts[usize::from(p)].clocks.pass();
@@ -65,8 +74,10 @@ pub fn count_tick(sys: &mut Sys, p: PartId)
 /// So many ticks more on a partition's execution clock.
 #[inline(always)]
 pub fn count_on(sys: &mut Sys, p: PartId, ticks: u64)
+    // Called for a partition that exists and with an execution clock that stays below 2^63.
     requires partition { p < length sys.old.machine.parts }
     requires clock { (part_at p sys.old.machine).clocks.execution + ticks < 2 ^ 63 }
+    // As many ticks more count on the partition's execution clock, and nothing else changes.
     ensures value { sys.new ≡ with_machine (with_part p (counted_on ticks (part_at p sys.old.machine)) sys.old.machine) sys.old }
 {
     sys.parts[usize::from(p)].clocks.pass_many(ticks);
@@ -76,7 +87,9 @@ pub fn count_on(sys: &mut Sys, p: PartId, ticks: u64)
 #[inline(always)]
 #[tactic(auto, unfolding(machine_model::specs::Caller::with_answer))]
 pub fn set_result(sys: &mut Sys, p: PartId, value: u32)
+    // Called for a partition that exists.
     requires { p < length sys.old.machine.parts }
+    // A call of the partition has this result, and nothing else changes.
     ensures value { sys.new ≡ with_machine (with_part p (with_answer value (part_at p sys.old.machine)) sys.old.machine) sys.old }
 {
     sys.parts[usize::from(p)].core.set(OUT_0, value);

@@ -63,6 +63,8 @@ pub fn repeated<T, S: Fn(&T, &T) -> bool, N: Fn(u8) -> Item>(
     clash: S,
     numbered: N,
 ) -> Option<Broken>
+    // Called with at most 255 items before it, with a test that may be called of any two items, and with a name for
+    // each number.
     requires few { length before.now ≤ 255 }
     requires clashes { S.IsAlwaysCallable clash }
     requires numbers { N.IsAlwaysCallable numbered }
