@@ -4,7 +4,7 @@ ghost use Rattle.command_line.specs.Grammar.{CommandsAreSpelled, TicksAreDecimal
 
 /// What is to be typed for a number of ticks, and for each command.
 pub fn grammar()
-    // Law: a word is so many ticks exactly where it is their number in decimal, and not above the limit.
+    // Law: a word says a number of ticks exactly where it is that number in decimal, and not above the limit.
     ensures ticks { TicksAreDecimal }
     // Law: words are a command exactly where they are its command line, what they name is a file, files for partitions
     // are one at most of each kind for each of the numbers up to 31, and a run has one length, and options in any

@@ -4,10 +4,7 @@ use Rattle.std.specs.Prelude.{◌==◌, ◌||◌, not, nat_lt, if◌then◌else�
 use Rattle.std.proofs.lemmas.Bool.{eqb-true}
 use Rattle.machine_model.specs.Caller.{Acts, Caller, Served, Test, Upshot, a_of, b_of, c_of, number_of, room, system_only, target, tested}
 use Rattle.machine_model.specs.Hypercalls.{call_numbered, served}
-use Rattle.machine_model.specs.LogCalls.{hm_read, hm_status, trace_read, trace_status}
 use Rattle.machine_model.specs.Observed.{CurrentPlan, HealthCounts, HealthEntryOf, Observation, PartitionStatus, PlanStatus, SystemStatus, TraceCounts, TraceEntryOf, about_other, about_system, observed_by, observing}
-use Rattle.machine_model.specs.PartitionCalls.{get_partition_status, get_system_status}
-use Rattle.machine_model.specs.TimeCalls.{get_plan_status, switch_sched_plan}
 use Rattle.machine_model.specs.Emission as emission
 use Rattle.machine_model.specs.View.{PartitionView}
 
@@ -22,36 +19,28 @@ tested_mild (Some code ∷ tests) caller comes mild = inl refl
 tested_mild (None ∷ tests) caller comes mild = tested_mild tests caller comes mild
 
 -- the observing calls
-status_mild : (caller : Caller) → Mild (get_partition_status caller).upshot
-unfolding get_partition_status
+status_mild : (caller : Caller) → Mild (call_numbered 8 caller).upshot
 status_mild caller = tested_mild (target caller (a_of caller) ∷ room caller (b_of caller) 20 ∷ []) caller _ (inl refl)
 
-system_mild : (caller : Caller) → Mild (get_system_status caller).upshot
-unfolding get_system_status
+system_mild : (caller : Caller) → Mild (call_numbered 11 caller).upshot
 system_mild caller = tested_mild (system_only caller ∷ room caller (a_of caller) 8 ∷ []) caller _ (inl refl)
 
-plan_mild : (caller : Caller) → Mild (switch_sched_plan caller).upshot
-unfolding switch_sched_plan
+plan_mild : (caller : Caller) → Mild (call_numbered 14 caller).upshot
 plan_mild caller = tested_mild (system_only caller ∷ _ ∷ room caller (b_of caller) 4 ∷ []) caller _ (inr (a_of caller, refl))
 
-clock_mild : (caller : Caller) → Mild (get_plan_status caller).upshot
-unfolding get_plan_status
+clock_mild : (caller : Caller) → Mild (call_numbered 15 caller).upshot
 clock_mild caller = tested_mild (system_only caller ∷ room caller (a_of caller) 20 ∷ []) caller _ (inl refl)
 
-trace_mild : (caller : Caller) → Mild (trace_read caller).upshot
-unfolding trace_read
+trace_mild : (caller : Caller) → Mild (call_numbered 25 caller).upshot
 trace_mild caller = tested_mild (target caller (a_of caller) ∷ _ ∷ room caller (c_of caller) 24 ∷ []) caller _ (inl refl)
 
-traces_mild : (caller : Caller) → Mild (trace_status caller).upshot
-unfolding trace_status
+traces_mild : (caller : Caller) → Mild (call_numbered 26 caller).upshot
 traces_mild caller = tested_mild (target caller (a_of caller) ∷ room caller (b_of caller) 8 ∷ []) caller _ (inl refl)
 
-health_mild : (caller : Caller) → Mild (hm_read caller).upshot
-unfolding hm_read
+health_mild : (caller : Caller) → Mild (call_numbered 28 caller).upshot
 health_mild caller = tested_mild (target caller (a_of caller) ∷ _ ∷ room caller (c_of caller) 20 ∷ []) caller _ (inl refl)
 
-log_mild : (caller : Caller) → Mild (hm_status caller).upshot
-unfolding hm_status
+log_mild : (caller : Caller) → Mild (call_numbered 29 caller).upshot
 log_mild caller = tested_mild (target caller (a_of caller) ∷ room caller (b_of caller) 8 ∷ []) caller _ (inl refl)
 
 -- by their numbers

@@ -12,13 +12,10 @@ use Rattle.machine_model.specs.Hypercalls.{call_numbered, served}
 use Rattle.machine_model.specs.Laws.{HasLength, HasLoads, IsObserving, ObservesAsTested, ShowsItsSize}
 use Rattle.machine_model.specs.Lists.{then_some}
 use Rattle.machine_model.specs.lemmas.LogCallsTerms.{counting, reading}
-use Rattle.machine_model.specs.LogCalls.{hm_read, hm_status, trace_read, trace_status}
 use Rattle.machine_model.specs.Machine.{Machine, answer_to, shown_entry, shown_of}
 use Rattle.machine_model.specs.Observed.{CurrentPlan, HealthCounts, HealthEntryOf, Observation, PartitionStatus, PlanStatus, Question, SystemStatus, TraceCounts, TraceEntryOf, about_other, about_system, observing}
 use Rattle.machine_model.specs.Partition.{PartitionState}
-use Rattle.machine_model.specs.PartitionCalls.{get_partition_status, get_system_status}
 use Rattle.machine_model.specs.Structures.{counts_bytes, health_bytes, partition_status, plan_status, system_status, trace_bytes}
-use Rattle.machine_model.specs.TimeCalls.{get_plan_status, switch_sched_plan}
 use Rattle.machine_model.specs.lemmas.TimeCallsTerms.{is_no_plan}
 use Rattle.machine_model.specs.Emission.{Act, Asked, Nothing, Plans, Words}
 use Rattle.machine_model.specs.View.{PartitionView}
@@ -73,8 +70,7 @@ counting_is : {T : Type 0} (kept : Kept T) (caller : Caller) → caller.view.par
 counting_is kept caller system other = rw (other.own, system, other.there) refl
 
 status_is : (caller : Caller) → caller.view.part.system ≡ true → IsOther caller.view (a_of caller)
-    → get_partition_status caller ≡ tested (room caller (b_of caller) 20 ∷ []) caller (acting Nothing 0 (with_written (b_of caller) (shown caller.sight) caller.state))
-unfolding get_partition_status
+    → call_numbered 8 caller ≡ tested (room caller (b_of caller) 20 ∷ []) caller (acting Nothing 0 (with_written (b_of caller) (shown caller.sight) caller.state))
 status_is caller system other = rw (other.own, system, other.there) refl
 
 -- the observing call with a number, where an entry that is not kept is not shown so
@@ -90,14 +86,14 @@ of_status caller call asking number is =
     subst (TestsRoom caller) asks.same (record { act = Nothing; is = ap (λ n. call_numbered n caller) number ∙ status_is caller asking.system asks.other })
 
 of_system : (caller : Caller) (call : Observation) → Asking caller call → number_of caller ≡ 11 → about_system SystemStatus (a_of caller) 8 ≡ Some call → TestsRoom caller call
-unfolding served get_system_status
+unfolding served
 of_system caller call asking number is =
     subst (TestsRoom caller) (same_Some (record { question = SystemStatus; address = a_of caller; size = 8 }) call is)
     (record { act = Nothing; is = ap (λ n. call_numbered n caller) number ∙ rw asking.system refl })
 
 of_plan : (caller : Caller) (call : Observation) → Asking caller call → number_of caller ≡ 14
     → (if a_of caller == 0 || not (nat_lt (a_of caller) caller.view.sees.plans) then None else about_system CurrentPlan (b_of caller) 4) ≡ Some call → TestsRoom caller call
-unfolding served switch_sched_plan
+unfolding served
 of_plan caller call asking number is = at (is_no_plan caller) refl is
   where
     at : (b : Bool) → is_no_plan caller ≡ b → (if b then None else about_system CurrentPlan (b_of caller) 4) ≡ Some call → TestsRoom caller call
@@ -107,14 +103,14 @@ of_plan caller call asking number is = at (is_no_plan caller) refl is
         (record { act = Plans (Asked (a_of caller)); is = ap (λ n. call_numbered n caller) number ∙ rw (asking.system, plan) refl })
 
 of_plan_status : (caller : Caller) (call : Observation) → Asking caller call → number_of caller ≡ 15 → about_system PlanStatus (a_of caller) 20 ≡ Some call → TestsRoom caller call
-unfolding served get_plan_status
+unfolding served
 of_plan_status caller call asking number is =
     subst (TestsRoom caller) (same_Some (record { question = PlanStatus; address = a_of caller; size = 20 }) call is)
     (record { act = Nothing; is = ap (λ n. call_numbered n caller) number ∙ rw asking.system refl })
 
 of_trace : (caller : Caller) (call : Observation) → Asking caller call → number_of caller ≡ 25
     → about_other caller.view (a_of caller) (TraceEntryOf (a_of caller) (b_of caller)) (c_of caller) 24 ≡ Some call → TestsRoom caller call
-unfolding served trace_read
+unfolding served
 of_trace caller call asking number is =
     let asks = asks_other caller.view (a_of caller) (TraceEntryOf (a_of caller) (b_of caller)) (c_of caller) 24 call is in
     subst (TestsRoom caller) asks.same (record {
@@ -124,14 +120,14 @@ of_trace caller call asking number is =
 
 of_trace_counts : (caller : Caller) (call : Observation) → Asking caller call → number_of caller ≡ 26
     → about_other caller.view (a_of caller) (TraceCounts (a_of caller)) (b_of caller) 8 ≡ Some call → TestsRoom caller call
-unfolding served trace_status
+unfolding served
 of_trace_counts caller call asking number is =
     let asks = asks_other caller.view (a_of caller) (TraceCounts (a_of caller)) (b_of caller) 8 call is in
     subst (TestsRoom caller) asks.same (record { act = Nothing; is = ap (λ n. call_numbered n caller) number ∙ counting_is caller.state.traces caller asking.system asks.other })
 
 of_health : (caller : Caller) (call : Observation) → Asking caller call → number_of caller ≡ 28
     → about_other caller.view (a_of caller) (HealthEntryOf (a_of caller) (b_of caller)) (c_of caller) 20 ≡ Some call → TestsRoom caller call
-unfolding served hm_read
+unfolding served
 of_health caller call asking number is =
     let asks = asks_other caller.view (a_of caller) (HealthEntryOf (a_of caller) (b_of caller)) (c_of caller) 20 call is in
     subst (TestsRoom caller) asks.same (record {
@@ -141,7 +137,7 @@ of_health caller call asking number is =
 
 of_health_counts : (caller : Caller) (call : Observation) → Asking caller call → number_of caller ≡ 29
     → about_other caller.view (a_of caller) (HealthCounts (a_of caller)) (b_of caller) 8 ≡ Some call → TestsRoom caller call
-unfolding served hm_status
+unfolding served
 of_health_counts caller call asking number is =
     let asks = asks_other caller.view (a_of caller) (HealthCounts (a_of caller)) (b_of caller) 8 call is in
     subst (TestsRoom caller) asks.same (record { act = Nothing; is = ap (λ n. call_numbered n caller) number ∙ counting_is caller.state.health caller asking.system asks.other })

@@ -146,7 +146,7 @@ number_of_call FlushRegwin = 37
 number_of_call RaiseIpvi = 38
 
 -- the call of a number, where it is a call's
-unfoldable pub call_of : ℕ → Option Call
+abbrev pub call_of : ℕ → Option Call
 call_of number =
     if number == 1 then Some GetSelf
     else if number == 2 then Some HaltPartition

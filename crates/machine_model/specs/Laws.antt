@@ -6,8 +6,8 @@ use Rattle.sparc_step.specs.Registers.{Registers}
 use Rattle.xm_ports.specs.Channels.{Content}
 use Rattle.xm_traces.specs.Ring.{entry_at}
 use Rattle.machine_model.specs.Alone.{Alone, alone_from, alone_lines, alone_said, alone_start, alone_step, alone_step_lines, alone_step_said}
-use Rattle.machine_model.specs.Caller.{Caller, answering, invalid_parameter, is_not_kept, is_room, number_of, shown, with_answer, with_written}
-use Rattle.machine_model.specs.Calls.{Call, by_call, call_of, number_of_call}
+use Rattle.machine_model.specs.Caller.{Caller, answering, invalid_parameter, is_not_kept, is_room, shown, with_answer, with_written}
+use Rattle.machine_model.specs.Calls.{Call, call_of, number_of_call}
 use Rattle.machine_model.specs.CoreFile.{core_file}
 use Rattle.machine_model.specs.Cue.{cue, script}
 use Rattle.machine_model.specs.Hypercalls.{served}
@@ -146,6 +146,6 @@ TwoRunsEarlier = (one other : System) (p count fewer : ℕ) → fewer ≤ count 
 abbrev pub HasOwnNumber : Type 0
 HasOwnNumber = (call : Call) → call_of (number_of_call call) ≡ Some call
 
--- the outcome of a partition's call is what the call of its number tests and does
-abbrev pub ServesByNumber : Type 0
-ServesByNumber = (caller : Caller) → served caller ≡ by_call (call_of (number_of caller)) caller
+-- and a number has no other call than the one whose number it is
+abbrev pub IsNumberOfCall : Type 0
+IsNumberOfCall = (number : ℕ) (call : Call) → call_of number ≡ Some call → number ≡ number_of_call call

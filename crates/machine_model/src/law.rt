@@ -18,7 +18,7 @@ ghost use Rattle.machine_model.specs.Laws.{
   OwnLines,
   SameCoreFile,
   SeesNothing,
-  ServesByNumber,
+  IsNumberOfCall,
   ShowsItsSize,
   TwoRuns,
   TwoRunsEarlier,
@@ -97,18 +97,17 @@ pub fn acts_within_bounds()
     ensures own { ActsWithinOwn }
 {}
 
-/// Each call has its own number, and the outcome of a partition's call is what the call of its number
-/// tests and does.
-pub fn serves_by_number()
-    // Each of the 38 calls has its own number, and what a partition's call comes to is what the call of that number
-    // tests and does; a number that no call has is answered so.
-    ensures numbers { HasOwnNumber }
-    ensures serves { ServesByNumber }
+/// Each call has its own number, and a number has at most one call.
+pub fn calls_have_numbers()
+    // Each of the 38 calls has its own number, of which it is the call.
+    ensures own { HasOwnNumber }
+    // A number has no other call than the one whose number it is.
+    ensures only { IsNumberOfCall }
 {}
 
 /// The outcome of each effect is within what its partition has, whatever tests its call makes before.
 pub fn effects_act_within_own()
-    // Each effect of a call comes to what is within what its partition has, whatever the call tests before, but that an
+    // The outcome of each effect of a call is within what its partition has, whatever the call tests before, but that an
     // order may be on the partition itself: so would the effect of a further call.
     ensures law { EffectsActWithinOwn }
 {}
@@ -121,7 +120,7 @@ pub fn same_core_file()
 /// Scripts that are equal for this many ticks are equal for fewer, and two runs in which a partition
 /// meets the same script are the same for it after each of their ticks.
 pub fn earlier_ticks()
-    // Scripts that are equal for so many ticks are equal for fewer, and so are two runs in which a partition meets the
+    // Scripts that are equal for a number of ticks are equal for fewer, and so are two runs in which a partition meets the
     // same script.
     ensures scripts { EarlierScripts }
     ensures runs { TwoRunsEarlier }

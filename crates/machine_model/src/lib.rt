@@ -16,10 +16,11 @@ pub use calls::{
     processor_calls, reaching_others, time_calls,
 };
 pub use law::{
-    acts_within_bounds, all_ticks, boots_alone, earlier_ticks, effects_act_within_own, has_own_tag,
-    keeps_facts, keeps_facts_alone, keeps_hardware_clock, keeps_numbers, keeps_plans, keeps_shapes,
-    never_upon_itself, observes_as_tested, one_tick, own_lines, received_as_allowed,
-    same_core_file, scripts_end, sees_nothing, serves_by_number, trades_few_bytes, two_runs,
+    acts_within_bounds, all_ticks, boots_alone, calls_have_numbers, earlier_ticks,
+    effects_act_within_own, has_own_tag, keeps_facts, keeps_facts_alone, keeps_hardware_clock,
+    keeps_numbers, keeps_plans, keeps_shapes, never_upon_itself, observes_as_tested, one_tick,
+    own_lines, received_as_allowed, same_core_file, scripts_end, sees_nothing, trades_few_bytes,
+    two_runs,
 };
 pub use numbers::{Call, call_of, number_of_call};
 pub use rows::{

@@ -47,9 +47,9 @@ pub enum Call {
 }
 
 /// The call of a number, where it is a call's.
-#[tactic(auto, unfolding(crate::specs::Calls::call_of))]
+#[inline(always)]
 pub fn call_of(number: u32) -> Option<Call>
-    // In the code, a call (`Call`) of a number, and the number of a call, are as defined.
+    // The call whose number it is; none where it is no call's.
     ensures { result ≡ call_of number }
 {
     match number {
@@ -97,7 +97,7 @@ pub fn call_of(number: u32) -> Option<Call>
 
 /// The number of a call.
 pub fn number_of_call(call: Call) -> u8
-    // In the code, a call (`Call`) of a number, and the number of a call, are as defined.
+    // The number of the call, 1 to 38.
     ensures { result ≡ number_of_call call }
 {
     call as u8

@@ -32,7 +32,9 @@ use Rattle.xm_traces.specs.Ring.{Kept, entry_at, first_kept, noted}
 use Rattle.xm_traces.specs.declared.entry.TraceEntry.{TraceEntry}
 use Rattle.machine_model.specs.Caller.{Acts, Caller, Meets, Served, Test, Upshot, a_of, acting, answering, b_of, c_of, caller_bytes, d_of, invalid_mode, invalid_parameter, is_not_system, no_action, no_permission, not_allowed, not_available, refused_if, room, shown, system_only, target, tested, text, unknown_call, with_answer, with_written}
 use Rattle.machine_model.specs.lemmas.CallLemmas.{every_call}
-use Rattle.machine_model.specs.Calls.{Call, GetSelf, HaltPartition, ResetPartition, SuspendPartition, ResumePartition, ShutdownPartition, IdleSelf, GetPartitionStatus, HaltSystem, ResetSystem, GetSystemStatus, GetTime, SetTimer, SwitchSchedPlan, GetPlanStatus, CreateSamplingPort, WriteSamplingMessage, ReadSamplingMessage, GetSamplingPortStatus, CreateQueuingPort, SendQueuingMessage, ReceiveQueuingMessage, GetQueuingPortStatus, TraceEvent, TraceRead, TraceStatus, RaiseEvent, HmRead, HmStatus, SetIrqmask, ClearIrqmask, WriteConsole, ReadInput, Iret, SetPsr, SetTbr, FlushRegwin, RaiseIpvi, effect_of_call}
+use Rattle.machine_model.specs.Calls.{effect_of_call}
+use Rattle.machine_model.specs.declared.numbers.Call.{Call}
+use Rattle.machine_model.specs.declared.numbers.Call.TheVariants.{GetSelf, HaltPartition, ResetPartition, SuspendPartition, ResumePartition, ShutdownPartition, IdleSelf, GetPartitionStatus, HaltSystem, ResetSystem, GetSystemStatus, GetTime, SetTimer, SwitchSchedPlan, GetPlanStatus, CreateSamplingPort, WriteSamplingMessage, ReadSamplingMessage, GetSamplingPortStatus, CreateQueuingPort, SendQueuingMessage, ReceiveQueuingMessage, GetQueuingPortStatus, TraceEvent, TraceRead, TraceStatus, RaiseEvent, HmRead, HmStatus, SetIrqmask, ClearIrqmask, WriteConsole, ReadInput, Iret, SetPsr, SetTbr, FlushRegwin, RaiseIpvi}
 use Rattle.machine_model.specs.Effects.{ArmsTimer, CallEffect, ChangesOwn, CreatesPort, DoesToAll, EntersTrace, GivesAnswer, GivesOrder, GoesBack, MeetsEvent, OwnChange, PrintsBytes, PutsBytes, RequestsPlan, SendsSignal, SetsBase, SetsCodes, SetsMask, ShowsPort, ShowsSample, SpillsWindows, TakesMessage, TestedEffect, UsesInput, Waits, Writing, comes_to, performed, putting_bytes, queue_room, right_tests, with_change, with_writings}
 use Rattle.machine_model.specs.Hypercalls.{served}
 use Rattle.machine_model.specs.Lists.{and_then}

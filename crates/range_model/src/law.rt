@@ -26,7 +26,7 @@ pub fn keeps_ranges()
 /// So is what each partition receives: in each tick, and in each cue of its script of a run.
 pub fn cues_are_in_range()
     // A message that a partition receives is bytes, and so is what it is shown, and the status of a reset is a word: in
-    // a tick, in each cue of its script of so many ticks, and from the boot on.
+    // a tick, in each cue of its script of any number of ticks, and from the boot on.
     ensures tick { CuesAreInRange }
     ensures run { ScriptsAreInRange }
     ensures booted { BootedScriptsAreInRange }

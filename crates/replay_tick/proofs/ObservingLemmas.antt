@@ -9,12 +9,9 @@ use Rattle.machine_model.specs.Hypercalls.{call_numbered, served}
 use Rattle.machine_model.specs.Laws.{ObservesAsTested}
 use Rattle.machine_model.specs.Lists.{then_some}
 use Rattle.machine_model.specs.Readings.{entry_seen}
-use Rattle.machine_model.specs.LogCalls.{hm_read, hm_status, trace_read, trace_status}
 use Rattle.machine_model.specs.lemmas.LogCallsTerms.{reading}
 use Rattle.machine_model.specs.Observed.{CurrentPlan, HealthCounts, HealthEntryOf, Observation, PartitionStatus, PlanStatus, Question, SystemStatus, TraceCounts, TraceEntryOf, about_other, about_system, observed_by, observing}
 use Rattle.machine_model.specs.Partition.{PartitionState}
-use Rattle.machine_model.specs.PartitionCalls.{get_partition_status, get_system_status}
-use Rattle.machine_model.specs.TimeCalls.{get_plan_status, switch_sched_plan}
 use Rattle.machine_model.specs.Emission as emission
 use Rattle.machine_model.specs.Emission.{NotKept, Sight, Unseen, Words}
 use Rattle.machine_model.specs.View.{PartitionView}
@@ -73,46 +70,36 @@ misses {T} size bytes kept caller system named seen =
         (answering 0 (with_written (c_of caller) (entry_seen bytes caller kept) caller.state))).after
 
 -- each observing call
-status_mild : (caller : Caller) → IsMild (get_partition_status caller)
-unfolding get_partition_status
+status_mild : (caller : Caller) → IsMild (call_numbered 8 caller)
 status_mild caller = tested_mild (target caller (a_of caller) ∷ room caller (b_of caller) 20 ∷ []) caller _ (record { silent = refl; upshot = inl refl })
 
-system_mild : (caller : Caller) → IsMild (get_system_status caller)
-unfolding get_system_status
+system_mild : (caller : Caller) → IsMild (call_numbered 11 caller)
 system_mild caller = tested_mild (system_only caller ∷ room caller (a_of caller) 8 ∷ []) caller _ (record { silent = refl; upshot = inl refl })
 
-plan_mild : (caller : Caller) → IsMild (switch_sched_plan caller)
-unfolding switch_sched_plan
+plan_mild : (caller : Caller) → IsMild (call_numbered 14 caller)
 plan_mild caller = tested_mild (system_only caller ∷ _ ∷ room caller (b_of caller) 4 ∷ []) caller _ (record { silent = refl; upshot = inr (a_of caller, refl) })
 
-clock_mild : (caller : Caller) → IsMild (get_plan_status caller)
-unfolding get_plan_status
+clock_mild : (caller : Caller) → IsMild (call_numbered 15 caller)
 clock_mild caller = tested_mild (system_only caller ∷ room caller (a_of caller) 20 ∷ []) caller _ (record { silent = refl; upshot = inl refl })
 
-trace_mild : (caller : Caller) → IsMild (trace_read caller)
-unfolding trace_read
+trace_mild : (caller : Caller) → IsMild (call_numbered 25 caller)
 trace_mild caller = tested_mild (target caller (a_of caller) ∷ _ ∷ room caller (c_of caller) 24 ∷ []) caller _ (record { silent = refl; upshot = inl refl })
 
 trace_misses : (caller : Caller) (call : Observation) → caller.view.part.system ≡ true → (not (a_of caller == caller.view.id) && nat_lt (a_of caller) caller.view.sees.parts) ≡ true
-    → Misses caller call (trace_read caller)
-unfolding trace_read
+    → Misses caller call (call_numbered 25 caller)
 trace_misses caller call system named seen entry = misses 24 _ caller.state.traces caller system named seen
 
-traces_mild : (caller : Caller) → IsMild (trace_status caller)
-unfolding trace_status
+traces_mild : (caller : Caller) → IsMild (call_numbered 26 caller)
 traces_mild caller = tested_mild (target caller (a_of caller) ∷ room caller (b_of caller) 8 ∷ []) caller _ (record { silent = refl; upshot = inl refl })
 
-health_mild : (caller : Caller) → IsMild (hm_read caller)
-unfolding hm_read
+health_mild : (caller : Caller) → IsMild (call_numbered 28 caller)
 health_mild caller = tested_mild (target caller (a_of caller) ∷ _ ∷ room caller (c_of caller) 20 ∷ []) caller _ (record { silent = refl; upshot = inl refl })
 
 health_misses : (caller : Caller) (call : Observation) → caller.view.part.system ≡ true → (not (a_of caller == caller.view.id) && nat_lt (a_of caller) caller.view.sees.parts) ≡ true
-    → Misses caller call (hm_read caller)
-unfolding hm_read
+    → Misses caller call (call_numbered 28 caller)
 health_misses caller call system named seen entry = misses 20 _ caller.state.health caller system named seen
 
-log_mild : (caller : Caller) → IsMild (hm_status caller)
-unfolding hm_status
+log_mild : (caller : Caller) → IsMild (call_numbered 29 caller)
 log_mild caller = tested_mild (target caller (a_of caller) ∷ room caller (b_of caller) 8 ∷ []) caller _ (record { silent = refl; upshot = inl refl })
 
 -- by their numbers

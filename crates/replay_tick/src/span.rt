@@ -56,7 +56,7 @@ pub fn span_alone(sys: &mut Sys, lines: &mut Lines, p: PartId, own: bool, most: 
     requires some { 0 < most }
     requires more { sys.old.machine.ticks + most ≤ 4000000000 }
     requires empty { lines.old ≡ [] }
-    // Many ticks, one at least and so many at most, in each of which the partition receives nothing but whether a slot
+    // Many ticks, at least one and at most this many, in each of which the partition receives nothing but whether a slot
     // of its own runs: all but the last could be taken, printed and wrote nothing, and left what the partition alone
     // makes of as many cues; the last is as that of `tick_alone`.
     ensures some { 0 < result.ticks }

@@ -101,7 +101,7 @@ impl Engine {
         requires some { 0 < most }
         requires ticks { sys.old.machine.ticks + most ≤ TICKS }
         requires empty { lines.old ≡ [] }
-        // Ticks, so many at most, over the ends of slots and gaps, up to the first with output, or that reaches beyond
+        // Ticks, at most this many, over the ends of slots and gaps, up to the first with output, or that reaches beyond
         // its partition: the system is that of as many defined ticks; none but the last has lines, and these are its
         // lines but for one of bytes for a console, which its note names and which still stand in its partition's
         // memory; the span says whether the act of the last ends a stretch.
@@ -127,7 +127,7 @@ impl Engine {
     pub fn cue(&self, conf: &Conf, p: PartId) -> Cue<'_>
         // Called for a partition that exists.
         requires { p < length conf.now.parts }
-        // What a partition was told in that tick.
+        // What reached a partition in that tick.
         ensures { cue_value result ≡ kept_cue conf.now self.now p }
     {
         let bytes = &self.bytes[..self.size];

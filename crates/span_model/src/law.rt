@@ -75,7 +75,7 @@ pub fn undisturbed_ticks()
 
 /// The ticks that are left of a slot or gap are of it, too, after a part of them was done.
 pub fn slot_goes_on()
-    // Each of so many ticks of one slot or gap ends a span; after a part of a span the rest is one, too, in the same
+    // Each of these ticks of one slot or gap ends a span; after a part of a span the rest is one, too, in the same
     // gap, or in the slot of the same partition, which does not begin.
     ensures left { LeftAreSpan }
     ensures span { SpanGoesOn }
@@ -101,7 +101,7 @@ pub fn late_machine()
 /// A tick of a machine is its passes, one after the other: the work of the partition whose slot it is, its traffic, its order on another,
 /// a hypervisor event, the rest of all others, and the clocks.
 pub fn tick_in_passes()
-    // Where the machine has not halted and the slot's partition came to some work, whose act keeps within its bounds
+    // Where the machine has not halted and the slot's partition did some work, whose act keeps within its bounds
     // and orders only a partition that there is, the tick's state and lines are its passes, one after the other: the
     // work, its traffic, its order on another, a hypervisor event, the rest of all others, and the clocks; so it is in
     // the tick after a span.

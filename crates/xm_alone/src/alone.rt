@@ -135,7 +135,7 @@ impl Alone {
         requires fits { TakesAll (own_view self.old) script.now }
         // A replay of a script that fits leaves of the partition what it is alone under these cues, and the hypervisor
         // halted where the last of them halts it; its lines and that of its end went out, and its console bytes were
-        // written. Where the sink failed, so many of the cues were done, their console bytes were written, and a prefix
+        // written. Where the sink failed, that many of the cues were done, their console bytes were written, and a prefix
         // of the same lines went out: the last of these cues is the one whose lines were cut, or the last of all.
         ensures replay { IsReplay result script.now (replay_lines (own_view self.old) script.now) self.old self.new (O.got out.old) (O.got out.new) (⟦<Board as ViewBoard>⟧.board_view board.old) (⟦<Board as ViewBoard>⟧.board_view board.new) }
         // A replay is answered by a fault only where the sink's count of faults rose, and nothing else of it moves that

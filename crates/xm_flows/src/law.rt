@@ -33,7 +33,7 @@ pub fn rounds_find_groups()
 pub fn closed_runs()
     // Law: two systems that meet the rules are the same for a set of partitions, which is closed in both: each member
     // has the same things of its own, and frames, slots of members, channels with an end at a member and links to
-    // members are the same. Where each of so many ticks steers the set alike in both runs, they agree on it after these
+    // members are the same. Where each of these ticks steers the set alike in both runs, they agree on it after these
     // ticks: on states, channels, counts, clocks, the plan and its frame; and each member has printed the same lines
     // and written the same console bytes.
     ensures law { ClosedRunsAlike }

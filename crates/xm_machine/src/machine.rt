@@ -201,7 +201,7 @@ impl Machine {
         requires running { self.old.state.halted ≡ false }
         requires some { 0 < most }
         requires most { self.old.state.ticks + most ≤ TICKS }
-        // A stretch: its ticks are those of the slot or gap, so many at most, up to and with the first whose act is
+        // A stretch: its ticks are those of the slot or gap, at most this many, up to and with the first whose act is
         // neither none nor a message put or taken, and exactly the least of these; the state is that of as many defined
         // steps, and their lines went out; after `WriteFault` the ticks done are the first of these, the last of them
         // whole, and a prefix of their lines went out.
@@ -331,7 +331,7 @@ impl Machine {
         requires running { self.old.state.halted ≡ false }
         requires some { 0 < most }
         requires more { self.old.state.ticks + most ≤ TICKS }
-        // Many ticks of one partition in isolation, one at least and so many at most, in each of which it receives
+        // Many ticks of one partition in isolation, at least one and at most this many, in each of which it receives
         // nothing but whether a slot of its own runs: all but the last could be taken, printed and wrote nothing, and
         // left what the partition alone makes of as many cues; the last answers as `Machine::step_alone` does.
         ensures some { 0 < result.ticks }
