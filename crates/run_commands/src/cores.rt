@@ -61,9 +61,12 @@ pub(crate) fn write_cores<'a, S: Store>(
 ) -> Result<(), Ending<'a>>
     requires inside { AreForPartitions (length machine.now.state.parts) (seen_files cores) }
     requires room { FitInto machine.now.state.system (length room.old) (seen_files cores) }
-    ensures { (got : Option (List ℕ)) (faults : ℕ) → AreSaved result (core_outputs machine.now.state (seen_files cores.entry))
-        (outside (S.files files.old) (S.read_faults files.old) (S.write_faults files.old) (S.calls files.old) got faults)
-        (outside (S.files files.new) (S.read_faults files.new) (S.write_faults files.new) (S.calls files.new) got faults) }
+    ensures { (got : Option (List ℕ)) (faults : ℕ)
+        → AreSaved result (core_outputs machine.now.state (seen_files cores.entry))
+        (outside (S.files files.old) (S.read_faults files.old) (S.write_faults files.old) (S.calls files.old)
+        got faults)
+        (outside (S.files files.new) (S.read_faults files.new) (S.write_faults files.new) (S.calls files.new)
+        got faults) }
 {
     let mut rest = cores;
     while let Some((first, others)) = rest.split_first() {
@@ -85,9 +88,12 @@ fn write_core<S: Store>(
 ) -> Result<(), Failed>
     requires inside { (seen_file named).part < length machine.now.state.parts }
     requires room { core_length_of (view_of machine.now.state.system (seen_file named).part) ≤ length room.old }
-    ensures saved { (got : Option (List ℕ)) (faults : ℕ) → Saves result (core_output machine.now.state (seen_file named.entry))
-        (outside (S.files files.old) (S.read_faults files.old) (S.write_faults files.old) (S.calls files.old) got faults)
-        (outside (S.files files.new) (S.read_faults files.new) (S.write_faults files.new) (S.calls files.new) got faults) }
+    ensures saved { (got : Option (List ℕ)) (faults : ℕ)
+        → Saves result (core_output machine.now.state (seen_file named.entry))
+        (outside (S.files files.old) (S.read_faults files.old) (S.write_faults files.old) (S.calls files.old)
+        got faults)
+        (outside (S.files files.new) (S.read_faults files.new) (S.write_faults files.new) (S.calls files.new)
+        got faults) }
     ensures room { length room.new ≡ length room.old }
 {
     let bytes = &mut room[..machine.core_length(named.part)];

@@ -25,7 +25,8 @@ pub(crate) fn inputs_for<'a>(
     contents: &[Vec<u8>],
 ) -> Result<Inputs, Ending<'a>>
     requires { first_long (file_names (inputs_in (seen_options options))) (map vector_bytes contents.now) ≡ None }
-    ensures value { MakesOr (λ inputs. inputs) result (inputs_for parts (seen_options options.entry) (map vector_bytes contents.now)) }
+    ensures value { MakesOr (λ inputs. inputs) result
+        (inputs_for parts (seen_options options.entry) (map vector_bytes contents.now)) }
     ensures count { IfOk result (λ inputs. length inputs ≡ parts) }
     ensures cores { OnOk result (AreForPartitions parts (cores_in (seen_options options.entry))) }
     ensures scripts { OnOk result (AreForPartitions parts (scripts_in (seen_options options.entry))) }
@@ -78,7 +79,8 @@ fn read_inputs<'a>(
 ) -> Result<Inputs, Ending<'a>>
     requires short { first_long (file_names (seen_files files)) (map vector_bytes contents.now) ≡ None }
     requires inside { AreForPartitions parts (seen_files files) }
-    ensures value { MakesOr (λ inputs. inputs) result (inputs_with (no_inputs parts) (seen_files files.entry) (map vector_bytes contents.now)) }
+    ensures value { MakesOr (λ inputs. inputs) result
+        (inputs_with (no_inputs parts) (seen_files files.entry) (map vector_bytes contents.now)) }
     ensures count { IfOk result (λ inputs. length inputs ≡ parts) }
 {
     let mut inputs = match Inputs::new(alloc, parts) {
@@ -103,7 +105,8 @@ fn give<'a>(inputs: &mut Inputs, named: PartFile<'a>, bytes: &[u8]) -> Result<()
     requires inside { (seen_file named).part < length inputs.old }
     requires short { length bytes.now < 2 ^ 34 }
     ensures given { OnOk result (inputs_with inputs.old (seen_file named.entry ∷ []) (bytes.now ∷ []) ≡ Ok inputs.new) }
-    ensures refused { IfErr result (λ ending. IsDenied (ending_of ending) (inputs_with inputs.old (seen_file named.entry ∷ []) (bytes.now ∷ []))) }
+    ensures refused { IfErr result
+        (λ ending. IsDenied (ending_of ending) (inputs_with inputs.old (seen_file named.entry ∷ []) (bytes.now ∷ []))) }
 {
     match inputs.set(named.part, bytes) {
         Ok(()) => Ok(()),

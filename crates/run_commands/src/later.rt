@@ -28,9 +28,12 @@ pub(crate) fn write_later<'a, S: Store>(
 ) -> Result<(), Ending<'a>>
     requires inside { AreForPartitions (length machine.now.state.parts) (seen_files cores) }
     requires room { FitInto machine.now.state.system (length room.old) (seen_files cores) }
-    ensures { (got : Option (List ℕ)) (faults : ℕ) → AreSaved result (core_outputs machine.now.state (seen_files cores.entry) ++ map made_output scripts.now)
-        (outside (S.files files.old) (S.read_faults files.old) (S.write_faults files.old) (S.calls files.old) got faults)
-        (outside (S.files files.new) (S.read_faults files.new) (S.write_faults files.new) (S.calls files.new) got faults) }
+    ensures { (got : Option (List ℕ)) (faults : ℕ)
+        → AreSaved result (core_outputs machine.now.state (seen_files cores.entry) ++ map made_output scripts.now)
+        (outside (S.files files.old) (S.read_faults files.old) (S.write_faults files.old) (S.calls files.old)
+        got faults)
+        (outside (S.files files.new) (S.read_faults files.new) (S.write_faults files.new) (S.calls files.new)
+        got faults) }
 {
     match write_cores(machine, cores, room, files) {
         Ok(()) => write_scripts(scripts, files),
@@ -42,7 +45,8 @@ pub(crate) fn write_later<'a, S: Store>(
 pub fn ended<'a>(saved: Result<(), Ending<'a>>, board: &Board) -> Ending<'a>
     // A run whose files after its report were all written ends well where no place is marked, else with the lowest
     // place that is; where one was not, by that.
-    ensures { (outputs : List Output) (before after : Outside) → AreSaved saved.entry outputs before after → EndsAfter (ending_of result) outputs (⟦<Board as ViewBoard>⟧.board_view board.now) before after }
+    ensures { (outputs : List Output) (before after : Outside) → AreSaved saved.entry outputs before after
+        → EndsAfter (ending_of result) outputs (⟦<Board as ViewBoard>⟧.board_view board.now) before after }
 {
     match saved {
         Ok(()) => heard(board),

@@ -43,15 +43,25 @@ pub(crate) fn ready_run<'a>(
     system: &System,
 ) -> Result<ReadyRun<'a>, Ending<'a>>
     requires most { count_of (span_in (seen_options options)) ≤ TICKS }
-    requires short { first_long (file_names (inputs_in (seen_options options))) (drop 1 (map vector_bytes contents.now)) ≡ None }
+    requires short { first_long (file_names (inputs_in (seen_options options))) (drop 1 (map vector_bytes contents.now))
+        ≡ None }
     requires same { unpacked (content 0 (map vector_bytes contents.now)) ≡ Ok system.now }
     ensures value { IsReadyFor result (seen_options options.entry) system.now
-        (ran_with container.now (seen_options options.entry) system.now (inputs_for (length system.now.conf.parts) (seen_options options.entry) (drop 1 (map vector_bytes contents.now)))) }
+        (ran_with container.now (seen_options options.entry) system.now
+        (inputs_for (length system.now.conf.parts) (seen_options options.entry)
+        (drop 1 (map vector_bytes contents.now)))) }
     ensures most { IfOk result (λ ready. ready.ticks ≤ TICKS) }
     ensures given { IfOk result (λ ready. length ready.inputs ≡ length system.now.conf.parts) }
-    ensures inside { OnOk result (AreForPartitions (length system.now.conf.parts) (cores_in (seen_options options.entry))) }
-    ensures numbers { (inputs : List (List ℕ)) → inputs_for (length system.now.conf.parts) (seen_options options.entry) (drop 1 (map vector_bytes contents.now)) ≡ Ok inputs
-        → IfOk result (λ _. AllReceiveNumbers (with_inputs system.now inputs) (ticks_asked (span_in (seen_options options.entry)) system.now.conf) (scripts_in (seen_options options.entry))) }
+    ensures inside { OnOk result
+        (AreForPartitions (length system.now.conf.parts) (cores_in (seen_options options.entry))) }
+    ensures numbers { (inputs : List (List ℕ))
+        → inputs_for (length system.now.conf.parts) (seen_options options.entry)
+        (drop 1 (map vector_bytes contents.now))
+        ≡ Ok inputs
+        → IfOk result
+        (λ _. AllReceiveNumbers (with_inputs system.now inputs)
+        (ticks_asked (span_in (seen_options options.entry)) system.now.conf)
+        (scripts_in (seen_options options.entry))) }
 {
     let (_, words) = split_contents(contents);
     match inputs_for(alloc, part_count(system.conf()), options, words) {
@@ -71,14 +81,21 @@ fn ready_with<'a>(
     inputs: Inputs,
 ) -> Result<ReadyRun<'a>, Ending<'a>>
     requires most { count_of (span_in (seen_options options)) ≤ TICKS }
-    requires short { first_long (file_names (inputs_in (seen_options options))) (drop 1 (map vector_bytes contents.now)) ≡ None }
+    requires short { first_long (file_names (inputs_in (seen_options options))) (drop 1 (map vector_bytes contents.now))
+        ≡ None }
     requires same { unpacked (content 0 (map vector_bytes contents.now)) ≡ Ok system.now }
-    requires inputs { inputs_for (length system.now.conf.parts) (seen_options options) (drop 1 (map vector_bytes contents.now)) ≡ Ok inputs }
+    requires inputs { inputs_for (length system.now.conf.parts) (seen_options options)
+        (drop 1 (map vector_bytes contents.now))
+        ≡ Ok inputs }
     requires scripts { AreForPartitions (length system.now.conf.parts) (scripts_in (seen_options options)) }
-    ensures value { IsReadyFor result (seen_options options.entry) system.now (ran_within container.now (seen_options options.entry) system.now inputs) }
+    ensures value { IsReadyFor result (seen_options options.entry) system.now
+        (ran_within container.now (seen_options options.entry) system.now inputs) }
     ensures most { IfOk result (λ ready. ready.ticks ≤ TICKS) }
     ensures same { IfOk result (λ ready. ready.inputs ≡ inputs) }
-    ensures numbers { IfOk result (λ _. AllReceiveNumbers (with_inputs system.now inputs) (ticks_asked (span_in (seen_options options.entry)) system.now.conf) (scripts_in (seen_options options.entry))) }
+    ensures numbers { IfOk result
+        (λ _. AllReceiveNumbers (with_inputs system.now inputs)
+        (ticks_asked (span_in (seen_options options.entry)) system.now.conf)
+        (scripts_in (seen_options options.entry))) }
 {
     let asked = ticks_asked(options.span(), system.conf());
     if asked > TICKS {

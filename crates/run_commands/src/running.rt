@@ -43,8 +43,10 @@ pub fn run_file<'a, S: Store, O: Sink>(
     // The run of a raw image results in what is defined of the contents, or the call ends where it could not; what the
     // board of UARTs holds is by the same ending and contents.
     ensures accounted { HasAccount (ending_of result) (Some (Bare image.now ticks))
-        (outside (S.files files.old) (S.read_faults files.old) (S.write_faults files.old) (S.calls files.old) (O.got out.old) (O.faults out.old))
-        (outside (S.files files.new) (S.read_faults files.new) (S.write_faults files.new) (S.calls files.new) (O.got out.new) (O.faults out.new))
+        (outside (S.files files.old) (S.read_faults files.old) (S.write_faults files.old) (S.calls files.old)
+        (O.got out.old) (O.faults out.old))
+        (outside (S.files files.new) (S.read_faults files.new) (S.write_faults files.new) (S.calls files.new)
+        (O.got out.new) (O.faults out.new))
         (⟦<Board as ViewBoard>⟧.board_view board.old) (⟦<Board as ViewBoard>⟧.board_view board.new) }
 {
     match read_file(alloc, image, files) {
@@ -65,9 +67,13 @@ fn run_bytes<'a, S: Store, O: Sink>(
 ) -> Ending<'a>
     requires { ticks ≤ TICKS }
     ensures comes { Comes (ending_of result) (outcome_of (Bare image.now ticks) (bytes.now ∷ []))
-        (outside (S.files files.old) (S.read_faults files.old) (S.write_faults files.old) (S.calls files.old) (O.got out.old) (O.faults out.old))
-        (outside (S.files files.new) (S.read_faults files.new) (S.write_faults files.new) (S.calls files.new) (O.got out.new) (O.faults out.new)) }
-    ensures board { LeavesBoard (ending_of result) (outcome_of (Bare image.now ticks) (bytes.now ∷ [])).run (O.got out.old) (O.got out.new) (⟦<Board as ViewBoard>⟧.board_view board.old) (⟦<Board as ViewBoard>⟧.board_view board.new) }
+        (outside (S.files files.old) (S.read_faults files.old) (S.write_faults files.old) (S.calls files.old)
+        (O.got out.old) (O.faults out.old))
+        (outside (S.files files.new) (S.read_faults files.new) (S.write_faults files.new) (S.calls files.new)
+        (O.got out.new) (O.faults out.new)) }
+    ensures board { LeavesBoard (ending_of result) (outcome_of (Bare image.now ticks) (bytes.now ∷ [])).run
+        (O.got out.old) (O.got out.new)
+        (⟦<Board as ViewBoard>⟧.board_view board.old) (⟦<Board as ViewBoard>⟧.board_view board.new) }
 {
     if bytes.len() > FILE_BYTES {
         return Ending::Refused {
@@ -110,10 +116,16 @@ pub(crate) fn run_system<'a, S: Store, O: Sink>(
     requires most { ticks ≤ TICKS }
     requires given { length inputs ≡ length system.conf.parts }
     requires inside { AreForPartitions (length system.conf.parts) (seen_files cores) }
-    ensures comes { Comes (ending_of result) (outcome_of_run ticks (seen_files cores.entry) (map made_output scripts.now) system inputs)
-        (outside (S.files files.old) (S.read_faults files.old) (S.write_faults files.old) (S.calls files.old) (O.got out.old) (O.faults out.old))
-        (outside (S.files files.new) (S.read_faults files.new) (S.write_faults files.new) (S.calls files.new) (O.got out.new) (O.faults out.new)) }
-    ensures board { LeavesBoard (ending_of result) (outcome_of_run ticks (seen_files cores.entry) (map made_output scripts.now) system inputs).run (O.got out.old) (O.got out.new) (⟦<Board as ViewBoard>⟧.board_view board.old) (⟦<Board as ViewBoard>⟧.board_view board.new) }
+    ensures comes { Comes (ending_of result)
+        (outcome_of_run ticks (seen_files cores.entry) (map made_output scripts.now) system inputs)
+        (outside (S.files files.old) (S.read_faults files.old) (S.write_faults files.old) (S.calls files.old)
+        (O.got out.old) (O.faults out.old))
+        (outside (S.files files.new) (S.read_faults files.new) (S.write_faults files.new) (S.calls files.new)
+        (O.got out.new) (O.faults out.new)) }
+    ensures board { LeavesBoard (ending_of result)
+        (outcome_of_run ticks (seen_files cores.entry) (map made_output scripts.now) system inputs).run
+        (O.got out.old) (O.got out.new)
+        (⟦<Board as ViewBoard>⟧.board_view board.old) (⟦<Board as ViewBoard>⟧.board_view board.new) }
 {
     proof! { keeps_numbers(); }
     match Machine::boot(alloc, system, inputs) {
@@ -141,11 +153,17 @@ fn run_booted<'a, S: Store, O: Sink>(
     requires running { machine.old.state.halted ≡ false }
     requires inside { AreForPartitions (length machine.old.state.parts) (seen_files cores) }
     ensures comes { (system : Loaded) (inputs : List (List ℕ)) → machine.old.state ≡ start (with_inputs system inputs)
-        → Comes (ending_of result) (outcome_of_run ticks (seen_files cores.entry) (map made_output scripts.now) system inputs)
-        (outside (S.files files.old) (S.read_faults files.old) (S.write_faults files.old) (S.calls files.old) (O.got out.old) (O.faults out.old))
-        (outside (S.files files.new) (S.read_faults files.new) (S.write_faults files.new) (S.calls files.new) (O.got out.new) (O.faults out.new)) }
+        → Comes (ending_of result)
+        (outcome_of_run ticks (seen_files cores.entry) (map made_output scripts.now) system inputs)
+        (outside (S.files files.old) (S.read_faults files.old) (S.write_faults files.old) (S.calls files.old)
+        (O.got out.old) (O.faults out.old))
+        (outside (S.files files.new) (S.read_faults files.new) (S.write_faults files.new) (S.calls files.new)
+        (O.got out.new) (O.faults out.new)) }
     ensures board { (system : Loaded) (inputs : List (List ℕ)) → machine.old.state ≡ start (with_inputs system inputs)
-        → LeavesBoard (ending_of result) (outcome_of_run ticks (seen_files cores.entry) (map made_output scripts.now) system inputs).run (O.got out.old) (O.got out.new) (⟦<Board as ViewBoard>⟧.board_view board.old) (⟦<Board as ViewBoard>⟧.board_view board.new) }
+        → LeavesBoard (ending_of result)
+        (outcome_of_run ticks (seen_files cores.entry) (map made_output scripts.now) system inputs).run
+        (O.got out.old) (O.got out.new)
+        (⟦<Board as ViewBoard>⟧.board_view board.old) (⟦<Board as ViewBoard>⟧.board_view board.new) }
 {
     match core_room(alloc, machine, cores) {
         Ok(mut room) => run_into(ticks, cores, scripts, machine, &mut room, files, out, board),
@@ -170,11 +188,17 @@ fn run_into<'a, S: Store, O: Sink>(
     requires inside { AreForPartitions (length machine.old.state.parts) (seen_files cores) }
     requires room { FitInto machine.old.state.system (length room.old) (seen_files cores) }
     ensures comes { (system : Loaded) (inputs : List (List ℕ)) → machine.old.state ≡ start (with_inputs system inputs)
-        → Comes (ending_of result) (outcome_of_run ticks (seen_files cores.entry) (map made_output scripts.now) system inputs)
-        (outside (S.files files.old) (S.read_faults files.old) (S.write_faults files.old) (S.calls files.old) (O.got out.old) (O.faults out.old))
-        (outside (S.files files.new) (S.read_faults files.new) (S.write_faults files.new) (S.calls files.new) (O.got out.new) (O.faults out.new)) }
+        → Comes (ending_of result)
+        (outcome_of_run ticks (seen_files cores.entry) (map made_output scripts.now) system inputs)
+        (outside (S.files files.old) (S.read_faults files.old) (S.write_faults files.old) (S.calls files.old)
+        (O.got out.old) (O.faults out.old))
+        (outside (S.files files.new) (S.read_faults files.new) (S.write_faults files.new) (S.calls files.new)
+        (O.got out.new) (O.faults out.new)) }
     ensures board { (system : Loaded) (inputs : List (List ℕ)) → machine.old.state ≡ start (with_inputs system inputs)
-        → LeavesBoard (ending_of result) (outcome_of_run ticks (seen_files cores.entry) (map made_output scripts.now) system inputs).run (O.got out.old) (O.got out.new) (⟦<Board as ViewBoard>⟧.board_view board.old) (⟦<Board as ViewBoard>⟧.board_view board.new) }
+        → LeavesBoard (ending_of result)
+        (outcome_of_run ticks (seen_files cores.entry) (map made_output scripts.now) system inputs).run
+        (O.got out.old) (O.got out.new)
+        (⟦<Board as ViewBoard>⟧.board_view board.old) (⟦<Board as ViewBoard>⟧.board_view board.new) }
 {
     proof! { keeps_numbers(); }
     board.begin();

@@ -49,13 +49,22 @@ pub(crate) fn make_scripts<'a>(
     system: &System,
 ) -> Result<Vec<MadeScript<'a>>, Ending<'a>>
     requires most { ticks ≤ TICKS }
-    requires short { first_long (file_names (inputs_in (seen_options options))) (drop 1 (map vector_bytes contents.now)) ≡ None }
+    requires short { first_long (file_names (inputs_in (seen_options options))) (drop 1 (map vector_bytes contents.now))
+        ≡ None }
     requires same { unpacked (content 0 (map vector_bytes contents.now)) ≡ Ok system.now }
     requires inside { AreForPartitions (length system.now.conf.parts) (scripts_in (seen_options options)) }
-    ensures numbers { (inputs : List (List ℕ)) → inputs_for (length system.now.conf.parts) (seen_options options.entry) (drop 1 (map vector_bytes contents.now)) ≡ Ok inputs
-        → IfOk result (λ _. AllReceiveNumbers (with_inputs system.now inputs) ticks (scripts_in (seen_options options.entry))) }
-    ensures made { (inputs : List (List ℕ)) → inputs_for (length system.now.conf.parts) (seen_options options.entry) (drop 1 (map vector_bytes contents.now)) ≡ Ok inputs
-        → MakesOr made_outputs result (scripts_for (with_inputs system.now inputs) ticks (scripts_in (seen_options options.entry))) }
+    ensures numbers { (inputs : List (List ℕ))
+        → inputs_for (length system.now.conf.parts) (seen_options options.entry)
+        (drop 1 (map vector_bytes contents.now))
+        ≡ Ok inputs
+        → IfOk result
+        (λ _. AllReceiveNumbers (with_inputs system.now inputs) ticks (scripts_in (seen_options options.entry))) }
+    ensures made { (inputs : List (List ℕ))
+        → inputs_for (length system.now.conf.parts) (seen_options options.entry)
+        (drop 1 (map vector_bytes contents.now))
+        ≡ Ok inputs
+        → MakesOr made_outputs result
+        (scripts_for (with_inputs system.now inputs) ticks (scripts_in (seen_options options.entry))) }
 {
     let mut made = Vec::new(alloc);
     let mut rest = options.scripts();
@@ -75,7 +84,8 @@ pub(crate) fn make_scripts<'a>(
 
 // Puts a script after others.
 fn put_made<'a>(made: &mut Vec<MadeScript<'a>>, script: MadeScript<'a>) -> Result<(), Memory>
-    ensures { OnOk result (map made_output made.new.items ≡ map made_output made.old.items ++ made_output script.entry ∷ []) }
+    ensures { OnOk result
+        (map made_output made.new.items ≡ map made_output made.old.items ++ made_output script.entry ∷ []) }
 {
     match made.push(script) {
         Ok(()) => Ok(()),
@@ -93,13 +103,22 @@ fn make_script<'a>(
     named: PartFile<'a>,
 ) -> Result<MadeScript<'a>, Ending<'a>>
     requires most { ticks ≤ TICKS }
-    requires short { first_long (file_names (inputs_in (seen_options options))) (drop 1 (map vector_bytes contents.now)) ≡ None }
+    requires short { first_long (file_names (inputs_in (seen_options options))) (drop 1 (map vector_bytes contents.now))
+        ≡ None }
     requires same { unpacked (content 0 (map vector_bytes contents.now)) ≡ Ok system.now }
     requires inside { (seen_file named).part < length system.now.conf.parts }
-    ensures numbers { (inputs : List (List ℕ)) → inputs_for (length system.now.conf.parts) (seen_options options.entry) (drop 1 (map vector_bytes contents.now)) ≡ Ok inputs
+    ensures numbers { (inputs : List (List ℕ))
+        → inputs_for (length system.now.conf.parts) (seen_options options.entry)
+        (drop 1 (map vector_bytes contents.now))
+        ≡ Ok inputs
         → IfOk result (λ _. ReceivesNumbers (with_inputs system.now inputs) ticks (seen_file named.entry).part) }
-    ensures made { (inputs : List (List ℕ)) → inputs_for (length system.now.conf.parts) (seen_options options.entry) (drop 1 (map vector_bytes contents.now)) ≡ Ok inputs
-        → MakesOr made_output result (script_or (script_denial (with_inputs system.now inputs) ticks (seen_file named.entry)) (script_output (with_inputs system.now inputs) ticks (seen_file named.entry))) }
+    ensures made { (inputs : List (List ℕ))
+        → inputs_for (length system.now.conf.parts) (seen_options options.entry)
+        (drop 1 (map vector_bytes contents.now))
+        ≡ Ok inputs
+        → MakesOr made_output result
+        (script_or (script_denial (with_inputs system.now inputs) ticks (seen_file named.entry))
+        (script_output (with_inputs system.now inputs) ticks (seen_file named.entry))) }
 {
     match made_again(alloc, options, contents, system) {
         Ok((system, inputs)) => script_or_ending(
@@ -118,10 +137,14 @@ fn made_again(
     contents: &[Vec<u8>],
     system: &System,
 ) -> Result<(System, Inputs), Memory>
-    requires short { first_long (file_names (inputs_in (seen_options options))) (drop 1 (map vector_bytes contents.now)) ≡ None }
+    requires short { first_long (file_names (inputs_in (seen_options options))) (drop 1 (map vector_bytes contents.now))
+        ≡ None }
     requires same { unpacked (content 0 (map vector_bytes contents.now)) ≡ Ok system.now }
     ensures system { IfOk result (λ again. again.0 ≡ system.now) }
-    ensures inputs { IfOk result (λ again. inputs_for (length system.now.conf.parts) (seen_options options.entry) (drop 1 (map vector_bytes contents.now)) ≡ Ok again.1) }
+    ensures inputs { IfOk result
+        (λ again. inputs_for (length system.now.conf.parts) (seen_options options.entry)
+        (drop 1 (map vector_bytes contents.now))
+        ≡ Ok again.1) }
     ensures count { IfOk result (λ again. length again.1 ≡ length system.now.conf.parts) }
 {
     let (bytes, words) = split_contents(contents);
@@ -140,9 +163,13 @@ fn script_or_ending<'a>(
     file: &'a str,
     script: Result<Vec<u8>, ScriptFault>,
 ) -> Result<MadeScript<'a>, Ending<'a>>
-    ensures numbers { (system : Booted) (ticks : ℕ) (part : ℕ) → IfOk script (λ _. ReceivesNumbers system ticks part) → IfOk result (λ _. ReceivesNumbers system ticks part) }
-    ensures made { (system : Booted) (ticks : ℕ) (part : ℕ) → IsScriptFile vector_bytes (script_bytes system ticks part) script
-        → MakesOr made_output result (script_or (script_denial system ticks (record { part = part; file = file.now })) (script_output system ticks (record { part = part; file = file.now }))) }
+    ensures numbers { (system : Booted) (ticks : ℕ) (part : ℕ) → IfOk script (λ _. ReceivesNumbers system ticks part)
+        → IfOk result (λ _. ReceivesNumbers system ticks part) }
+    ensures made { (system : Booted) (ticks : ℕ) (part : ℕ)
+        → IsScriptFile vector_bytes (script_bytes system ticks part) script
+        → MakesOr made_output result
+        (script_or (script_denial system ticks (record { part = part; file = file.now }))
+        (script_output system ticks (record { part = part; file = file.now }))) }
 {
     match script {
         Ok(bytes) => Ok(MadeScript { file, bytes }),
@@ -155,9 +182,12 @@ pub(crate) fn write_scripts<'a, S: Store>(
     scripts: &[MadeScript<'a>],
     files: &mut S,
 ) -> Result<(), Ending<'a>>
-    ensures { (got : Option (List ℕ)) (faults : ℕ) → AreSaved result (map made_output scripts.now)
-        (outside (S.files files.old) (S.read_faults files.old) (S.write_faults files.old) (S.calls files.old) got faults)
-        (outside (S.files files.new) (S.read_faults files.new) (S.write_faults files.new) (S.calls files.new) got faults) }
+    ensures { (got : Option (List ℕ)) (faults : ℕ)
+        → AreSaved result (map made_output scripts.now)
+        (outside (S.files files.old) (S.read_faults files.old) (S.write_faults files.old) (S.calls files.old)
+        got faults)
+        (outside (S.files files.new) (S.read_faults files.new) (S.write_faults files.new) (S.calls files.new)
+        got faults) }
 {
     for script in scripts {
         match write_script(script, files) {
@@ -170,9 +200,12 @@ pub(crate) fn write_scripts<'a, S: Store>(
 
 // Writes a script.
 fn write_script<S: Store>(script: &MadeScript<'_>, files: &mut S) -> Result<(), Failed>
-    ensures { (got : Option (List ℕ)) (faults : ℕ) → Saves result (made_output script.now)
-        (outside (S.files files.old) (S.read_faults files.old) (S.write_faults files.old) (S.calls files.old) got faults)
-        (outside (S.files files.new) (S.read_faults files.new) (S.write_faults files.new) (S.calls files.new) got faults) }
+    ensures { (got : Option (List ℕ)) (faults : ℕ)
+        → Saves result (made_output script.now)
+        (outside (S.files files.old) (S.read_faults files.old) (S.write_faults files.old) (S.calls files.old)
+        got faults)
+        (outside (S.files files.new) (S.read_faults files.new) (S.write_faults files.new) (S.calls files.new)
+        got faults) }
 {
     files.write(script.file, &script.bytes)
 }

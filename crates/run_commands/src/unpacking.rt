@@ -44,11 +44,14 @@ pub fn run_container<'a, S: Store, O: Sink>(
     // A container is run with the files that its options name: it results in what is defined of the contents, or the
     // call ends where it could not; what the board of UARTs holds is by the same ending and contents.
     ensures accounted { HasAccount (ending_of result) (Some (Run container.now (seen_options options.entry)))
-        (outside (S.files files.old) (S.read_faults files.old) (S.write_faults files.old) (S.calls files.old) (O.got out.old) (O.faults out.old))
-        (outside (S.files files.new) (S.read_faults files.new) (S.write_faults files.new) (S.calls files.new) (O.got out.new) (O.faults out.new))
+        (outside (S.files files.old) (S.read_faults files.old) (S.write_faults files.old) (S.calls files.old)
+        (O.got out.old) (O.faults out.old))
+        (outside (S.files files.new) (S.read_faults files.new) (S.write_faults files.new) (S.calls files.new)
+        (O.got out.new) (O.faults out.new))
         (⟦<Board as ViewBoard>⟧.board_view board.old) (⟦<Board as ViewBoard>⟧.board_view board.new) }
     // A run that made its scripts: what its partitions received is bytes and words, where it has numbers of them.
-    ensures numbers { HasScripts (ending_of result) → ReceivesOf container.now (seen_options options.entry) (S.files files.old) }
+    ensures numbers { HasScripts (ending_of result)
+        → ReceivesOf container.now (seen_options options.entry) (S.files files.old) }
 {
     match read_files(alloc, container, options.inputs(), files) {
         Ok(contents) => run_files(alloc, container, options, &contents, files, out, board),
@@ -67,11 +70,18 @@ fn run_files<'a, S: Store, O: Sink>(
     board: &mut Board,
 ) -> Ending<'a>
     requires { count_of (span_in (seen_options options)) ≤ TICKS }
-    ensures comes { Comes (ending_of result) (outcome_of (Run container.now (seen_options options.entry)) (map vector_bytes contents.now))
-        (outside (S.files files.old) (S.read_faults files.old) (S.write_faults files.old) (S.calls files.old) (O.got out.old) (O.faults out.old))
-        (outside (S.files files.new) (S.read_faults files.new) (S.write_faults files.new) (S.calls files.new) (O.got out.new) (O.faults out.new)) }
-    ensures board { LeavesBoard (ending_of result) (outcome_of (Run container.now (seen_options options.entry)) (map vector_bytes contents.now)).run (O.got out.old) (O.got out.new) (⟦<Board as ViewBoard>⟧.board_view board.old) (⟦<Board as ViewBoard>⟧.board_view board.new) }
-    ensures numbers { HasScripts (ending_of result) → ReceivesShort container.now (seen_options options.entry) (map vector_bytes contents.now) }
+    ensures comes { Comes (ending_of result)
+        (outcome_of (Run container.now (seen_options options.entry)) (map vector_bytes contents.now))
+        (outside (S.files files.old) (S.read_faults files.old) (S.write_faults files.old) (S.calls files.old)
+        (O.got out.old) (O.faults out.old))
+        (outside (S.files files.new) (S.read_faults files.new) (S.write_faults files.new) (S.calls files.new)
+        (O.got out.new) (O.faults out.new)) }
+    ensures board { LeavesBoard (ending_of result)
+        (outcome_of (Run container.now (seen_options options.entry)) (map vector_bytes contents.now)).run
+        (O.got out.old) (O.got out.new)
+        (⟦<Board as ViewBoard>⟧.board_view board.old) (⟦<Board as ViewBoard>⟧.board_view board.new) }
+    ensures numbers { HasScripts (ending_of result)
+        → ReceivesShort container.now (seen_options options.entry) (map vector_bytes contents.now) }
 {
     match first_long(container, options.inputs(), contents) {
         Some(file) => Ending::Refused {
@@ -93,13 +103,23 @@ fn run_packed<'a, S: Store, O: Sink>(
     board: &mut Board,
 ) -> Ending<'a>
     requires most { count_of (span_in (seen_options options)) ≤ TICKS }
-    requires short { first_long (container.now ∷ file_names (inputs_in (seen_options options))) (map vector_bytes contents.now) ≡ None }
-    ensures comes { Comes (ending_of result) (run_outcome container.now (seen_options options.entry) (content 0 (map vector_bytes contents.now)) (drop 1 (map vector_bytes contents.now)))
-        (outside (S.files files.old) (S.read_faults files.old) (S.write_faults files.old) (S.calls files.old) (O.got out.old) (O.faults out.old))
-        (outside (S.files files.new) (S.read_faults files.new) (S.write_faults files.new) (S.calls files.new) (O.got out.new) (O.faults out.new)) }
-    ensures board { LeavesBoard (ending_of result) (run_outcome container.now (seen_options options.entry) (content 0 (map vector_bytes contents.now)) (drop 1 (map vector_bytes contents.now))).run (O.got out.old) (O.got out.new)
+    requires short { first_long (container.now ∷ file_names (inputs_in (seen_options options)))
+        (map vector_bytes contents.now)
+        ≡ None }
+    ensures comes { Comes (ending_of result)
+        (run_outcome container.now (seen_options options.entry) (content 0 (map vector_bytes contents.now))
+        (drop 1 (map vector_bytes contents.now)))
+        (outside (S.files files.old) (S.read_faults files.old) (S.write_faults files.old) (S.calls files.old)
+        (O.got out.old) (O.faults out.old))
+        (outside (S.files files.new) (S.read_faults files.new) (S.write_faults files.new) (S.calls files.new)
+        (O.got out.new) (O.faults out.new)) }
+    ensures board { LeavesBoard (ending_of result)
+        (run_outcome container.now (seen_options options.entry) (content 0 (map vector_bytes contents.now))
+        (drop 1 (map vector_bytes contents.now))).run
+        (O.got out.old) (O.got out.new)
         (⟦<Board as ViewBoard>⟧.board_view board.old) (⟦<Board as ViewBoard>⟧.board_view board.new) }
-    ensures numbers { HasScripts (ending_of result) → ReceivesIn (seen_options options.entry) (map vector_bytes contents.now) }
+    ensures numbers { HasScripts (ending_of result)
+        → ReceivesIn (seen_options options.entry) (map vector_bytes contents.now) }
 {
     let (bytes, _) = split_contents(contents);
     match unpack(alloc, bytes) {
@@ -122,16 +142,27 @@ fn run_unpacked<'a, S: Store, O: Sink>(
     board: &mut Board,
 ) -> Ending<'a>
     requires most { count_of (span_in (seen_options options)) ≤ TICKS }
-    requires short { first_long (file_names (inputs_in (seen_options options))) (drop 1 (map vector_bytes contents.now)) ≡ None }
+    requires short { first_long (file_names (inputs_in (seen_options options))) (drop 1 (map vector_bytes contents.now))
+        ≡ None }
     requires same { unpacked (content 0 (map vector_bytes contents.now)) ≡ Ok system }
     ensures comes { Comes (ending_of result)
-        (ran_with container.now (seen_options options.entry) system (inputs_for (length system.conf.parts) (seen_options options.entry) (drop 1 (map vector_bytes contents.now))))
-        (outside (S.files files.old) (S.read_faults files.old) (S.write_faults files.old) (S.calls files.old) (O.got out.old) (O.faults out.old))
-        (outside (S.files files.new) (S.read_faults files.new) (S.write_faults files.new) (S.calls files.new) (O.got out.new) (O.faults out.new)) }
+        (ran_with container.now (seen_options options.entry) system
+        (inputs_for (length system.conf.parts) (seen_options options.entry) (drop 1 (map vector_bytes contents.now))))
+        (outside (S.files files.old) (S.read_faults files.old) (S.write_faults files.old) (S.calls files.old)
+        (O.got out.old) (O.faults out.old))
+        (outside (S.files files.new) (S.read_faults files.new) (S.write_faults files.new) (S.calls files.new)
+        (O.got out.new) (O.faults out.new)) }
     ensures board { LeavesBoard (ending_of result)
-        (ran_with container.now (seen_options options.entry) system (inputs_for (length system.conf.parts) (seen_options options.entry) (drop 1 (map vector_bytes contents.now)))).run (O.got out.old) (O.got out.new) (⟦<Board as ViewBoard>⟧.board_view board.old) (⟦<Board as ViewBoard>⟧.board_view board.new) }
-    ensures numbers { HasScripts (ending_of result) → (inputs : List (List ℕ)) → inputs_for (length system.conf.parts) (seen_options options.entry) (drop 1 (map vector_bytes contents.now)) ≡ Ok inputs
-        → AllReceiveNumbers (with_inputs system inputs) (ticks_asked (span_in (seen_options options.entry)) system.conf) (scripts_in (seen_options options.entry)) }
+        (ran_with container.now (seen_options options.entry) system
+        (inputs_for (length system.conf.parts) (seen_options options.entry)
+        (drop 1 (map vector_bytes contents.now)))).run
+        (O.got out.old) (O.got out.new)
+        (⟦<Board as ViewBoard>⟧.board_view board.old) (⟦<Board as ViewBoard>⟧.board_view board.new) }
+    ensures numbers { HasScripts (ending_of result) → (inputs : List (List ℕ))
+        → inputs_for (length system.conf.parts) (seen_options options.entry) (drop 1 (map vector_bytes contents.now))
+        ≡ Ok inputs
+        → AllReceiveNumbers (with_inputs system inputs) (ticks_asked (span_in (seen_options options.entry)) system.conf)
+        (scripts_in (seen_options options.entry)) }
 {
     match ready_run(alloc, container, options, contents, &system) {
         Ok(ready) => run_ready(alloc, ready, options.cores(), system, files, out, board),
@@ -152,10 +183,18 @@ fn run_ready<'a, S: Store, O: Sink>(
     requires most { ready.ticks ≤ TICKS }
     requires given { length ready.inputs ≡ length system.conf.parts }
     requires inside { AreForPartitions (length system.conf.parts) (seen_files cores) }
-    ensures comes { Comes (ending_of result) (outcome_of_run ready.entry.ticks (seen_files cores.entry) (map made_output ready.entry.scripts.items) system ready.entry.inputs)
-        (outside (S.files files.old) (S.read_faults files.old) (S.write_faults files.old) (S.calls files.old) (O.got out.old) (O.faults out.old))
-        (outside (S.files files.new) (S.read_faults files.new) (S.write_faults files.new) (S.calls files.new) (O.got out.new) (O.faults out.new)) }
-    ensures board { LeavesBoard (ending_of result) (outcome_of_run ready.entry.ticks (seen_files cores.entry) (map made_output ready.entry.scripts.items) system ready.entry.inputs).run (O.got out.old) (O.got out.new) (⟦<Board as ViewBoard>⟧.board_view board.old) (⟦<Board as ViewBoard>⟧.board_view board.new) }
+    ensures comes { Comes (ending_of result)
+        (outcome_of_run ready.entry.ticks (seen_files cores.entry) (map made_output ready.entry.scripts.items)
+        system ready.entry.inputs)
+        (outside (S.files files.old) (S.read_faults files.old) (S.write_faults files.old) (S.calls files.old)
+        (O.got out.old) (O.faults out.old))
+        (outside (S.files files.new) (S.read_faults files.new) (S.write_faults files.new) (S.calls files.new)
+        (O.got out.new) (O.faults out.new)) }
+    ensures board { LeavesBoard (ending_of result)
+        (outcome_of_run ready.entry.ticks (seen_files cores.entry) (map made_output ready.entry.scripts.items)
+        system ready.entry.inputs).run
+        (O.got out.old) (O.got out.new)
+        (⟦<Board as ViewBoard>⟧.board_view board.old) (⟦<Board as ViewBoard>⟧.board_view board.new) }
 {
     let ReadyRun {
         ticks,

@@ -15,7 +15,8 @@ use xm_outside::Sink;
 /// Generates a system from a number, runs it, and reports its run.
 #[tactic(auto, unfolding(file_commands::specs::Outcome::outcome_of))]
 pub(crate) fn generate<'a, O: Sink>(alloc: Global, number: u32, out: &mut O) -> Ending<'a>
-    ensures { Reports (ending_of result) (outcome_of (Generate number) []) (O.got out.old) (O.faults out.old) (O.got out.new) (O.faults out.new) }
+    ensures { Reports (ending_of result) (outcome_of (Generate number) []) (O.got out.old) (O.faults out.old)
+        (O.got out.new) (O.faults out.new) }
 {
     match run_lines(alloc, number) {
         Ok(text) => report(&text, out),

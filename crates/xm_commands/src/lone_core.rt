@@ -17,7 +17,8 @@ use xm_outside::{Failed, Store};
 
 /// Room for the core file of a partition, where it is to be written.
 pub(crate) fn lone_room(alloc: Global, alone: &Alone, core: Option<&str>) -> Result<Vec<u8>, Memory>
-    ensures { IfOk result (λ room. HasCoreRoom (option_copied core.entry) (core_length_of (own_view alone.now)) (length room.items)) }
+    ensures { IfOk result
+        (λ room. HasCoreRoom (option_copied core.entry) (core_length_of (own_view alone.now)) (length room.items)) }
 {
     match core {
         Some(_) => {
@@ -36,9 +37,12 @@ pub(crate) fn write_lone_core<'a, S: Store>(
     files: &mut S,
 ) -> Result<(), Ending<'a>>
     requires { HasCoreRoom (option_copied core) (core_length_of (own_view alone.now)) (length room.old) }
-    ensures { (got : Option (List ℕ)) (faults : ℕ) → AreSaved result (map (lone_output alone.now) (name_if_any (option_copied core.entry)))
-        (outside (S.files files.old) (S.read_faults files.old) (S.write_faults files.old) (S.calls files.old) got faults)
-        (outside (S.files files.new) (S.read_faults files.new) (S.write_faults files.new) (S.calls files.new) got faults) }
+    ensures { (got : Option (List ℕ)) (faults : ℕ)
+        → AreSaved result (map (lone_output alone.now) (name_if_any (option_copied core.entry)))
+        (outside (S.files files.old) (S.read_faults files.old) (S.write_faults files.old) (S.calls files.old)
+        got faults)
+        (outside (S.files files.new) (S.read_faults files.new) (S.write_faults files.new) (S.calls files.new)
+        got faults) }
 {
     let Some(file) = core else {
         return Ok(());
@@ -57,9 +61,12 @@ fn write_core<S: Store>(
     files: &mut S,
 ) -> Result<(), Failed>
     requires { length room.old ≡ core_length_of (own_view alone.now) }
-    ensures { (got : Option (List ℕ)) (faults : ℕ) → Saves result (lone_output alone.now file.now)
-        (outside (S.files files.old) (S.read_faults files.old) (S.write_faults files.old) (S.calls files.old) got faults)
-        (outside (S.files files.new) (S.read_faults files.new) (S.write_faults files.new) (S.calls files.new) got faults) }
+    ensures { (got : Option (List ℕ)) (faults : ℕ)
+        → Saves result (lone_output alone.now file.now)
+        (outside (S.files files.old) (S.read_faults files.old) (S.write_faults files.old) (S.calls files.old)
+        got faults)
+        (outside (S.files files.new) (S.read_faults files.new) (S.write_faults files.new) (S.calls files.new)
+        got faults) }
 {
     alone.core_into(room);
     files.write(file, room)

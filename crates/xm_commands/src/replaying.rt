@@ -43,9 +43,12 @@ pub(crate) fn replay_container<'a, S: Store, O: Sink>(
     out: &mut O,
     board: &mut Board,
 ) -> Ending<'a>
-    ensures accounted { HasAccount (ending_of result) (Some (ReplayPart container.now part script.now (seen_further further.entry)))
-        (outside (S.files files.old) (S.read_faults files.old) (S.write_faults files.old) (S.calls files.old) (O.got out.old) (O.faults out.old))
-        (outside (S.files files.new) (S.read_faults files.new) (S.write_faults files.new) (S.calls files.new) (O.got out.new) (O.faults out.new))
+    ensures accounted { HasAccount (ending_of result)
+        (Some (ReplayPart container.now part script.now (seen_further further.entry)))
+        (outside (S.files files.old) (S.read_faults files.old) (S.write_faults files.old) (S.calls files.old)
+        (O.got out.old) (O.faults out.old))
+        (outside (S.files files.new) (S.read_faults files.new) (S.write_faults files.new) (S.calls files.new)
+        (O.got out.new) (O.faults out.new))
         (⟦<Board as ViewBoard>⟧.board_view board.old) (⟦<Board as ViewBoard>⟧.board_view board.new) }
 {
     match read_three(alloc, container, script, further.input(), files) {
@@ -68,10 +71,18 @@ fn replay_files<'a, S: Store, O: Sink>(
     out: &mut O,
     board: &mut Board,
 ) -> Ending<'a>
-    ensures comes { Comes (ending_of result) (outcome_of (ReplayPart container.now part script.now (seen_further further.entry)) (map vector_bytes contents.now))
-        (outside (S.files files.old) (S.read_faults files.old) (S.write_faults files.old) (S.calls files.old) (O.got out.old) (O.faults out.old))
-        (outside (S.files files.new) (S.read_faults files.new) (S.write_faults files.new) (S.calls files.new) (O.got out.new) (O.faults out.new)) }
-    ensures board { LeavesBoard (ending_of result) (outcome_of (ReplayPart container.now part script.now (seen_further further.entry)) (map vector_bytes contents.now)).run (O.got out.old) (O.got out.new) (⟦<Board as ViewBoard>⟧.board_view board.old) (⟦<Board as ViewBoard>⟧.board_view board.new) }
+    ensures comes { Comes (ending_of result)
+        (outcome_of (ReplayPart container.now part script.now (seen_further further.entry))
+        (map vector_bytes contents.now))
+        (outside (S.files files.old) (S.read_faults files.old) (S.write_faults files.old) (S.calls files.old)
+        (O.got out.old) (O.faults out.old))
+        (outside (S.files files.new) (S.read_faults files.new) (S.write_faults files.new) (S.calls files.new)
+        (O.got out.new) (O.faults out.new)) }
+    ensures board { LeavesBoard (ending_of result)
+        (outcome_of (ReplayPart container.now part script.now (seen_further further.entry))
+        (map vector_bytes contents.now)).run
+        (O.got out.old) (O.got out.new)
+        (⟦<Board as ViewBoard>⟧.board_view board.old) (⟦<Board as ViewBoard>⟧.board_view board.new) }
 {
     match first_long_of_three(container, script, further.input(), contents) {
         Some(file) => Ending::Refused {
@@ -97,11 +108,22 @@ fn replay_short<'a, S: Store, O: Sink>(
     out: &mut O,
     board: &mut Board,
 ) -> Ending<'a>
-    requires { first_long (container.now ∷ script.now ∷ name_if_any (replay_input (seen_further further))) (map vector_bytes contents.now) ≡ None }
-    ensures comes { Comes (ending_of result) (replay_outcome container.now part script.now (seen_further further.entry) (content 0 (map vector_bytes contents.now)) (content 1 (map vector_bytes contents.now)) (input_bytes (replay_input (seen_further further.entry)) (content 2 (map vector_bytes contents.now))))
-        (outside (S.files files.old) (S.read_faults files.old) (S.write_faults files.old) (S.calls files.old) (O.got out.old) (O.faults out.old))
-        (outside (S.files files.new) (S.read_faults files.new) (S.write_faults files.new) (S.calls files.new) (O.got out.new) (O.faults out.new)) }
-    ensures board { LeavesBoard (ending_of result) (replay_outcome container.now part script.now (seen_further further.entry) (content 0 (map vector_bytes contents.now)) (content 1 (map vector_bytes contents.now)) (input_bytes (replay_input (seen_further further.entry)) (content 2 (map vector_bytes contents.now)))).run (O.got out.old) (O.got out.new)
+    requires { first_long (container.now ∷ script.now ∷ name_if_any (replay_input (seen_further further)))
+        (map vector_bytes contents.now)
+        ≡ None }
+    ensures comes { Comes (ending_of result)
+        (replay_outcome container.now part script.now (seen_further further.entry)
+        (content 0 (map vector_bytes contents.now)) (content 1 (map vector_bytes contents.now))
+        (input_bytes (replay_input (seen_further further.entry)) (content 2 (map vector_bytes contents.now))))
+        (outside (S.files files.old) (S.read_faults files.old) (S.write_faults files.old) (S.calls files.old)
+        (O.got out.old) (O.faults out.old))
+        (outside (S.files files.new) (S.read_faults files.new) (S.write_faults files.new) (S.calls files.new)
+        (O.got out.new) (O.faults out.new)) }
+    ensures board { LeavesBoard (ending_of result)
+        (replay_outcome container.now part script.now (seen_further further.entry)
+        (content 0 (map vector_bytes contents.now)) (content 1 (map vector_bytes contents.now))
+        (input_bytes (replay_input (seen_further further.entry)) (content 2 (map vector_bytes contents.now)))).run
+        (O.got out.old) (O.got out.new)
         (⟦<Board as ViewBoard>⟧.board_view board.old) (⟦<Board as ViewBoard>⟧.board_view board.new) }
 {
     match ready_by(alloc, part, further.input(), contents) {
@@ -118,7 +140,9 @@ fn ready_by(
     contents: &[Vec<u8>],
 ) -> Result<Replay, Unready>
     requires { length (input_bytes (option_copied input) (content 2 (map vector_bytes contents.now))) ≤ FILE_BYTES }
-    ensures { Readies result (replay_of (content 0 (map vector_bytes contents.now)) part (content 1 (map vector_bytes contents.now)) (input_bytes (option_copied input.entry) (content 2 (map vector_bytes contents.now)))) }
+    ensures { Readies result
+        (replay_of (content 0 (map vector_bytes contents.now)) part (content 1 (map vector_bytes contents.now))
+        (input_bytes (option_copied input.entry) (content 2 (map vector_bytes contents.now)))) }
 {
     let (bytes, others) = split_contents(contents);
     let (received, more) = split_contents(others);
@@ -147,9 +171,13 @@ fn play_owned<'a, S: Store, O: Sink>(
 ) -> Ending<'a>
     requires { IsReady replay.silent replay.alone replay.script }
     ensures comes { Comes (ending_of result) (played (option_copied core.entry) (ready_of replay.alone replay.script))
-        (outside (S.files files.old) (S.read_faults files.old) (S.write_faults files.old) (S.calls files.old) (O.got out.old) (O.faults out.old))
-        (outside (S.files files.new) (S.read_faults files.new) (S.write_faults files.new) (S.calls files.new) (O.got out.new) (O.faults out.new)) }
-    ensures board { LeavesBoard (ending_of result) (played (option_copied core.entry) (ready_of replay.alone replay.script)).run (O.got out.old) (O.got out.new) (⟦<Board as ViewBoard>⟧.board_view board.old) (⟦<Board as ViewBoard>⟧.board_view board.new) }
+        (outside (S.files files.old) (S.read_faults files.old) (S.write_faults files.old) (S.calls files.old)
+        (O.got out.old) (O.faults out.old))
+        (outside (S.files files.new) (S.read_faults files.new) (S.write_faults files.new) (S.calls files.new)
+        (O.got out.new) (O.faults out.new)) }
+    ensures board { LeavesBoard (ending_of result)
+        (played (option_copied core.entry) (ready_of replay.alone replay.script)).run (O.got out.old) (O.got out.new)
+        (⟦<Board as ViewBoard>⟧.board_view board.old) (⟦<Board as ViewBoard>⟧.board_view board.new) }
 {
     let Replay {
         mut alone,
@@ -172,9 +200,13 @@ fn play_ready<'a, S: Store, O: Sink>(
 ) -> Ending<'a>
     requires { IsReady silent alone.old script.now }
     ensures comes { Comes (ending_of result) (played (option_copied core.entry) (ready_of alone.old script.now))
-        (outside (S.files files.old) (S.read_faults files.old) (S.write_faults files.old) (S.calls files.old) (O.got out.old) (O.faults out.old))
-        (outside (S.files files.new) (S.read_faults files.new) (S.write_faults files.new) (S.calls files.new) (O.got out.new) (O.faults out.new)) }
-    ensures board { LeavesBoard (ending_of result) (played (option_copied core.entry) (ready_of alone.old script.now)).run (O.got out.old) (O.got out.new) (⟦<Board as ViewBoard>⟧.board_view board.old) (⟦<Board as ViewBoard>⟧.board_view board.new) }
+        (outside (S.files files.old) (S.read_faults files.old) (S.write_faults files.old) (S.calls files.old)
+        (O.got out.old) (O.faults out.old))
+        (outside (S.files files.new) (S.read_faults files.new) (S.write_faults files.new) (S.calls files.new)
+        (O.got out.new) (O.faults out.new)) }
+    ensures board { LeavesBoard (ending_of result)
+        (played (option_copied core.entry) (ready_of alone.old script.now)).run (O.got out.old) (O.got out.new)
+        (⟦<Board as ViewBoard>⟧.board_view board.old) (⟦<Board as ViewBoard>⟧.board_view board.new) }
 {
     match lone_room(alloc, alone, core) {
         Ok(mut room) => play_into(alone, script, silent, core, &mut room, files, out, board),
@@ -196,9 +228,13 @@ fn play_into<'a, S: Store, O: Sink>(
     requires ready { IsReady silent alone.old script.now }
     requires room { HasCoreRoom (option_copied core) (core_length_of (own_view alone.old)) (length room.old) }
     ensures comes { Comes (ending_of result) (played (option_copied core.entry) (ready_of alone.old script.now))
-        (outside (S.files files.old) (S.read_faults files.old) (S.write_faults files.old) (S.calls files.old) (O.got out.old) (O.faults out.old))
-        (outside (S.files files.new) (S.read_faults files.new) (S.write_faults files.new) (S.calls files.new) (O.got out.new) (O.faults out.new)) }
-    ensures board { LeavesBoard (ending_of result) (played (option_copied core.entry) (ready_of alone.old script.now)).run (O.got out.old) (O.got out.new) (⟦<Board as ViewBoard>⟧.board_view board.old) (⟦<Board as ViewBoard>⟧.board_view board.new) }
+        (outside (S.files files.old) (S.read_faults files.old) (S.write_faults files.old) (S.calls files.old)
+        (O.got out.old) (O.faults out.old))
+        (outside (S.files files.new) (S.read_faults files.new) (S.write_faults files.new) (S.calls files.new)
+        (O.got out.new) (O.faults out.new)) }
+    ensures board { LeavesBoard (ending_of result)
+        (played (option_copied core.entry) (ready_of alone.old script.now)).run (O.got out.old) (O.got out.new)
+        (⟦<Board as ViewBoard>⟧.board_view board.old) (⟦<Board as ViewBoard>⟧.board_view board.new) }
 {
     board.begin();
     match show(alone, script, silent, out, board) {
@@ -216,7 +252,9 @@ fn show<O: Sink>(
     board: &mut Board,
 ) -> Result<(), WriteFault>
     requires { IsReady silent alone.old script.now }
-    ensures replay { IsReplay result script.now (replay_lines (own_view alone.old) script.now) (booted_alone alone.old.system alone.old.p) alone.new (O.got out.old) (O.got out.new) (⟦<Board as ViewBoard>⟧.board_view board.old) (⟦<Board as ViewBoard>⟧.board_view board.new) }
+    ensures replay { IsReplay result script.now (replay_lines (own_view alone.old) script.now)
+        (booted_alone alone.old.system alone.old.p) alone.new (O.got out.old) (O.got out.new)
+        (⟦<Board as ViewBoard>⟧.board_view board.old) (⟦<Board as ViewBoard>⟧.board_view board.new) }
     ensures cause { HasWriteCause result (O.faults out.old) (O.faults out.new) }
 {
     if silent {
@@ -234,7 +272,8 @@ fn unready<'a>(
     further: ReplayFiles<'a>,
     why: Unready,
 ) -> Ending<'a>
-    ensures { ending_of result ≡ unready_ending container.now part script.now (seen_further further.entry) (unready_of why) }
+    ensures { ending_of result
+        ≡ unready_ending container.now part script.now (seen_further further.entry) (unready_of why) }
 {
     match why {
         Unready::NoContainer { text } => Ending::Refused {

@@ -34,8 +34,10 @@ pub(crate) fn work<'a, S: Store, O: Sink>(
     board: &mut Board,
 ) -> Ending<'a>
     ensures accounted { HasAccount (ending_of result) (command_of words.now)
-        (outside (S.files files.old) (S.read_faults files.old) (S.write_faults files.old) (S.calls files.old) (O.got out.old) (O.faults out.old))
-        (outside (S.files files.new) (S.read_faults files.new) (S.write_faults files.new) (S.calls files.new) (O.got out.new) (O.faults out.new))
+        (outside (S.files files.old) (S.read_faults files.old) (S.write_faults files.old) (S.calls files.old)
+        (O.got out.old) (O.faults out.old))
+        (outside (S.files files.new) (S.read_faults files.new) (S.write_faults files.new) (S.calls files.new)
+        (O.got out.new) (O.faults out.new))
         (⟦<Board as ViewBoard>⟧.board_view board.old) (⟦<Board as ViewBoard>⟧.board_view board.new) }
     ensures numbers { HasScripts (ending_of result) → WordsReceive (command_of words.now) (S.files files.old) }
 {
@@ -56,10 +58,13 @@ fn do_command<'a, S: Store, O: Sink>(
 ) -> Ending<'a>
     requires { HasTicks command }
     ensures accounted { HasAccount (ending_of result) (command_seen (Some command.entry))
-        (outside (S.files files.old) (S.read_faults files.old) (S.write_faults files.old) (S.calls files.old) (O.got out.old) (O.faults out.old))
-        (outside (S.files files.new) (S.read_faults files.new) (S.write_faults files.new) (S.calls files.new) (O.got out.new) (O.faults out.new))
+        (outside (S.files files.old) (S.read_faults files.old) (S.write_faults files.old) (S.calls files.old)
+        (O.got out.old) (O.faults out.old))
+        (outside (S.files files.new) (S.read_faults files.new) (S.write_faults files.new) (S.calls files.new)
+        (O.got out.new) (O.faults out.new))
         (⟦<Board as ViewBoard>⟧.board_view board.old) (⟦<Board as ViewBoard>⟧.board_view board.new) }
-    ensures numbers { HasScripts (ending_of result) → WordsReceive (command_seen (Some command.entry)) (S.files files.old) }
+    ensures numbers { HasScripts (ending_of result)
+        → WordsReceive (command_seen (Some command.entry)) (S.files files.old) }
 {
     match command {
         Bare { image, ticks } => run_file(alloc, image, ticks, files, out, board),
