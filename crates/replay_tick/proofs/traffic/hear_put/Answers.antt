@@ -1,8 +1,8 @@
 use Rattle.replay_tick.proofs.LoneTrafficLemmas.{found_in, put_channel, put_result, put_some, put_system}
 use Rattle.replay_tick.proofs.traffic.hear_put.Goals as goal
 
-pub put-requires-clause-channel : goal.put-requires-clause-channel
-put-requires-clause-channel c =
+pub put_on-requires-clause-channel : goal.put_on-requires-clause-channel
+put_on-requires-clause-channel c =
     put_channel c.args.sys.now.machine.system.conf c.args.p c.args.name c.in-Some.chan c.args.bytes.now c.requires.cue.fits
     (found_in _ _ c.args.p c.args.name _ c.conf.ensures.value c.in-Some.ensures.value)
 
