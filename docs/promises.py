@@ -29,7 +29,7 @@ from pathlib import Path
 ROOT = Path(__file__).resolve().parent.parent
 PAGE = "docs/PROMISES.md"
 # A library of a suite promises nothing.
-OF_SUITES = {"case_files"}
+OF_SUITES = {"case_reader"}
 SHORT = 100
 WIDTH = 120
 HEAD = re.compile(r"\s*(requires|ensures|decreases)\b\*?(?: (\w+))? \{")
@@ -562,6 +562,7 @@ class Page:
 
         They stand in a row, each as code: the crate, the call and the labels. Below a heading that ends with a crate and a
         call an item of a list begins with labels of that call. The fields of a record that a clause cites are labels, too.
+        Where three stand in a row, the first is a crate that is there.
         """
         path = self.root / "docs/PROOFS.md"
         text = path.read_text(encoding="utf-8") if path.exists() else ""
@@ -572,6 +573,8 @@ class Page:
         found = []
         for crate, title, labels in named:
             if crate not in self.crates:
+                if labels and not (self.root / "crates" / crate).is_dir():
+                    found.append(f"docs/PROOFS.md: there is no crate {crate}, which {title} {labels.strip()} follow")
                 continue
             calls = [call for call in self.crates[crate].calls() if title in (call.title, call.name)]
             known = {clause.label for call in calls for clause in call.clauses}

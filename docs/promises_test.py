@@ -216,9 +216,10 @@ def test_a_name_on_the_page_of_proofs_that_is_not_there_is_found(root: Path) -> 
     path = root / "docs/PROOFS.md"
     path.write_text(path.read_text(encoding="utf-8").replace("`law`", "`laws`"), encoding="utf-8")
     assert promises.Page(root).strangers() == ["docs/PROOFS.md: there is no laws of boxes_keep in boxes"]
-    path.write_text("## A call: `boxes` `Box::put`\n\n- `put`, `full`: it.\n- `empty`: no.\n\n`boxes` `take` is none, `boxes` `Box::put` `among`, `some` are.\n", encoding="utf-8")
+    path.write_text("## A call: `boxes` `Box::put`\n\n- `put`, `full`: it.\n- `empty`: no.\n\n`boxes` `take` is none, `boxes` `Box::put` `among`, `some` are.\n`crates` `keep` `law` are no more, `no` `crate` is none.\n", encoding="utf-8")
     assert promises.Page(root).strangers() == [
         "docs/PROOFS.md: there is no take in boxes",
+        "docs/PROOFS.md: there is no crate crates, which keep `law` follow",
         "docs/PROOFS.md: there is no empty of Box::put in boxes",
     ]
 
