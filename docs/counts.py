@@ -2,8 +2,10 @@
 """Counts what a reader of a clause has to trust: the definitions under it, in how many files of how many crates.
 
 usage: docs/counts.py                      the counts for each clause of `xm_commands::xm_main`, and the sizes of the tree
-       docs/counts.py --lists              the files of specs/ that hold definitions of several kinds, and the names of several files
-       docs/counts.py --write              puts the counts and sizes into docs/ARCHITECTURE.md
+       docs/counts.py --lists              the files of specs/ that hold definitions of several kinds, the names of several files, and the
+                                           crates with long lines in contracts of public calls
+       docs/counts.py --write              puts the counts and sizes into docs/ARCHITECTURE.md, and those that README.md and docs/MACHINE.md name
+       docs/counts.py --check              says which of these are not what is counted, and ends with 1 where there is one
        docs/counts.py [--names] CLAUSE..   the files under these clauses, with --names and the definitions of each file
 
 A CLAUSE is a label of `xm_main`, or a field of the record that such a clause is, a public call as `crate::call` or `crate::Type::call`, one clause of a call as
@@ -15,6 +17,8 @@ of a trait is a definition, too; that of a type has what its `impl Model` says o
 The definitions of specs/ are of three kinds. The trusted ones are under a clause of a public call of a library. Rows are only under
 clauses of functions that are said to be worked by hand, have no parameter and have an empty body. The others are for proofs: no
 public clause depends on them.
+
+A page names counts as `N definitions in M files (docs/counts.py CLAUSE`, with the command as code.
 """
 
 from __future__ import annotations
@@ -27,6 +31,7 @@ from collections.abc import Iterable, Iterator
 from pathlib import Path
 
 from definitions import Key, Tree
+from promises import Page
 
 ROOT = Path(__file__).resolve().parent.parent
 COMMAND = "docs/counts.py"
@@ -35,7 +40,9 @@ TRUSTED, ROWS, PROOFS = KINDS = ("trusted", "rows worked by hand", "for proofs")
 SEVERAL, NONE = "of several kinds", "that only hand names on"
 LINES = ("code", "contracts", "tests", "imports and attributes", "comments and blank lines")
 LONG = 120
-OPTIONS = {"--lists", "--write", "--names"}
+OPTIONS = {"--lists", "--write", "--check", "--names"}
+PAGE = "docs/ARCHITECTURE.md"
+NAMED = re.compile(r"[\d,]+ definitions in [\d,]+ files(?= \(`docs/counts\.py ([^`]+)`)")
 
 
 def size(keys: set[Key]) -> tuple[int, int, int]:
@@ -167,10 +174,20 @@ def code_sizes(root: Path) -> tuple[list[tuple[object, ...]], str]:
     sources = sorted(root.glob("crates/*/src/**/*.rt"))
     counted = sum((line_kinds(path) for path in sources), Counter[str]())
     proofs = sorted(root.glob("crates/*/proofs/**/*.antt"))
-    long = counted.pop("long", 0)
+    long, public = counted.pop("long", 0), public_long_lines(root).total()
     rows = [(f"src, {kind}", "", "", counted[kind]) for kind in LINES]
     whole = [("src, all of it", "", len(sources), counted.total()), ("proofs", "", len(proofs), sum(map(lines_of, proofs)))]
-    return [*rows, *whole], f"{long:,} lines of contracts are longer than {LONG} characters."
+    return [*rows, *whole], f"{long:,} lines of contracts are longer than {LONG} characters, {public:,} of them of public calls."
+
+
+def public_long_lines(root: Path) -> Counter[str]:
+    """How many long lines the contracts of each library's public calls have."""
+    counted: Counter[str] = Counter()
+    for name, crate in Page(root).crates.items():
+        for call in crate.calls():
+            lines = [line for clause in call.clauses for line in crate.lines[call.path][clause.line : clause.last + 1]]
+            counted[name] += sum(len(line) > LONG for line in lines)
+    return +counted
 
 
 def names_twice(tree: Tree) -> tuple[int, dict[str, list[str]]]:
@@ -196,16 +213,43 @@ def lists(tree: Tree) -> Iterator[str]:
             yield f"crates/{file}: " + ", ".join(f"{held[kind]} {kind}" for kind in KINDS if held[kind])
     for name, files in names_twice(tree)[1].items():
         yield f"{name}: {', '.join(files)}"
+    for crate, count in public_long_lines(tree.root).most_common():
+        yield f"{crate}: {count} lines of public contracts"
 
 
-def write(lines: list[str], page: Path) -> None:
-    """Puts the lines under the command on the page."""
-    text = page.read_text(encoding="utf-8")
+# The counts on pages.
+
+
+def with_block(lines: list[str], text: str) -> str:
+    """The page with these lines under the command."""
     block = re.compile(rf"(?<=^\$ {re.escape(COMMAND)}\n).*?(?=^```)", re.M | re.S)
     if not block.search(text):
-        sys.exit(f"{page}: no `$ {COMMAND}`")
+        sys.exit(f"{PAGE}: no `$ {COMMAND}`")
     shown = "".join(f"{line}\n" for line in lines)
-    page.write_text(block.sub(lambda _: shown, text, count=1), encoding="utf-8")
+    return block.sub(lambda _: shown, text, count=1)
+
+
+def with_counts(tree: Tree, text: str) -> str:
+    """The page with the counts of each clause that it names so."""
+    return NAMED.sub(lambda found: "{:,} definitions in {:,} files".format(*size(tree.below(starts_of(tree, found[1])))[:2]), text)
+
+
+def pages(tree: Tree) -> Iterator[tuple[Path, str, str]]:
+    """Each page with counts, its text, and the text that it is to have."""
+    for name in ("README.md", PAGE, "docs/MACHINE.md"):
+        path = tree.root / name
+        text = path.read_text(encoding="utf-8")
+        wanted = with_counts(tree, text)
+        yield path, text, with_block(summary(tree), wanted) if name == PAGE else wanted
+
+
+def differences(tree: Tree) -> Iterator[str]:
+    for path, text, wanted in pages(tree):
+        for is_there, counted in zip(text.splitlines(), wanted.splitlines()):
+            if is_there != counted:
+                yield f"{path.relative_to(tree.root)}: {is_there}\n    counted: {counted}"
+        if len(text.splitlines()) != len(wanted.splitlines()):
+            yield f"{path.relative_to(tree.root)}: the counts have more lines, or fewer"
 
 
 def main() -> int:
@@ -216,8 +260,13 @@ def main() -> int:
         sys.exit(__doc__)
     tree = Tree(ROOT)
     if "--write" in options:
-        write(summary(tree), ROOT / "docs/ARCHITECTURE.md")
+        for path, _, text in pages(tree):
+            path.write_text(text, encoding="utf-8")
         return 0
+    if "--check" in options:
+        found = list(differences(tree))
+        print("\n".join([*found, f"{len(found)} differences"]))
+        return 1 if found else 0
     print("\n".join(listing(tree, words, "--names" in options) if words else lists(tree) if "--lists" in options else summary(tree)))
     return 0
 

@@ -156,6 +156,7 @@ def root(tmp_path: Path) -> Path:
         path = tmp_path / "crates" / name
         path.parent.mkdir(parents=True, exist_ok=True)
         path.write_text(text, encoding="utf-8")
+    (tmp_path / "crates.txt").write_text("low:\nxm_commands: low\n", encoding="utf-8")
     return tmp_path
 
 
@@ -296,11 +297,29 @@ def test_the_listing_of_a_clause(root: Path) -> None:
         list(counts.listing(tree, ["absent"], False))
 
 
-def test_the_page_gets_what_is_printed(tmp_path: Path) -> None:
-    page = tmp_path / "PAGE.md"
-    page.write_text(f"Text.\n\n```text\n$ {counts.COMMAND}\nold\n```\n\nMore.\n", encoding="utf-8")
-    counts.write(["first  1", "second 2"], page)
-    assert page.read_text(encoding="utf-8") == f"Text.\n\n```text\n$ {counts.COMMAND}\nfirst  1\nsecond 2\n```\n\nMore.\n"
-    page.write_text("no block\n", encoding="utf-8")
+def test_the_page_gets_what_is_printed() -> None:
+    page = f"Text.\n\n```text\n$ {counts.COMMAND}\nold\n```\n\nMore.\n"
+    wanted = f"Text.\n\n```text\n$ {counts.COMMAND}\nfirst  1\nsecond 2\n```\n\nMore.\n"
+    assert counts.with_block(["first  1", "second 2"], page) == wanted
     with pytest.raises(SystemExit):
-        counts.write([], page)
+        counts.with_block([], "no block\n")
+
+
+def test_counts_in_sentences_are_those_of_their_clauses(root: Path) -> None:
+    (root / "docs").mkdir()
+    sentence = "It has {} definitions in {} files (`docs/counts.py state` lists them), and 5 definitions in 3 files."
+    (root / "README.md").write_text(sentence.format("1,000", 2) + "\n", encoding="utf-8")
+    (root / "docs/MACHINE.md").write_text(sentence.format(4, 4) + "\n", encoding="utf-8")
+    tree = Tree(root)
+    shown = "\n".join(counts.summary(tree))
+    (root / "docs/ARCHITECTURE.md").write_text(f"```text\n$ {counts.COMMAND}\n{shown}\n```\n", encoding="utf-8")
+    assert list(counts.differences(tree)) == [f"README.md: {sentence.format('1,000', 2)}\n    counted: {sentence.format(4, 4)}"]
+    assert [text for _, _, text in counts.pages(tree)][0] == sentence.format(4, 4) + "\n"
+
+
+def test_long_lines_of_public_contracts(root: Path) -> None:
+    top = root / "crates/xm_commands/src/top.rt"
+    clause = f"    ensures plain {{ count ≡ count{' ' * 120} }}\n"
+    text = top.read_text(encoding="utf-8").replace("    ensures plain { count ≡ count }\n", clause)
+    top.write_text(text.replace("    ensures { IsInner }\n", f"    ensures {{ IsInner{' ' * 120} }}\n"), encoding="utf-8")
+    assert counts.public_long_lines(root) == {"xm_commands": 1}
