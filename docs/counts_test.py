@@ -317,6 +317,22 @@ def test_counts_in_sentences_are_those_of_their_clauses(root: Path) -> None:
     assert [text for _, _, text in counts.pages(tree)][0] == sentence.format(4, 4) + "\n"
 
 
+@pytest.mark.parametrize(
+    ("is_there", "counted", "near"),
+    [
+        ("src, code    24,637", "src, code    24,700", True),
+        ("src, code    24,637", "src, code   124,637", False),
+        ("src, code    9,999", "src, code    10,001", True),
+        ("specs, rows worked by hand   376   22   2,736", "specs, rows worked by hand   376   21   2,736", False),
+        ("alone   1,125    138", "alone   1,126    138", False),
+        ("601 lines of contracts are longer than 120 characters, 126 of them of public calls.", "602 lines of contracts are longer than 120 characters, 126 of them of public calls.", True),
+        ("proofs   1,202   64,373", "src, all of it   1,202   64,373", False),
+    ],
+)
+def test_a_size_of_the_tree_may_be_off_by_a_hundredth(is_there: str, counted: str, near: bool) -> None:
+    assert counts.is_near(is_there, counted) == near
+
+
 def test_long_lines_of_public_contracts(root: Path) -> None:
     top = root / "crates/xm_commands/src/top.rt"
     clause = f"    ensures plain {{ count ≡ count{' ' * 120} }}\n"
