@@ -52,7 +52,7 @@ def high_water(process):
 def waited(process):
     """The status of a process at its end, what it used, and the most memory that it held at once, in KiB.
 
-    The memory is asked for while it runs: what the kernel tells of a child afterwards is never below what this
+    The memory is asked for while it runs: what the kernel reports of a child afterwards is never below what this
     script held when it started it.
     """
     held = 0
@@ -92,7 +92,7 @@ class Profile:
                 elif line.startswith("calls="):
                     called = True
                 elif line.startswith("0x"):
-                    # The line behind `calls=` has the cost of what was called, which stands there itself.
+                    # The line after `calls=` has the cost of what was called, which stands there itself.
                     if not called:
                         fields = line.split()
                         self.by_function[function] += int(fields[-1])

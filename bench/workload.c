@@ -1,6 +1,6 @@
 /*
  * A workload of whole numbers without end, for measuring how fast guests run: the longer the run, the more rounds.
- * With ROUNDS defined it ends after so many.
+ * With ROUNDS defined it ends after that many.
  *
  * A round has about 1.7 million instructions: sorting, hashing, a sieve, products of matrices, text, division, and
  * recursion deeper than the register windows, so that they spill and fill. `result` keeps the compiler from leaving work out.
@@ -35,7 +35,7 @@ static unsigned sorting(void)
     return words[COUNT / 2];
 }
 
-/* A table of words and how often they came, with linear search behind the first place. */
+/* A table of words and how often they came, with linear search after the first place. */
 struct slot {
     unsigned key, count;
 };

@@ -29,7 +29,7 @@ class Case:
 
 
 def program_file(program):
-    """A program file of one header, which loads words from behind the headers and enters them; they may be random ones."""
+    """A program file of one header, which loads words from after the headers and enters them; they may be random ones."""
     start = int(program["start"], 16)
     words = content_of(start, program["seed"], program["count"]) if "seed" in program else bytes.fromhex(program["words"])
     front = struct.pack(">6I", 0x7F454C46, 0x01020100, 0, 0, 0x00020002, 1)

@@ -58,7 +58,7 @@ def memory(name, rd, rs1, second=0):
 
 
 def branch(condition, distance, annul=False):
-    """A branch over so many bytes, counted from itself."""
+    """A branch over this number of bytes, counted from itself."""
     return int(annul) << 29 | CONDITIONS.index(condition) << 25 | 2 << 22 | distance >> 2 & 0x3FFFFF
 
 

@@ -1,5 +1,5 @@
 #!/usr/bin/env python3
-"""Writes the small systems that tell most as data of `case_suite`: their containers, calls and the model's reports.
+"""Writes the small systems that show most as data of `case_suite`: their containers, calls and the model's reports.
 
 usage: book.py FOLDER
 

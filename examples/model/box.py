@@ -79,7 +79,7 @@ def written(content):
 
 
 def segments(base, content):
-    """The segments of a memory's content: together all of it, of which the zeros between and behind are not written."""
+    """The segments of a memory's content: together all of it, of which the zeros between and after are not written."""
     runs = written(content)
     if not runs:
         return [Segment(base, b"", len(content))]
@@ -394,7 +394,7 @@ class Reader:
         return self.number(4)
 
     def field(self, size, holds):
-        """A number of so many bytes that has to be one of the field's."""
+        """A number of this many bytes that has to be one of the field's."""
         at = self.place
         number = self.number(size)
         if not holds(number):
@@ -416,7 +416,7 @@ class Reader:
 
 
 def body(content, magic, with_digest, versions=(1,)):
-    """A reader behind the head, once magic, version, length and digest are right."""
+    """A reader after the head, once magic, version, length and digest are right."""
     reader = Reader(content)
     if reader.take(4) != magic:
         raise Fault("magic")

@@ -128,7 +128,7 @@ class Partition:
         self.reset(COLD, 0)
 
     def reset(self, mode, status):
-        """A cold reset loads the image anew; traces, health log and used input words stay in both."""
+        """A cold reset loads the image again; traces, health log and used input words stay in both."""
         self.processor = Processor(self.conf.image.entry)
         self.pending, self.mask = 0, WORD
         self.exec = 0

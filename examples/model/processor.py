@@ -381,7 +381,7 @@ class Processor:
         self.inv = (self.inv + 1) % WINDOWS
 
     def settle(self, memory):
-        """One instruction, with the spill or the fill that it needs; after that the word at pc is read anew."""
+        """One instruction, with the spill or the fill that it needs; after that the word at pc is read again."""
         try:
             return self.turn(memory)
         except Trap as trap:

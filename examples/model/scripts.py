@@ -3,7 +3,7 @@
 
 usage: scripts.py FOLDER
 
-FOLDER is crates/case_suite/data, the file is scripts.toml. What the partitions are told stands in tables that are worked by
+FOLDER is crates/case_suite/data, the file is scripts.toml. What the partitions receive stands in tables that are worked by
 hand, those of cues.py among them, and the files are spelled here from docs/FORMATS.md. What a replay prints are the lines of its partition
 in the report of the second simulator, model.py.
 """
@@ -114,7 +114,7 @@ def cue_bytes(slot, told):
 
 
 def script(p, slots, told, ticks):
-    """The script of a partition: the slots of all partitions, and what they are told in so many ticks."""
+    """The script of a partition: the slots of all partitions, and what they receive in a number of ticks."""
     cues = [(mine(slots[p], tick), told.get((tick, p), {})) for tick in range(ticks)]
     text = b"XMSC" + (1).to_bytes(2, "big") + bytes([p]) + ticks.to_bytes(8, "big")
     for plain, run in itertools.groupby(cues, lambda cue: cue[0] if not cue[1] and cue[0] != "mine first" else None):
@@ -211,7 +211,7 @@ def fails(**calls):
 
 
 def script_but(at, told):
-    """The script of partition 0 of queue.box, where one tick has this told in place of what it has."""
+    """The script of partition 0 of queue.box, where one tick has this instead of what it has."""
     return script(0, QUEUE_SLOTS, {tick: what for tick, what in QUEUE_TOLD.items() if tick != (at, 0)} | ({(at, 0): told} if told else {}), 50).hex()
 
 
