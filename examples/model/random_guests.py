@@ -4,7 +4,7 @@
 usage: random_guests.py FOLDER
 
 FOLDER is crates/case_suite/data; the file is `random_guests.toml`. The words of a memory follow from its start, a seed and
-their count (`random_words`); crates/case_suite/src/random.rt makes the same ones.
+their count (`random_words`); crates/case_reader/src/random.rt makes the same ones.
 """
 import hashlib
 import sys
