@@ -25,6 +25,8 @@ SHELL = ("xm_run", "tools/words.sh", "tools/launcher")
 # The words of the document for what a text of the script has as a value.
 VALUES = r"\b(?:FILE|FOLDERS?|CRATE|DATE|TIME|TEXT|WHAT|[NMK])\b"
 WORK = ROOT / "crates/xm_commands/src/work.rt"
+# Where what is made of a file goes, and the type that says what it is.
+KINDS = {"File": "MadeFile", "Report": "Printout"}
 GRAMMAR = ROOT / "crates/command_line/specs/Grammar.antt"
 
 
@@ -114,14 +116,14 @@ def command_words():
 
 def functions():
     """The text of each function of the commands, by its name with its crate; a name stands for those of all crates, too.
-    What is done for one kind of a `Printout` alone is a function of that kind."""
+    What is done for one kind of a `MadeFile` or of a `Printout` alone is a function of that kind."""
     found = {}
     for path in sorted(path for crate in MAKERS for path in ROOT.glob(f"crates/{crate}/src/**/*.rt")):
         crate = path.relative_to(ROOT).parts[1]
         source = re.sub(r"//.*", "", path.read_text(encoding="utf-8"))
         parts = re.split(r"\bfn (\w+)", source)
         for name, text in zip(parts[1::2], parts[2::2]):
-            arms = re.split(r"\b(Printout::\w+) =>", text)
+            arms = re.split(r"\b((?:MadeFile|Printout)::\w+) =>", text)
             for key, body in [(name, arms[0]), *zip(arms[1::2], arms[2::2])]:
                 for where in (crate, None):
                     found[where, key] = found.get((where, key), "") + body
@@ -129,8 +131,10 @@ def functions():
 
 
 def called(crate, text, known):
-    """The functions that a text calls, of its own crate where that has one of the name. No method makes a fault's text."""
-    for name in re.findall(r"Printout::\w+|(?<![.:\w])\w+(?=\()", text):
+    """The functions that a text calls, of its own crate where that has one of the name. No method makes a fault's text.
+    A conversion calls what is done for the kind that it names."""
+    kinds = [f"{KINDS[to]}::{kind}" for to, kind in re.findall(r"\b(File|Report)\((?:\w+::)?([A-Z]\w*)", text)]
+    for name in kinds + re.findall(r"(?<![.:\w])\w+(?=\()", text):
         where = crate if (crate, name) in known else None
         if (where, name) in known:
             yield where, name
@@ -151,7 +155,7 @@ def printed():
                 reached.add(function)
                 text = known[function]
                 rest += called(function[0], text, known)
-                if re.search(r'format!\(in alloc; "\{fault\}"\)', text):
+                if "unmade_by!(alloc, fault, " in text:
                     yield from ((name, words) for name in re.findall(r"\bfault: (\w+Fault)\b", text))
 
 

@@ -1,5 +1,6 @@
 pub mod Grouping
 pub mod Imaging
+pub mod MadeFile
 pub mod Makes
 pub mod Parsing
 pub mod Planning

@@ -33,10 +33,7 @@ pub(crate) fn groups(alloc: Global, text: &[u8]) -> Result<Vec<u8>, Unmade>
 fn groups_for(alloc: Global, conf: &Conf) -> Result<Vec<u8>, Unmade>
     ensures { Makes result (groups_for conf.now) }
 {
-    match put_groups(alloc, conf, parts_of(conf)) {
-        Ok(lines) => Ok(lines),
-        Err(_) => Err(Unmade::Memory),
-    }
+    put_groups(alloc, conf, parts_of(conf)).map_err(|_| Unmade::Memory)
 }
 
 // The lines of the partitions of a configuration, where there is memory for them.

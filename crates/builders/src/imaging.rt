@@ -8,21 +8,18 @@ ghost use Rattle.builders.specs.Makes.{IsRefusalText, Makes};
 
 use crate::success::ok_line;
 use crate::unmade::Unmade;
+use crate::unmade_by;
 use std::alloc::Global;
 use xef_images::{ElfFault, XefFault, build_xef, describe, read_elf, read_xef};
 use xm_container::{BoxFault, System, list_lines, unpack};
 
 /// The image's file of a program.
 #[tactic(auto, unfolding(crate::specs::Imaging::xef_of))]
-pub fn make_xef(alloc: Global, program: &[u8]) -> Result<Vec<u8>, Unmade>
-    // The image of a program, or the text of its first fault.
+pub(crate) fn make_xef(alloc: Global, program: &[u8]) -> Result<Vec<u8>, Unmade>
     ensures { Makes result (xef_of program.now) }
 {
     match read_elf(alloc, program) {
-        Ok(image) => match build_xef(alloc, &image) {
-            Ok(bytes) => Ok(bytes),
-            Err(_) => Err(Unmade::Memory),
-        },
+        Ok(image) => build_xef(alloc, &image).map_err(|_| Unmade::Memory),
         Err(fault) => Err(no_program(alloc, fault)),
     }
 }
@@ -33,10 +30,7 @@ pub(crate) fn image_lines(alloc: Global, file: &[u8]) -> Result<Vec<u8>, Unmade>
     ensures { Makes result (image_lines_of file.now) }
 {
     match read_xef(alloc, file) {
-        Ok(image) => match describe(alloc, file, &image) {
-            Ok(lines) => Ok(lines),
-            Err(_) => Err(Unmade::Memory),
-        },
+        Ok(image) => describe(alloc, file, &image).map_err(|_| Unmade::Memory),
         Err(fault) => Err(no_image(alloc, fault)),
     }
 }
@@ -47,10 +41,7 @@ pub(crate) fn container_lines(alloc: Global, file: &[u8]) -> Result<Vec<u8>, Unm
     ensures { Makes result (container_lines_of file.now) }
 {
     match unpack(alloc, file) {
-        Ok(system) => match list_lines(alloc, file, &system) {
-            Ok(lines) => Ok(lines),
-            Err(_) => Err(Unmade::Memory),
-        },
+        Ok(system) => list_lines(alloc, file, &system).map_err(|_| Unmade::Memory),
         Err(fault) => Err(no_container(alloc, fault)),
     }
 }
@@ -72,10 +63,7 @@ fn verdict(alloc: Global, system: &System) -> Result<Vec<u8>, Unmade>
     ensures memory { IfErr result (λ why. why ≡ Unmade.Memory) }
 {
     let line = ok_line(b"parts=", system.conf().raw().parts.len());
-    match Vec::from_slice(alloc, line.bytes()) {
-        Ok(line) => Ok(line),
-        Err(_) => Err(Unmade::Memory),
-    }
+    Vec::from_slice(alloc, line.bytes()).map_err(|_| Unmade::Memory)
 }
 
 // What is said of a file that is no program.
@@ -83,13 +71,7 @@ fn no_program(alloc: Global, fault: ElfFault) -> Unmade
     ensures text { IsRefusalText result (elf_fault_text fault) }
     ensures memory { fault ≡ ElfFault.Memory → result ≡ Unmade.Memory }
 {
-    match fault {
-        ElfFault::Memory => Unmade::Memory,
-        _ => match format!(in alloc; "{fault}") {
-            Ok(text) => Unmade::Refused { text },
-            Err(_) => Unmade::Memory,
-        },
-    }
+    unmade_by!(alloc, fault, ElfFault::Memory)
 }
 
 /// What is said of a file that is no image.
@@ -99,13 +81,7 @@ pub fn no_image(alloc: Global, fault: XefFault) -> Unmade
     // Out of memory is the answer where that was the fault.
     ensures memory { fault ≡ XefFault.Memory → result ≡ Unmade.Memory }
 {
-    match fault {
-        XefFault::Memory => Unmade::Memory,
-        _ => match format!(in alloc; "{fault}") {
-            Ok(text) => Unmade::Refused { text },
-            Err(_) => Unmade::Memory,
-        },
-    }
+    unmade_by!(alloc, fault, XefFault::Memory)
 }
 
 /// What is said of a file that is no container.
@@ -115,11 +91,5 @@ pub fn no_container(alloc: Global, fault: BoxFault) -> Unmade
     // Out of memory is the answer where that was the fault.
     ensures memory { fault ≡ BoxFault.Memory → result ≡ Unmade.Memory }
 {
-    match fault {
-        BoxFault::Memory => Unmade::Memory,
-        _ => match format!(in alloc; "{fault}") {
-            Ok(text) => Unmade::Refused { text },
-            Err(_) => Unmade::Memory,
-        },
-    }
+    unmade_by!(alloc, fault, BoxFault::Memory)
 }

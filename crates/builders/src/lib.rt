@@ -5,6 +5,7 @@
 
 mod grouping;
 mod imaging;
+mod made_file;
 mod parsing;
 mod planning;
 mod printout;
@@ -13,10 +14,10 @@ mod success;
 mod unmade;
 mod upgrading;
 
-pub use imaging::{make_xef, no_container, no_image};
-pub use parsing::make_xmc;
+pub use imaging::{no_container, no_image};
+pub use made_file::{MadeFile, make_file};
 pub use printout::{Printout, printout_text};
 pub use scripting::no_script;
 pub use success::ok_line;
 pub use unmade::Unmade;
-pub use upgrading::{make_upgraded, no_configuration};
+pub use upgrading::no_configuration;

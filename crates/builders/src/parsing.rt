@@ -11,6 +11,7 @@ ghost use Rattle.xmcf_check.specs.Verdict.{verdict_of};
 ghost use Rattle.xmcf_reader.specs.Texts.{read_fault_text};
 
 use crate::unmade::Unmade;
+use crate::unmade_by;
 use bin_config::write_xmc;
 use std::alloc::Global;
 use xm_conf::{Conf, Part};
@@ -19,17 +20,12 @@ use xmcf_reader::{Draft, ReadFault, read_xmcf};
 
 /// The binary configuration of a system description.
 #[tactic(auto, unfolding(crate::specs::Parsing::xmc_of))]
-pub fn make_xmc(alloc: Global, text: &[u8]) -> Result<Vec<u8>, Unmade>
-    // Called with a text of fewer than 2^32 bytes.
+pub(crate) fn make_xmc(alloc: Global, text: &[u8]) -> Result<Vec<u8>, Unmade>
     requires { length text.now < 2 ^ 32 }
-    // The binary configuration of a description, or the text of its first fault or of the first rule that it breaks.
     ensures { Makes result (xmc_of text.now) }
 {
     match read_conf(alloc, text) {
-        Ok(conf) => match write_xmc(alloc, &conf) {
-            Ok(bytes) => Ok(bytes),
-            Err(_) => Err(Unmade::Memory),
-        },
+        Ok(conf) => write_xmc(alloc, &conf).map_err(|_| Unmade::Memory),
         Err(why) => Err(why),
     }
 }
@@ -71,13 +67,7 @@ fn unread(alloc: Global, fault: ReadFault) -> Unmade
     ensures text { IsRefusalText result (read_fault_text fault) }
     ensures memory { fault ≡ ReadFault.Memory → result ≡ Unmade.Memory }
 {
-    match fault {
-        ReadFault::Memory => Unmade::Memory,
-        _ => match format!(in alloc; "{fault}") {
-            Ok(text) => Unmade::Refused { text },
-            Err(_) => Unmade::Memory,
-        },
-    }
+    unmade_by!(alloc, fault, ReadFault::Memory)
 }
 
 // What is said of a draft that breaks a rule.
@@ -85,11 +75,5 @@ fn unfit(alloc: Global, fault: CheckFault) -> Unmade
     ensures text { IsRefusalText result (check_fault_text fault) }
     ensures memory { fault ≡ CheckFault.Memory → result ≡ Unmade.Memory }
 {
-    match fault {
-        CheckFault::Memory => Unmade::Memory,
-        CheckFault::Rule { .. } => match format!(in alloc; "{fault}") {
-            Ok(text) => Unmade::Refused { text },
-            Err(_) => Unmade::Memory,
-        },
-    }
+    unmade_by!(alloc, fault, CheckFault::Memory)
 }

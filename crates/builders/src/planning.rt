@@ -10,6 +10,7 @@ ghost use Rattle.builders.specs.Planning.{first_plan, frame_line, frame_text, me
 
 use crate::parsing::{parts_of, read_conf};
 use crate::unmade::Unmade;
+use crate::unmade_by;
 use plan_maker::{Met, PlanFault, make, met};
 use std::alloc::Global;
 use xm_base::{Memory, PartId};
@@ -46,10 +47,7 @@ fn lines_of_plan(alloc: Global, plan: &Plan) -> Result<Vec<u8>, Unmade>
     ensures lines { IfOk result (λ lines. lines.items ≡ lines_of_plan plan.now) }
     ensures memory { IfErr result (λ why. why ≡ Unmade.Memory) }
 {
-    match put_plan(alloc, plan) {
-        Ok(lines) => Ok(lines),
-        Err(_) => Err(Unmade::Memory),
-    }
+    put_plan(alloc, plan).map_err(|_| Unmade::Memory)
 }
 
 // The lines that describe a plan, where there is memory for them.
@@ -128,13 +126,7 @@ fn no_plan(alloc: Global, fault: PlanFault) -> Unmade
     ensures text { IsRefusalText result (plan_fault_text fault) }
     ensures memory { fault ≡ PlanFault.Memory → result ≡ Unmade.Memory }
 {
-    match fault {
-        PlanFault::Memory => Unmade::Memory,
-        _ => match format!(in alloc; "{fault}") {
-            Ok(text) => Unmade::Refused { text },
-            Err(_) => Unmade::Memory,
-        },
-    }
+    unmade_by!(alloc, fault, PlanFault::Memory)
 }
 
 /// The lines of the partitions of a text under its plan.
@@ -180,10 +172,7 @@ fn verdicts_by(alloc: Global, plan: &Plan, parts: &[Part]) -> Result<Vec<u8>, Un
     if plan.frame > LONGEST_CHECKED {
         return Err(too_long(alloc, plan.frame));
     }
-    match put_parts(alloc, plan, parts) {
-        Ok(lines) => Ok(lines),
-        Err(_) => Err(Unmade::Memory),
-    }
+    put_parts(alloc, plan, parts).map_err(|_| Unmade::Memory)
 }
 
 // What is said of a plan whose frame is too long to be checked.

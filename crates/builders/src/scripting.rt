@@ -5,6 +5,7 @@ ghost use Rattle.fault_messages.specs.Texts.{script_fault_text};
 ghost use Rattle.builders.specs.Makes.{IsRefusalText};
 
 use crate::unmade::Unmade;
+use crate::unmade_by;
 use cue_scripts::ScriptFault;
 use std::alloc::Global;
 
@@ -15,11 +16,5 @@ pub fn no_script(alloc: Global, fault: ScriptFault) -> Unmade
     // Out of memory is the answer where that was the fault.
     ensures memory { fault ≡ ScriptFault.Memory → result ≡ Unmade.Memory }
 {
-    match fault {
-        ScriptFault::Memory => Unmade::Memory,
-        _ => match format!(in alloc; "{fault}") {
-            Ok(text) => Unmade::Refused { text },
-            Err(_) => Unmade::Memory,
-        },
-    }
+    unmade_by!(alloc, fault, ScriptFault::Memory)
 }

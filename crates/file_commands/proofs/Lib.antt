@@ -1,2 +1,1 @@
 pub mod PackingLemmas
-pub mod PrintingLemmas

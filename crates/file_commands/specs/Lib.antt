@@ -1,3 +1,4 @@
+pub mod Conversion
 pub mod Denial
 pub mod Ending
 pub mod Inputs
@@ -5,7 +6,6 @@ pub mod Makes
 pub mod Outcome
 pub mod Packing
 pub mod Status
-pub mod Printout
 pub mod EndingValues
 pub mod Work
 pub mod lemmas

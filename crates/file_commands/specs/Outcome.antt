@@ -251,24 +251,23 @@ replay_outcome container part script further bytes received input = replay_outco
 abbrev pub made_text : ℕ → List ℕ
 made_text length = ok_text (codes "length=") length
 
--- the outcome of a file out of which another is made: that file, or a refusal
-abbrev pub file_made : List ℕ → List ℕ → Result (List ℕ) (List ℕ) → Outcome
-file_made input output (Ok bytes) = record { denial = None; output = Some (record { file = output; bytes = bytes }); report = made_text (length bytes); later = []; run = None }
-file_made input output (Err text) = command_refused input text
+-- the outcome of a command that writes a file, and reports its length
+abbrev pub outcome_of_file : List ℕ → List ℕ → Outcome
+outcome_of_file output bytes = record { denial = None; output = Some (record { file = output; bytes = bytes }); report = made_text (length bytes); later = []; run = None }
 
 -- the outcome of files that are packed: their container, or the refusal of one of them
 abbrev pub packed_to : List ℕ → Result (List ℕ) Denial → Outcome
-packed_to output (Ok bytes) = record { denial = None; output = Some (record { file = output; bytes = bytes }); report = made_text (length bytes); later = []; run = None }
+packed_to output (Ok bytes) = outcome_of_file output bytes
 packed_to output (Err denial) = refused_by denial
 
 -- the outcome of a command that prints a text, and does nothing else
 abbrev pub outcome_of_print : List ℕ → Outcome
 outcome_of_print text = record { denial = None; output = None; report = text; later = []; run = None }
 
--- the outcome of a file that is printed: its text, or a refusal
-abbrev pub text_reported : List ℕ → Result (List ℕ) (List ℕ) → Outcome
-text_reported file (Ok text) = outcome_of_print text
-text_reported file (Err text) = command_refused file text
+-- the outcome of a file that is converted: the outcome of what is made of it, or its refusal
+abbrev pub converted : List ℕ → (List ℕ → Outcome) → Result (List ℕ) (List ℕ) → Outcome
+converted file outcome (Ok bytes) = outcome bytes
+converted file outcome (Err text) = command_refused file text
 
 -- the content of the file of this number
 abbrev pub content : ℕ → List (List ℕ) → List ℕ
@@ -277,16 +276,16 @@ content n contents = slice_index_or contents n []
 -- the outcome of the contents of the files, where none of them is too long
 abbrev pub outcome_of_contents : Command → List (List ℕ) → Outcome
 outcome_of_contents (Bare image ticks) contents = bare_outcome image ticks (content 0 contents)
-outcome_of_contents (Parse description output) contents = file_made description output (xmc_of (content 0 contents))
-outcome_of_contents (Upgrade configuration output) contents = file_made configuration output (upgraded_of (content 0 contents))
-outcome_of_contents (BuildImage program output) contents = file_made program output (xef_of (content 0 contents))
-outcome_of_contents (ReadImage image) contents = text_reported image (image_lines_of (content 0 contents))
+outcome_of_contents (Parse description output) contents = converted description (outcome_of_file output) (xmc_of (content 0 contents))
+outcome_of_contents (Upgrade configuration output) contents = converted configuration (outcome_of_file output) (upgraded_of (content 0 contents))
+outcome_of_contents (BuildImage program output) contents = converted program (outcome_of_file output) (xef_of (content 0 contents))
+outcome_of_contents (ReadImage image) contents = converted image outcome_of_print (image_lines_of (content 0 contents))
 outcome_of_contents (Pack configuration output images) contents = packed_to output (container_of configuration (content 0 contents) images (drop 1 contents))
-outcome_of_contents (ListContainer container) contents = text_reported container (container_lines_of (content 0 contents))
-outcome_of_contents (CheckContainer container) contents = text_reported container (container_verdict_of (content 0 contents))
-outcome_of_contents (MakePlan description) contents = text_reported description (plan_lines_of (content 0 contents))
-outcome_of_contents (CheckPlan description) contents = text_reported description (verdicts_of (content 0 contents))
-outcome_of_contents (ListGroups description) contents = text_reported description (groups_of (content 0 contents))
+outcome_of_contents (ListContainer container) contents = converted container outcome_of_print (container_lines_of (content 0 contents))
+outcome_of_contents (CheckContainer container) contents = converted container outcome_of_print (container_verdict_of (content 0 contents))
+outcome_of_contents (MakePlan description) contents = converted description outcome_of_print (plan_lines_of (content 0 contents))
+outcome_of_contents (CheckPlan description) contents = converted description outcome_of_print (verdicts_of (content 0 contents))
+outcome_of_contents (ListGroups description) contents = converted description outcome_of_print (groups_of (content 0 contents))
 outcome_of_contents (Generate number) contents = outcome_of_print (generated_text number)
 outcome_of_contents (Run container options) contents = run_outcome container options (content 0 contents) (drop 1 contents)
 outcome_of_contents (Replay container part script further) contents = replay_outcome container part script further (content 0 contents) (content 1 contents) (input_bytes (replay_input further) (content 2 contents))

@@ -1,4 +1,5 @@
 pub mod CommandLemmas
+pub mod ConversionLemmas
 pub mod EndingValuesTerms
 pub mod LaterLemmas
 pub mod OutputLemmas

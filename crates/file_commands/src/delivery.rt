@@ -1,12 +1,11 @@
 //! What was made is written or printed.
 
-ghost use Rattle.std.specs.Prelude.{ℕ, List, length, Ok, Result};
+ghost use Rattle.std.specs.Prelude.{ℕ, List, length, Result};
 ghost use Rattle.xm_outside.specs.Causes.{HasCause};
 ghost use Rattle.xm_outside.specs.Growth.{Writes};
 ghost use Rattle.file_commands.specs.Denial.{Denial};
-ghost use Rattle.builders.specs.Makes.{Makes};
 ghost use Rattle.file_commands.specs.Makes.{IsUnmadeOf};
-ghost use Rattle.file_commands.specs.Outcome.{file_made, made_text, packed_to, outcome_of_print, text_reported};
+ghost use Rattle.file_commands.specs.Outcome.{made_text, outcome_of_file, outcome_of_print, packed_to};
 ghost use Rattle.file_commands.specs.lemmas.EndingValuesTerms.{MakesOr};
 ghost use Rattle.file_commands.specs.EndingValues.{vector_bytes, ending_of};
 ghost use Rattle.file_commands.specs.lemmas.WorkTerms.{Comes};
@@ -16,24 +15,6 @@ use crate::ending::{Ending, Refusal};
 use builders::{Unmade, ok_line};
 use xm_outside::{Failed, Sink, Store, write_all};
 
-/// Writes a file that was made out of another, and prints its length; or says why it was not made.
-pub(crate) fn deliver<'a, S: Store, O: Sink>(
-    input: &'a str,
-    output: &'a str,
-    file: Result<Vec<u8>, Unmade>,
-    files: &mut S,
-    out: &mut O,
-) -> Ending<'a>
-    ensures { (m : Result (List ℕ) (List ℕ)) → Makes file m → Comes (ending_of result) (file_made input.now output.now m)
-        (outside (S.files files.old) (S.read_faults files.old) (S.write_faults files.old) (S.calls files.old) (O.got out.old) (O.faults out.old))
-        (outside (S.files files.new) (S.read_faults files.new) (S.write_faults files.new) (S.calls files.new) (O.got out.new) (O.faults out.new)) }
-{
-    match file {
-        Ok(bytes) => save(output, &bytes, files, out),
-        Err(why) => unmade(input, why),
-    }
-}
-
 /// Writes a container, and prints its length; or ends as it was refused.
 pub(crate) fn write_container<'a, S: Store, O: Sink>(
     output: &'a str,
@@ -41,9 +22,12 @@ pub(crate) fn write_container<'a, S: Store, O: Sink>(
     files: &mut S,
     out: &mut O,
 ) -> Ending<'a>
-    ensures { (m : Result (List ℕ) Denial) → MakesOr vector_bytes container.entry m → Comes (ending_of result) (packed_to output.now m)
-        (outside (S.files files.old) (S.read_faults files.old) (S.write_faults files.old) (S.calls files.old) (O.got out.old) (O.faults out.old))
-        (outside (S.files files.new) (S.read_faults files.new) (S.write_faults files.new) (S.calls files.new) (O.got out.new) (O.faults out.new)) }
+    ensures { (m : Result (List ℕ) Denial) → MakesOr vector_bytes container.entry m
+        → Comes (ending_of result) (packed_to output.now m)
+        (outside (S.files files.old) (S.read_faults files.old) (S.write_faults files.old) (S.calls files.old)
+        (O.got out.old) (O.faults out.old))
+        (outside (S.files files.new) (S.read_faults files.new) (S.write_faults files.new) (S.calls files.new)
+        (O.got out.new) (O.faults out.new)) }
 {
     match container {
         Ok(bytes) => save(output, &bytes, files, out),
@@ -65,16 +49,18 @@ pub fn unmade<'a>(input: &'a str, why: Unmade) -> Ending<'a>
     }
 }
 
-// Writes a file that was made, and prints its length.
-fn save<'a, S: Store, O: Sink>(
+/// Writes a file that was made, and prints its length.
+pub(crate) fn save<'a, S: Store, O: Sink>(
     output: &'a str,
     bytes: &[u8],
     files: &mut S,
     out: &mut O,
 ) -> Ending<'a>
-    ensures { Comes (ending_of result) (packed_to output.now (Ok bytes.now))
-        (outside (S.files files.old) (S.read_faults files.old) (S.write_faults files.old) (S.calls files.old) (O.got out.old) (O.faults out.old))
-        (outside (S.files files.new) (S.read_faults files.new) (S.write_faults files.new) (S.calls files.new) (O.got out.new) (O.faults out.new)) }
+    ensures { Comes (ending_of result) (outcome_of_file output.now bytes.now)
+        (outside (S.files files.old) (S.read_faults files.old) (S.write_faults files.old) (S.calls files.old)
+        (O.got out.old) (O.faults out.old))
+        (outside (S.files files.new) (S.read_faults files.new) (S.write_faults files.new) (S.calls files.new)
+        (O.got out.new) (O.faults out.new)) }
 {
     match files.write(output, bytes) {
         Ok(()) => match print_length(bytes, out) {
@@ -85,24 +71,11 @@ fn save<'a, S: Store, O: Sink>(
     }
 }
 
-/// Writes what is printed of a file to the report; or says why there is nothing.
-pub(crate) fn print_made<'a, O: Sink>(
-    file: &'a str,
-    text: Result<Vec<u8>, Unmade>,
-    out: &mut O,
-) -> Ending<'a>
-    ensures { (m : Result (List ℕ) (List ℕ)) → Makes text m → Reports (ending_of result) (text_reported file.now m) (O.got out.old) (O.faults out.old) (O.got out.new) (O.faults out.new) }
-{
-    match text {
-        Ok(text) => report(&text, out),
-        Err(why) => unmade(file, why),
-    }
-}
-
 /// Writes a text to the report, which is all that a command does.
 pub fn report<'a, O: Sink>(text: &[u8], out: &mut O) -> Ending<'a>
     // A text goes to the report, or a prefix of it.
-    ensures { Reports (ending_of result) (outcome_of_print text.now) (O.got out.old) (O.faults out.old) (O.got out.new) (O.faults out.new) }
+    ensures { Reports (ending_of result) (outcome_of_print text.now)
+        (O.got out.old) (O.faults out.old) (O.got out.new) (O.faults out.new) }
 {
     match write_all(out, text) {
         Ok(()) => Ending::Done,

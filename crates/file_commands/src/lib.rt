@@ -4,25 +4,19 @@
 #![tactic(auto)]
 
 mod complaint;
+mod converting;
 mod delivery;
 mod ending;
-mod imaging;
 mod packing;
-mod parsing;
-mod printing;
 mod reading;
 mod status;
-mod upgrading;
 
 pub use complaint::complain;
+pub use converting::{Conversion, convert};
 pub use delivery::{report, unmade};
 pub use ending::{Ending, Refusal, status_of};
-pub use imaging::build_image;
 pub use packing::pack_files;
-pub use parsing::parse;
-pub use printing::print_file;
 pub use reading::{
     first_long, first_long_of_three, read_file, read_files, read_three, split_contents,
 };
 pub use status::Status;
-pub use upgrading::upgrade;

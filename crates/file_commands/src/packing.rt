@@ -18,7 +18,7 @@ use crate::delivery::{unmade, write_container};
 use crate::ending::{Ending, Refusal};
 use crate::reading::{first_long, read_files, split_contents};
 use bin_config::read_xmc;
-use builders::{Unmade, no_configuration, no_image};
+use builders::{Unmade, no_configuration, no_image, unmade_by};
 use command_line::{PartFile, PartFiles};
 use std::alloc::Global;
 use xef_images::{Xef, read_xef};
@@ -38,8 +38,10 @@ pub fn pack_files<'a, S: Store, O: Sink>(
     // The container of a configuration and its images is written and reported: each file is read, or the first refusal
     // ends the call.
     ensures { IsDone (ending_of result) (Pack configuration.now output.now (seen_files images.entry))
-        (outside (S.files files.old) (S.read_faults files.old) (S.write_faults files.old) (S.calls files.old) (O.got out.old) (O.faults out.old))
-        (outside (S.files files.new) (S.read_faults files.new) (S.write_faults files.new) (S.calls files.new) (O.got out.new) (O.faults out.new)) }
+        (outside (S.files files.old) (S.read_faults files.old) (S.write_faults files.old) (S.calls files.old)
+        (O.got out.old) (O.faults out.old))
+        (outside (S.files files.new) (S.read_faults files.new) (S.write_faults files.new) (S.calls files.new)
+        (O.got out.new) (O.faults out.new)) }
 {
     match read_files(alloc, configuration, images, files) {
         Ok(contents) => {
@@ -166,11 +168,5 @@ fn no_packing(alloc: Global, fault: PackFault) -> Unmade
     ensures text { IsRefusalText result (pack_fault_text fault) }
     ensures memory { fault ≡ PackFault.Memory → result ≡ Unmade.Memory }
 {
-    match fault {
-        PackFault::Memory => Unmade::Memory,
-        _ => match format!(in alloc; "{fault}") {
-            Ok(text) => Unmade::Refused { text },
-            Err(_) => Unmade::Memory,
-        },
-    }
+    unmade_by!(alloc, fault, PackFault::Memory)
 }

@@ -23,8 +23,10 @@ pub fn read_file<'a, S: Store>(
     // The bytes of a file, or its first ones where it is too long; or the call ends by the store's fault or the file's
     // absence, or out of memory, and the store was called once.
     ensures { (got : Option (List ℕ)) (faults : ℕ) → IsFileRead result file.now
-        (outside (S.files files.old) (S.read_faults files.old) (S.write_faults files.old) (S.calls files.old) got faults)
-        (outside (S.files files.new) (S.read_faults files.new) (S.write_faults files.new) (S.calls files.new) got faults) }
+        (outside (S.files files.old) (S.read_faults files.old) (S.write_faults files.old) (S.calls files.old)
+        got faults)
+        (outside (S.files files.new) (S.read_faults files.new) (S.write_faults files.new) (S.calls files.new)
+        got faults) }
 {
     match files.read(alloc, file, FILE_BYTES) {
         Ok(bytes) => Ok(bytes),
@@ -42,9 +44,12 @@ pub fn read_files<'a, S: Store>(
     files: &mut S,
 ) -> Result<Vec<Vec<u8>>, Ending<'a>>
     // The bytes of several files in their order; or the call ends at the first that is not read.
-    ensures { (got : Option (List ℕ)) (faults : ℕ) → AreFilesRead result (first.now ∷ file_names (seen_files others.entry))
-        (outside (S.files files.old) (S.read_faults files.old) (S.write_faults files.old) (S.calls files.old) got faults)
-        (outside (S.files files.new) (S.read_faults files.new) (S.write_faults files.new) (S.calls files.new) got faults) }
+    ensures { (got : Option (List ℕ)) (faults : ℕ)
+        → AreFilesRead result (first.now ∷ file_names (seen_files others.entry))
+        (outside (S.files files.old) (S.read_faults files.old) (S.write_faults files.old) (S.calls files.old)
+        got faults)
+        (outside (S.files files.new) (S.read_faults files.new) (S.write_faults files.new) (S.calls files.new)
+        got faults) }
 {
     let mut contents = Vec::new(alloc);
     let mut file = first;
@@ -77,9 +82,12 @@ pub fn read_three<'a, S: Store>(
     files: &mut S,
 ) -> Result<Vec<Vec<u8>>, Ending<'a>>
     // The bytes of several files in their order; or the call ends at the first that is not read.
-    ensures { (got : Option (List ℕ)) (faults : ℕ) → AreFilesRead result (first.now ∷ second.now ∷ name_if_any (option_copied third.entry))
-        (outside (S.files files.old) (S.read_faults files.old) (S.write_faults files.old) (S.calls files.old) got faults)
-        (outside (S.files files.new) (S.read_faults files.new) (S.write_faults files.new) (S.calls files.new) got faults) }
+    ensures { (got : Option (List ℕ)) (faults : ℕ)
+        → AreFilesRead result (first.now ∷ second.now ∷ name_if_any (option_copied third.entry))
+        (outside (S.files files.old) (S.read_faults files.old) (S.write_faults files.old) (S.calls files.old)
+        got faults)
+        (outside (S.files files.new) (S.read_faults files.new) (S.write_faults files.new) (S.calls files.new)
+        got faults) }
 {
     let mut contents = Vec::new(alloc);
     match read_next(alloc, first, &mut contents, files) {
@@ -142,7 +150,9 @@ pub fn first_long_of_three<'a>(
     contents: &[Vec<u8>],
 ) -> Option<&'a str>
     // The first of the files that has more bytes than a file may have.
-    ensures value { option_copied result ≡ first_long (first.now ∷ second.now ∷ name_if_any (option_copied third.entry)) (map vector_bytes contents.now) }
+    ensures value { option_copied result
+        ≡ first_long (first.now ∷ second.now ∷ name_if_any (option_copied third.entry))
+        (map vector_bytes contents.now) }
 {
     let (bytes, others) = contents.split_first()?;
     if bytes.len() > FILE_BYTES {
@@ -167,7 +177,8 @@ pub fn first_long<'a>(
     contents: &[Vec<u8>],
 ) -> Option<&'a str>
     // The first of the files that has more bytes than a file may have.
-    ensures value { option_copied result ≡ first_long (first.now ∷ file_names (seen_files others.entry)) (map vector_bytes contents.now) }
+    ensures value { option_copied result
+        ≡ first_long (first.now ∷ file_names (seen_files others.entry)) (map vector_bytes contents.now) }
 {
     let (bytes, more) = contents.split_first()?;
     if bytes.len() > FILE_BYTES {

@@ -1,14 +1,18 @@
 -- What commands leave of the board of UARTs.
-use Rattle.std.proofs.Common.{◌≡◌, ℕ, List, Option, Some, None, Result, Ok, Err, refl}
+use Rattle.std.proofs.Common.{◌≡◌, ℕ, List, Option, Some, None, Result, Ok, Err, refl, ap, ◌∙◌}
 use Rattle.uart_board.specs.Views.{BoardView}
-use Rattle.command_line.specs.Words.{Command, PartFile, Parse, Upgrade, BuildImage, ReadImage, Pack, ListContainer, CheckContainer, MakePlan, CheckPlan, ListGroups, Generate}
+use Rattle.command_line.specs.Words.{Command, PartFile, Pack, Generate}
 use Rattle.run_commands.specs.Boards.{LeavesBoard, Plays}
 use Rattle.xm_commands.specs.Played.{IsMarked}
+use Rattle.file_commands.specs.Conversion.{command_making}
 use Rattle.file_commands.specs.Denial.{Denial}
 use Rattle.file_commands.specs.Ending.{Ending, Done, Usage, ReadFault, Refused, WriteFaultReport, WriteFaultFile, UartFault, NoMemory, status_of}
-use Rattle.file_commands.specs.Outcome.{Running, first_long, inputs_of, file_made, outcome_of, packed_to, text_reported, unless_long, outcome_of_contents}
+use Rattle.file_commands.specs.Outcome.{Outcome, Running, content, converted, first_long, inputs_of, outcome_of, outcome_of_file, outcome_of_print, packed_to, unless_long, outcome_of_contents}
 use Rattle.xm_commands.specs.Top.{IsQuiet}
+use Rattle.file_commands.specs.declared.converting.Conversion.{Conversion}
+use Rattle.file_commands.specs.declared.converting.Conversion.TheVariants.{File, Report}
 use Rattle.file_commands.specs.declared.status.Status.TheVariants as status
+use Rattle.file_commands.specs.lemmas.ConversionLemmas.{conversion_outcome, converts}
 use Rattle.xm_commands.proofs.TopLemmas.{loud}
 
 -- Commands that run nothing.
@@ -21,47 +25,24 @@ no_run command contents none = at (first_long (inputs_of command) contents)
     at None = none
     at (Some file) = refl
 
-made_runs : (input output : List ℕ) (r : Result (List ℕ) (List ℕ)) → (file_made input output r).run ≡ None
-made_runs input output (Ok bytes) = refl
-made_runs input output (Err text) = refl
+made_runs : (file : List ℕ) (outcome : List ℕ → Outcome) (made_of : Result (List ℕ) (List ℕ)) → ((bytes : List ℕ) → (outcome bytes).run ≡ None) → (converted file outcome made_of).run ≡ None
+made_runs file outcome (Ok bytes) none = none bytes
+made_runs file outcome (Err text) none = refl
 
 packed_runs : (output : List ℕ) (r : Result (List ℕ) Denial) → (packed_to output r).run ≡ None
 packed_runs output (Ok bytes) = refl
 packed_runs output (Err denial) = refl
 
-reported_runs : (file : List ℕ) (r : Result (List ℕ) (List ℕ)) → (text_reported file r).run ≡ None
-reported_runs file (Ok text) = refl
-reported_runs file (Err text) = refl
-
-pub parse_runs : (description output : List ℕ) (contents : List (List ℕ)) → (outcome_of (Parse description output) contents).run ≡ None
-parse_runs description output contents = no_run (Parse description output) contents (made_runs description output _)
-
-pub upgrade_runs : (configuration output : List ℕ) (contents : List (List ℕ)) → (outcome_of (Upgrade configuration output) contents).run ≡ None
-upgrade_runs configuration output contents = no_run (Upgrade configuration output) contents (made_runs configuration output _)
-
-pub build_runs : (program output : List ℕ) (contents : List (List ℕ)) → (outcome_of (BuildImage program output) contents).run ≡ None
-build_runs program output contents = no_run (BuildImage program output) contents (made_runs program output _)
-
-pub read_runs : (image : List ℕ) (contents : List (List ℕ)) → (outcome_of (ReadImage image) contents).run ≡ None
-read_runs image contents = no_run (ReadImage image) contents (reported_runs image _)
+-- a conversion
+pub converted_runs : (made_of : Conversion) (file : List ℕ) (contents : List (List ℕ)) → (outcome_of (command_making made_of file) contents).run ≡ None
+converted_runs made_of file contents = no_run (command_making made_of file) contents (ap (λ (outcome : Outcome). outcome.run) (converts made_of file contents) ∙ at made_of)
+  where
+    at : (made_of : Conversion) → (conversion_outcome made_of file (content 0 contents)).run ≡ None
+    at (File what output) = made_runs file (outcome_of_file output.now) _ (λ bytes. refl)
+    at (Report what) = made_runs file outcome_of_print _ (λ bytes. refl)
 
 pub pack_runs : (configuration output : List ℕ) (images : List PartFile) (contents : List (List ℕ)) → (outcome_of (Pack configuration output images) contents).run ≡ None
 pack_runs configuration output images contents = no_run (Pack configuration output images) contents (packed_runs output _)
-
-pub list_runs : (container : List ℕ) (contents : List (List ℕ)) → (outcome_of (ListContainer container) contents).run ≡ None
-list_runs container contents = no_run (ListContainer container) contents (reported_runs container _)
-
-pub check_runs : (container : List ℕ) (contents : List (List ℕ)) → (outcome_of (CheckContainer container) contents).run ≡ None
-check_runs container contents = no_run (CheckContainer container) contents (reported_runs container _)
-
-pub make_plan_runs : (description : List ℕ) (contents : List (List ℕ)) → (outcome_of (MakePlan description) contents).run ≡ None
-make_plan_runs description contents = no_run (MakePlan description) contents (reported_runs description _)
-
-pub check_plan_runs : (description : List ℕ) (contents : List (List ℕ)) → (outcome_of (CheckPlan description) contents).run ≡ None
-check_plan_runs description contents = no_run (CheckPlan description) contents (reported_runs description _)
-
-pub list_groups_runs : (description : List ℕ) (contents : List (List ℕ)) → (outcome_of (ListGroups description) contents).run ≡ None
-list_groups_runs description contents = no_run (ListGroups description) contents (reported_runs description _)
 
 pub generate_runs : (number : ℕ) (contents : List (List ℕ)) → (outcome_of (Generate number) contents).run ≡ None
 generate_runs number contents = no_run (Generate number) contents refl

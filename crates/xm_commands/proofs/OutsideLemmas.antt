@@ -20,15 +20,11 @@ use Rattle.loaded_system.specs.Bare.{bare_system}
 use Rattle.loaded_system.specs.System.{System}
 use Rattle.system_state.specs.State.{with_inputs}
 use Rattle.file_commands.specs.Ending.{length_text, ticks_text}
-use Rattle.builders.specs.Grouping.{groups_of}
-use Rattle.builders.specs.Imaging.{container_lines_of, container_verdict_of, image_lines_of, xef_of}
 use Rattle.file_commands.specs.Inputs.{no_inputs}
 use Rattle.file_commands.specs.Packing.{container_of}
-use Rattle.builders.specs.Parsing.{upgraded_of, xmc_of}
-use Rattle.builders.specs.Planning.{plan_lines_of, verdicts_of}
 use Rattle.builders.specs.Ready.{Replay as Readied, Unready, replay_of}
 use Rattle.file_commands.specs.Denial.{Denial}
-use Rattle.file_commands.specs.Outcome.{Output, bare_outcome, content, first_long, input_bytes, file_made, packed_to, played, outcome_of_run, ran_for, ran_scripted, ran_with, ran_within, command_refused, refused_by, replay_outcome_by, replay_outcome, run_by, run_outcome, text_reported, inputs_of, outcome_of, scripts_for, ticks_asked, unless_long, outcome_of_contents}
+use Rattle.file_commands.specs.Outcome.{Outcome, Output, bare_outcome, content, converted, first_long, input_bytes, outcome_of_file, outcome_of_print, packed_to, played, outcome_of_run, ran_for, ran_scripted, ran_with, ran_within, command_refused, refused_by, replay_outcome_by, replay_outcome, run_by, run_outcome, inputs_of, outcome_of, scripts_for, ticks_asked, unless_long, outcome_of_contents}
 use Rattle.xm_commands.specs.Top.{AreContents}
 use Rattle.file_commands.specs.Work.{counted_by, Outside, ReadsFiles, wrote}
 use Rattle.file_commands.specs.lemmas.CommandLemmas.{outcome-long}
@@ -90,19 +86,14 @@ same_refusal : (one other : Denial) → Some one ≡ Some other → refused_by o
 same_refusal one other e = (let same : one ≡ other = cc in ap refused_by same)
 
 -- what is made is refused so, or not at all
-made-denied : (input file : List ℕ) (made_of : Result (List ℕ) (List ℕ)) (denial : Denial) → (file_made input file made_of).denial ≡ Some denial → file_made input file made_of ≡ refused_by denial
-made-denied input file (Ok bytes) denial e = absurd (cc)
-made-denied input file (Err text) denial e = same_refusal _ denial e
+made-denied : (file : List ℕ) (outcome : List ℕ → Outcome) (made_of : Result (List ℕ) (List ℕ)) (denial : Denial) → ((bytes : List ℕ) → (outcome bytes).denial ≡ None) → (converted file outcome made_of).denial ≡ Some denial → converted file outcome made_of ≡ refused_by denial
+made-denied file outcome (Ok bytes) denial none e = (let some : None ≡ Some denial = sym (none bytes) ∙ e in absurd (cc))
+made-denied file outcome (Err text) denial none e = same_refusal _ denial e
 
 -- and so is what is packed
 packed-denied : (file : List ℕ) (packed : Result (List ℕ) Denial) (denial : Denial) → (packed_to file packed).denial ≡ Some denial → packed_to file packed ≡ refused_by denial
 packed-denied file (Ok bytes) denial e = absurd (cc)
 packed-denied file (Err refusal) denial e = same_refusal refusal denial e
-
--- and what is printed
-reported-denied : (file : List ℕ) (text : Result (List ℕ) (List ℕ)) (denial : Denial) → (text_reported file text).denial ≡ Some denial → text_reported file text ≡ refused_by denial
-reported-denied file (Ok text) denial e = absurd (cc)
-reported-denied file (Err text) denial e = same_refusal _ denial e
 
 -- a run of a system is not refused
 ran-denied : (ticks : ℕ) (cores : List PartFile) (scripts : List Output) (system : System) (inputs : List (List ℕ)) (denial : Denial) → (outcome_of_run ticks cores scripts system inputs).denial ≡ Some denial → ⊥
@@ -171,16 +162,16 @@ outcome-denied command contents denial is = at command (first_long (inputs_of co
     at : (command : Command) (long : Option (List ℕ)) → (unless_long long (outcome_of_contents command contents)).denial ≡ Some denial → unless_long long (outcome_of_contents command contents) ≡ refused_by denial
     at command (Some file) e = same_refusal _ denial e
     at (Bare image ticks) None e = bare-denied image ticks (content 0 contents) denial e
-    at (Parse description out) None e = made-denied description out (xmc_of (content 0 contents)) denial e
-    at (Upgrade configuration out) None e = made-denied configuration out (upgraded_of (content 0 contents)) denial e
-    at (BuildImage program out) None e = made-denied program out (xef_of (content 0 contents)) denial e
-    at (ReadImage image) None e = reported-denied image (image_lines_of (content 0 contents)) denial e
+    at (Parse description out) None e = made-denied description (outcome_of_file out) _ denial (λ bytes. refl) e
+    at (Upgrade configuration out) None e = made-denied configuration (outcome_of_file out) _ denial (λ bytes. refl) e
+    at (BuildImage program out) None e = made-denied program (outcome_of_file out) _ denial (λ bytes. refl) e
+    at (ReadImage image) None e = made-denied image outcome_of_print _ denial (λ bytes. refl) e
     at (Pack configuration out images) None e = packed-denied out (container_of configuration (content 0 contents) images (drop 1 contents)) denial e
-    at (ListContainer container) None e = reported-denied container (container_lines_of (content 0 contents)) denial e
-    at (CheckContainer container) None e = reported-denied container (container_verdict_of (content 0 contents)) denial e
-    at (MakePlan description) None e = reported-denied description (plan_lines_of (content 0 contents)) denial e
-    at (CheckPlan description) None e = reported-denied description (verdicts_of (content 0 contents)) denial e
-    at (ListGroups description) None e = reported-denied description (groups_of (content 0 contents)) denial e
+    at (ListContainer container) None e = made-denied container outcome_of_print _ denial (λ bytes. refl) e
+    at (CheckContainer container) None e = made-denied container outcome_of_print _ denial (λ bytes. refl) e
+    at (MakePlan description) None e = made-denied description outcome_of_print _ denial (λ bytes. refl) e
+    at (CheckPlan description) None e = made-denied description outcome_of_print _ denial (λ bytes. refl) e
+    at (ListGroups description) None e = made-denied description outcome_of_print _ denial (λ bytes. refl) e
     at (Generate number) None e = absurd (cc)
     at (Run container options) None e = run-denied container options (content 0 contents) (drop 1 contents) denial e
     at (Replay container part script further) None e = replay-denied container part script further (content 0 contents) (content 1 contents) (input_bytes (replay_input further) (content 2 contents)) denial e

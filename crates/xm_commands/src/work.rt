@@ -12,13 +12,15 @@ ghost use Rattle.command_line.specs.Words.{command_of};
 
 use crate::generating::generate;
 use crate::replaying::replay_container;
-use builders::Printout;
+use builders::MadeFile::{self, Configuration, Upgraded};
+use builders::Printout::{self, Container, Groups, Plan, Verdict, Verdicts};
 use command_line::Command::{
     Bare, BuildImage, CheckContainer, CheckPlan, Generate, ListContainer, ListGroups, MakePlan,
     Pack, Parse, ReadImage, Replay, Run, Upgrade,
 };
 use command_line::{Command, Words, command, grammar};
-use file_commands::{Ending, build_image, pack_files, parse, print_file, upgrade};
+use file_commands::Conversion::{File, Report};
+use file_commands::{Ending, convert, pack_files};
 use run_commands::{run_container, run_file};
 use std::alloc::Global;
 use uart_board::{Board, ViewBoard};
@@ -71,29 +73,29 @@ fn do_command<'a, S: Store, O: Sink>(
         Parse {
             description,
             output,
-        } => parse(alloc, description, output, files, out),
+        } => convert(alloc, File(Configuration, output), description, files, out),
         Upgrade {
             configuration,
             output,
-        } => upgrade(alloc, configuration, output, files, out),
-        BuildImage { program, output } => build_image(alloc, program, output, files, out),
-        ReadImage { image } => print_file(alloc, Printout::Image, image, files, out),
+        } => convert(alloc, File(Upgraded, output), configuration, files, out),
+        BuildImage { program, output } => convert(
+            alloc,
+            File(MadeFile::Image, output),
+            program,
+            files,
+            out,
+        ),
+        ReadImage { image } => convert(alloc, Report(Printout::Image), image, files, out),
         Pack {
             configuration,
             output,
             images,
         } => pack_files(alloc, configuration, output, images, files, out),
-        ListContainer { container } => print_file(
-            alloc,
-            Printout::Container,
-            container,
-            files,
-            out,
-        ),
-        CheckContainer { container } => print_file(alloc, Printout::Verdict, container, files, out),
-        MakePlan { description } => print_file(alloc, Printout::Plan, description, files, out),
-        CheckPlan { description } => print_file(alloc, Printout::Verdicts, description, files, out),
-        ListGroups { description } => print_file(alloc, Printout::Groups, description, files, out),
+        ListContainer { container } => convert(alloc, Report(Container), container, files, out),
+        CheckContainer { container } => convert(alloc, Report(Verdict), container, files, out),
+        MakePlan { description } => convert(alloc, Report(Plan), description, files, out),
+        CheckPlan { description } => convert(alloc, Report(Verdicts), description, files, out),
+        ListGroups { description } => convert(alloc, Report(Groups), description, files, out),
         Generate { number } => generate(alloc, number, out),
         Run { container, options } => {
             run_container(alloc, container, options, files, out, board)

@@ -9,7 +9,7 @@ use Rattle.xm_outside.specs.lemmas.GrowthLemmas.{grown-nothing}
 use Rattle.xm_outside.specs.Growth.{GrewByPrefix}
 use Rattle.command_line.specs.Words.{Command}
 use Rattle.file_commands.specs.Ending.{Ending, Done, Usage, ReadFault, Refused, WriteFaultReport, WriteFaultFile, UartFault, NoMemory}
-use Rattle.file_commands.specs.Outcome.{Outcome, first_long, inputs_of, file_made, outcome_of, output_of, command_refused, text_reported, unless_long, outcome_of_contents}
+use Rattle.file_commands.specs.Outcome.{Outcome, first_long, inputs_of, converted, outcome_of, output_of, command_refused, unless_long, outcome_of_contents}
 use Rattle.builders.specs.Makes.{IsUnmade}
 use Rattle.file_commands.specs.Makes.{IsUnmadeOf}
 use Rattle.builders.specs.declared.unmade.Unmade.{Unmade}
@@ -53,19 +53,10 @@ no-writes command contents none = no_output _ (λ output is. (let named = output
 pub refused_comes : (file text : List ℕ) (before : Outside) → Comes (Refused file text) (command_refused file text) before before
 refused_comes file text before = (refl, sym (ap (λ (g : Option (List ℕ)). record before { got = g }) (grown-nothing before.got)))
 
--- and its report has got nothing
-pub refused_reports : (file text : List ℕ) (had : Option (List ℕ)) (faults : ℕ) → Reports (Refused file text) (command_refused file text) had faults had faults
-refused_reports file text had faults = (refl, sym (grown-nothing had), refl)
-
 -- where nothing was made, nothing is done
-pub unmade_comes : (e : Ending) (input output : List ℕ) (why : Unmade) (m : Result (List ℕ) (List ℕ)) (before : Outside) → IsUnmadeOf e input why → IsUnmade why m → Comes e (file_made input output m) before before
-unmade_comes e input output (unmade.Refused text) m before ends is = rw (ends, is) (refused_comes input _ before)
-unmade_comes e input output unmade.Memory m before ends is = rw ends refl
-
--- and nothing is printed
-pub unmade_reports : (e : Ending) (file : List ℕ) (why : Unmade) (m : Result (List ℕ) (List ℕ)) (had : Option (List ℕ)) (faults : ℕ) → IsUnmadeOf e file why → IsUnmade why m → Reports e (text_reported file m) had faults had faults
-unmade_reports e file (unmade.Refused text) m had faults ends is = rw (ends, is) (refused_reports file _ had faults)
-unmade_reports e file unmade.Memory m had faults ends is = rw ends (refl, refl)
+pub unmade_comes : (e : Ending) (file : List ℕ) (outcome : List ℕ → Outcome) (why : Unmade) (m : Result (List ℕ) (List ℕ)) (before : Outside) → IsUnmadeOf e file why → IsUnmade why m → Comes e (converted file outcome m) before before
+unmade_comes e file outcome (unmade.Refused text) m before ends is = rw (ends, is) (refused_comes file _ before)
+unmade_comes e file outcome unmade.Memory m before ends is = rw ends refl
 
 -- From what is done with files to what is done in all.
 

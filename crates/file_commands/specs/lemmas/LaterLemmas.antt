@@ -13,13 +13,9 @@ use Rattle.command_line.specs.Words.{Command, PartFile, RunOption, Bare, Parse, 
 use Rattle.builders.specs.Ready.{Replay as Readied, Unready, replay_of}
 use Rattle.file_commands.specs.Denial.{Denial}
 use Rattle.file_commands.specs.Ending.{length_text, ticks_text}
-use Rattle.builders.specs.Grouping.{groups_of}
-use Rattle.builders.specs.Imaging.{container_lines_of, container_verdict_of, image_lines_of, xef_of}
 use Rattle.file_commands.specs.Inputs.{no_inputs}
-use Rattle.file_commands.specs.Outcome.{Output, bare_outcome, content, core_outputs, first_long, input_bytes, inputs_of, later_of, file_made, name_if_any, outcome_of, output_of, packed_to, played, outcome_of_run, ran_for, ran_scripted, ran_with, ran_within, command_refused, replay_outcome_by, replay_outcome, replay_output, run_by, run_outcome, script_before, script_denial, script_output, scripts_for, ticks_asked, text_reported, unless_denied, unless_long, outcome_of_contents}
+use Rattle.file_commands.specs.Outcome.{Outcome, Output, bare_outcome, content, converted, core_outputs, first_long, input_bytes, inputs_of, later_of, name_if_any, outcome_of_file, outcome_of_print, outcome_of, output_of, packed_to, played, outcome_of_run, ran_for, ran_scripted, ran_with, ran_within, command_refused, replay_outcome_by, replay_outcome, replay_output, run_by, run_outcome, script_before, script_denial, script_output, scripts_for, ticks_asked, unless_denied, unless_long, outcome_of_contents}
 use Rattle.file_commands.specs.Packing.{container_of, file_names}
-use Rattle.builders.specs.Parsing.{upgraded_of, xmc_of}
-use Rattle.builders.specs.Planning.{plan_lines_of, verdicts_of}
 use Rattle.file_commands.specs.Work.{file_in}
 use Rattle.file_commands.specs.lemmas.OutputLemmas.{output-named}
 
@@ -110,17 +106,13 @@ run-later file options bytes contents = at (unpacked bytes)
     at (Ok system) = with-later file options system _
     at (Err fault) = inr refl
 
-made-later : (input file : List ℕ) (made_of : Result (List ℕ) (List ℕ)) → (file_made input file made_of).later ≡ []
-made-later input file (Ok bytes) = refl
-made-later input file (Err text) = refl
+made-later : (file : List ℕ) (outcome : List ℕ → Outcome) (made_of : Result (List ℕ) (List ℕ)) → ((bytes : List ℕ) → (outcome bytes).later ≡ []) → (converted file outcome made_of).later ≡ []
+made-later file outcome (Ok bytes) none = none bytes
+made-later file outcome (Err text) none = refl
 
 packed-later : (file : List ℕ) (packed : Result (List ℕ) Denial) → (packed_to file packed).later ≡ []
 packed-later file (Ok bytes) = refl
 packed-later file (Err refusal) = refl
-
-reported-later : (file : List ℕ) (text : Result (List ℕ) (List ℕ)) → (text_reported file text).later ≡ []
-reported-later file (Ok text) = refl
-reported-later file (Err text) = refl
 
 -- the core file of a replay
 replay_output-files : (replay : Readied) (core : Option (List ℕ)) → output_names (map (replay_output replay) (name_if_any core)) ≡ name_if_any core
@@ -147,16 +139,16 @@ later-named command contents = at command (first_long (inputs_of command) conten
     at : (command : Command) (long : Option (List ℕ)) → AreNamed (later_of command) (unless_long long (outcome_of_contents command contents)).later
     at command (Some file) = inr refl
     at (Bare image ticks) None = bare-later image ticks (content 0 contents)
-    at (Parse description out) None = inr (made-later description out (xmc_of (content 0 contents)))
-    at (Upgrade configuration out) None = inr (made-later configuration out (upgraded_of (content 0 contents)))
-    at (BuildImage program out) None = inr (made-later program out (xef_of (content 0 contents)))
-    at (ReadImage image) None = inr (reported-later image (image_lines_of (content 0 contents)))
+    at (Parse description out) None = inr (made-later description (outcome_of_file out) _ (λ bytes. refl))
+    at (Upgrade configuration out) None = inr (made-later configuration (outcome_of_file out) _ (λ bytes. refl))
+    at (BuildImage program out) None = inr (made-later program (outcome_of_file out) _ (λ bytes. refl))
+    at (ReadImage image) None = inr (made-later image outcome_of_print _ (λ bytes. refl))
     at (Pack configuration out images) None = inr (packed-later out (container_of configuration (content 0 contents) images (drop 1 contents)))
-    at (ListContainer container) None = inr (reported-later container (container_lines_of (content 0 contents)))
-    at (CheckContainer container) None = inr (reported-later container (container_verdict_of (content 0 contents)))
-    at (MakePlan description) None = inr (reported-later description (plan_lines_of (content 0 contents)))
-    at (CheckPlan description) None = inr (reported-later description (verdicts_of (content 0 contents)))
-    at (ListGroups description) None = inr (reported-later description (groups_of (content 0 contents)))
+    at (ListContainer container) None = inr (made-later container outcome_of_print _ (λ bytes. refl))
+    at (CheckContainer container) None = inr (made-later container outcome_of_print _ (λ bytes. refl))
+    at (MakePlan description) None = inr (made-later description outcome_of_print _ (λ bytes. refl))
+    at (CheckPlan description) None = inr (made-later description outcome_of_print _ (λ bytes. refl))
+    at (ListGroups description) None = inr (made-later description outcome_of_print _ (λ bytes. refl))
     at (Generate number) None = inr refl
     at (Run container options) None = run-later container options (content 0 contents) (drop 1 contents)
     at (Replay container part script further) None = replay-later container part script further (content 0 contents) (content 1 contents) (input_bytes (replay_input further) (content 2 contents))

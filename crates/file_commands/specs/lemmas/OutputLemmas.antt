@@ -8,15 +8,11 @@ use Rattle.loaded_system.specs.Bare.{bare_system}
 use Rattle.loaded_system.specs.System.{System}
 use Rattle.system_state.specs.State.{with_inputs}
 use Rattle.file_commands.specs.Ending.{length_text, ticks_text}
-use Rattle.builders.specs.Grouping.{groups_of}
-use Rattle.builders.specs.Imaging.{container_lines_of, container_verdict_of, image_lines_of, xef_of}
 use Rattle.file_commands.specs.Inputs.{no_inputs}
 use Rattle.file_commands.specs.Packing.{container_of}
-use Rattle.builders.specs.Parsing.{upgraded_of, xmc_of}
-use Rattle.builders.specs.Planning.{plan_lines_of, verdicts_of}
 use Rattle.builders.specs.Ready.{Replay as Readied, Unready, replay_of}
 use Rattle.file_commands.specs.Denial.{Denial}
-use Rattle.file_commands.specs.Outcome.{Output, bare_outcome, content, first_long, input_bytes, file_made, packed_to, played, outcome_of_run, ran_for, ran_scripted, ran_with, ran_within, command_refused, replay_outcome_by, replay_outcome, run_by, run_outcome, text_reported, inputs_of, outcome_of, output_of, scripts_for, ticks_asked, unless_long, outcome_of_contents}
+use Rattle.file_commands.specs.Outcome.{Output, bare_outcome, content, first_long, input_bytes, converted, outcome_of_file, outcome_of_print, packed_to, played, outcome_of_run, ran_for, ran_scripted, ran_with, ran_within, command_refused, replay_outcome_by, replay_outcome, run_by, run_outcome, inputs_of, outcome_of, output_of, scripts_for, ticks_asked, unless_long, outcome_of_contents}
 use Rattle.file_commands.specs.Work.{counted_by, Outside, after_store_call, called_for}
 
 -- Calls.
@@ -33,7 +29,7 @@ called_for-is (file ∷ files) before = called_for-is files (after_store_call be
 -- What is written first.
 
 -- what is made is written where the words say
-made-output : (input file : List ℕ) (made_of : Result (List ℕ) (List ℕ)) (output : Output) → (file_made input file made_of).output ≡ Some output → Some file ≡ Some output.file
+made-output : (input file : List ℕ) (made_of : Result (List ℕ) (List ℕ)) (output : Output) → (converted input (outcome_of_file file) made_of).output ≡ Some output → Some file ≡ Some output.file
 made-output input file (Ok bytes) output e = (let same : record { file = file; bytes = bytes } ≡ output = cc in ap (λ (o : Output). Some o.file) same)
 made-output input file (Err text) output e = absurd (cc)
 
@@ -43,7 +39,7 @@ packed-output file (Ok bytes) output e = (let same : record { file = file; bytes
 packed-output file (Err refusal) output e = absurd (cc)
 
 -- what is printed writes no file
-reported-output : (file : List ℕ) (text : Result (List ℕ) (List ℕ)) (output : Output) → (text_reported file text).output ≡ Some output → ⊥
+reported-output : (file : List ℕ) (text : Result (List ℕ) (List ℕ)) (output : Output) → (converted file outcome_of_print text).output ≡ Some output → ⊥
 reported-output file (Ok text) output e = cc
 reported-output file (Err text) output e = cc
 
@@ -113,16 +109,16 @@ output-named command contents output is = at command (first_long (inputs_of comm
     at : (command : Command) (long : Option (List ℕ)) → (unless_long long (outcome_of_contents command contents)).output ≡ Some output → output_of command ≡ Some output.file
     at command (Some file) e = absurd (cc)
     at (Bare image ticks) None e = absurd (bare-output image ticks (content 0 contents) output e)
-    at (Parse description out) None e = made-output description out (xmc_of (content 0 contents)) output e
-    at (Upgrade configuration out) None e = made-output configuration out (upgraded_of (content 0 contents)) output e
-    at (BuildImage program out) None e = made-output program out (xef_of (content 0 contents)) output e
-    at (ReadImage image) None e = absurd (reported-output image (image_lines_of (content 0 contents)) output e)
+    at (Parse description out) None e = made-output description out _ output e
+    at (Upgrade configuration out) None e = made-output configuration out _ output e
+    at (BuildImage program out) None e = made-output program out _ output e
+    at (ReadImage image) None e = absurd (reported-output image _ output e)
     at (Pack configuration out images) None e = packed-output out (container_of configuration (content 0 contents) images (drop 1 contents)) output e
-    at (ListContainer container) None e = absurd (reported-output container (container_lines_of (content 0 contents)) output e)
-    at (CheckContainer container) None e = absurd (reported-output container (container_verdict_of (content 0 contents)) output e)
-    at (MakePlan description) None e = absurd (reported-output description (plan_lines_of (content 0 contents)) output e)
-    at (CheckPlan description) None e = absurd (reported-output description (verdicts_of (content 0 contents)) output e)
-    at (ListGroups description) None e = absurd (reported-output description (groups_of (content 0 contents)) output e)
+    at (ListContainer container) None e = absurd (reported-output container _ output e)
+    at (CheckContainer container) None e = absurd (reported-output container _ output e)
+    at (MakePlan description) None e = absurd (reported-output description _ output e)
+    at (CheckPlan description) None e = absurd (reported-output description _ output e)
+    at (ListGroups description) None e = absurd (reported-output description _ output e)
     at (Generate number) None e = absurd (cc)
     at (Run container options) None e = absurd (run-output container options (content 0 contents) (drop 1 contents) output e)
     at (Replay container part script further) None e = absurd (replay-output container part script further (content 0 contents) (content 1 contents) (input_bytes (replay_input further) (content 2 contents)) output e)
