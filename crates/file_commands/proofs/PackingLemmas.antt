@@ -12,7 +12,7 @@ use Rattle.file_commands.specs.Packing.{container_of, images_of, file_names}
 use Rattle.file_commands.specs.lemmas.PackingTerms.{limited}
 use Rattle.file_commands.specs.lemmas.Read.{HasRead}
 use Rattle.file_commands.specs.Work.{Outside, AreNotRead, IsNotRead, IsOutOfMemory, ReadsFiles, after_store_call, called_for}
-use Rattle.file_commands.specs.lemmas.WorkTerms.{Comes}
+use Rattle.file_commands.specs.lemmas.WorkTerms.{HasOutcome}
 use Rattle.file_commands.specs.lemmas.OutputLemmas.{called_for-is}
 
 -- Files are read.
@@ -126,9 +126,9 @@ outcome-pack configuration output images contents = at (first_long (configuratio
     at (Some file) = refl
 
 -- what is done with the outcome of packing is what the command does, seen from another state that is the same
-pub comes_packed : (e : Ending) (configuration output : List ℕ) (images : List PartFile) (contents : List (List ℕ)) (mid other after : Outside) → mid ≡ other
-    → Comes e (packed_to output (limited (first_long (configuration ∷ file_names images) contents) (container_of configuration (content 0 contents) images (drop 1 contents)))) mid after
-    → Comes e (outcome_of (Pack configuration output images) contents) other after
-comes_packed e configuration output images contents mid other after same comes =
-    subst (λ (outcome : Outcome). Comes e outcome other after) (sym (outcome-pack configuration output images contents))
-    (subst (λ (m : Outside). Comes e (packed_to output (limited (first_long (configuration ∷ file_names images) contents) (container_of configuration (content 0 contents) images (drop 1 contents)))) m after) same comes)
+pub packed_outcome : (e : Ending) (configuration output : List ℕ) (images : List PartFile) (contents : List (List ℕ)) (mid other after : Outside) → mid ≡ other
+    → HasOutcome e (packed_to output (limited (first_long (configuration ∷ file_names images) contents) (container_of configuration (content 0 contents) images (drop 1 contents)))) mid after
+    → HasOutcome e (outcome_of (Pack configuration output images) contents) other after
+packed_outcome e configuration output images contents mid other after same comes =
+    subst (λ (outcome : Outcome). HasOutcome e outcome other after) (sym (outcome-pack configuration output images contents))
+    (subst (λ (m : Outside). HasOutcome e (packed_to output (limited (first_long (configuration ∷ file_names images) contents) (container_of configuration (content 0 contents) images (drop 1 contents)))) m after) same comes)

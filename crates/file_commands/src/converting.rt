@@ -5,7 +5,7 @@ ghost use Rattle.file_commands.specs.Conversion.{command_making};
 ghost use Rattle.file_commands.specs.EndingValues.{ending_of};
 ghost use Rattle.file_commands.specs.Outcome.{outcome_of};
 ghost use Rattle.file_commands.specs.Work.{IsDone, outside};
-ghost use Rattle.file_commands.specs.lemmas.WorkTerms.{Comes};
+ghost use Rattle.file_commands.specs.lemmas.WorkTerms.{HasOutcome};
 
 use crate::delivery::{report, save, unmade};
 use crate::ending::{Ending, Refusal};
@@ -55,7 +55,7 @@ fn convert_bytes<'a, S: Store, O: Sink>(
     files: &mut S,
     out: &mut O,
 ) -> Ending<'a>
-    ensures { Comes (ending_of result) (outcome_of (command_making conversion.entry file.now) (bytes.now ∷ []))
+    ensures { HasOutcome (ending_of result) (outcome_of (command_making conversion.entry file.now) (bytes.now ∷ []))
         (outside (S.files files.old) (S.read_faults files.old) (S.write_faults files.old) (S.calls files.old)
         (O.got out.old) (O.faults out.old))
         (outside (S.files files.new) (S.read_faults files.new) (S.write_faults files.new) (S.calls files.new)

@@ -8,7 +8,7 @@ ghost use Rattle.file_commands.specs.Makes.{IsUnmadeOf};
 ghost use Rattle.file_commands.specs.Outcome.{made_text, outcome_of_file, outcome_of_print, packed_to};
 ghost use Rattle.file_commands.specs.lemmas.EndingValuesTerms.{MakesOr};
 ghost use Rattle.file_commands.specs.EndingValues.{vector_bytes, ending_of};
-ghost use Rattle.file_commands.specs.lemmas.WorkTerms.{Comes};
+ghost use Rattle.file_commands.specs.lemmas.WorkTerms.{HasOutcome};
 ghost use Rattle.file_commands.specs.Work.{Reports, outside};
 
 use crate::ending::{Ending, Refusal};
@@ -23,7 +23,7 @@ pub(crate) fn write_container<'a, S: Store, O: Sink>(
     out: &mut O,
 ) -> Ending<'a>
     ensures { (m : Result (List ℕ) Denial) → MakesOr vector_bytes container.entry m
-        → Comes (ending_of result) (packed_to output.now m)
+        → HasOutcome (ending_of result) (packed_to output.now m)
         (outside (S.files files.old) (S.read_faults files.old) (S.write_faults files.old) (S.calls files.old)
         (O.got out.old) (O.faults out.old))
         (outside (S.files files.new) (S.read_faults files.new) (S.write_faults files.new) (S.calls files.new)
@@ -56,7 +56,7 @@ pub(crate) fn save<'a, S: Store, O: Sink>(
     files: &mut S,
     out: &mut O,
 ) -> Ending<'a>
-    ensures { Comes (ending_of result) (outcome_of_file output.now bytes.now)
+    ensures { HasOutcome (ending_of result) (outcome_of_file output.now bytes.now)
         (outside (S.files files.old) (S.read_faults files.old) (S.write_faults files.old) (S.calls files.old)
         (O.got out.old) (O.faults out.old))
         (outside (S.files files.new) (S.read_faults files.new) (S.write_faults files.new) (S.calls files.new)

@@ -3,12 +3,12 @@ use Rattle.std.proofs.Common.{ℕ, List, Option, Result, refl, ap, sym, subst}
 use Rattle.uart_board.specs.Views.{BoardView}
 use Rattle.loaded_system.specs.System.{System}
 use Rattle.command_line.specs.Words.{PartFile, RunOption}
-use Rattle.file_commands.specs.lemmas.CommandLemmas.{refused_comes}
+use Rattle.file_commands.specs.lemmas.CommandLemmas.{refused_outcome}
 use Rattle.file_commands.specs.Denial.{Denial}
 use Rattle.file_commands.specs.Ending.{Ending, Done, Usage, ReadFault, Refused, WriteFaultReport, WriteFaultFile, UartFault, NoMemory}
 use Rattle.file_commands.specs.Outcome.{Outcome, Output, ran_scripted, ran_with}
 use Rattle.file_commands.specs.lemmas.EndingValuesTerms.{IsDenied}
-use Rattle.file_commands.specs.lemmas.WorkTerms.{Comes}
+use Rattle.file_commands.specs.lemmas.WorkTerms.{HasOutcome}
 use Rattle.file_commands.specs.Work.{Outside}
 use Rattle.run_commands.specs.Boards.{LeavesBoard}
 use Rattle.run_commands.specs.Numbers.{HasScripts}
@@ -37,15 +37,15 @@ scripts_refuse (UartFault place) ticks cores system inputs made denied = absurd 
 scripts_refuse NoMemory ticks cores system inputs made denied = tt
 
 -- then nothing is done
-pub refusing_comes : (e : Ending) (outcome : Outcome) (before : Outside) → IsRefusing e outcome → Comes e outcome before before
-refusing_comes Done outcome before refuses = absurd refuses
-refusing_comes Usage outcome before refuses = absurd refuses
-refusing_comes (ReadFault file) outcome before refuses = absurd refuses
-refusing_comes (Refused file text) outcome before refuses = subst (λ (o : Outcome). Comes (Refused file text) o before before) (sym refuses) (refused_comes file text before)
-refusing_comes WriteFaultReport outcome before refuses = absurd refuses
-refusing_comes (WriteFaultFile file) outcome before refuses = absurd refuses
-refusing_comes (UartFault place) outcome before refuses = absurd refuses
-refusing_comes NoMemory outcome before refuses = refl
+pub refusing_outcome : (e : Ending) (outcome : Outcome) (before : Outside) → IsRefusing e outcome → HasOutcome e outcome before before
+refusing_outcome Done outcome before refuses = absurd refuses
+refusing_outcome Usage outcome before refuses = absurd refuses
+refusing_outcome (ReadFault file) outcome before refuses = absurd refuses
+refusing_outcome (Refused file text) outcome before refuses = subst (λ (o : Outcome). HasOutcome (Refused file text) o before before) (sym refuses) (refused_outcome file text before)
+refusing_outcome WriteFaultReport outcome before refuses = absurd refuses
+refusing_outcome (WriteFaultFile file) outcome before refuses = absurd refuses
+refusing_outcome (UartFault place) outcome before refuses = absurd refuses
+refusing_outcome NoMemory outcome before refuses = refl
 
 -- and the board is left as it was
 pub refusing_leaves : (e : Ending) (outcome : Outcome) (had got : Option (List ℕ)) (board : BoardView) → IsRefusing e outcome → LeavesBoard e outcome.run had got board board

@@ -35,8 +35,8 @@ use Rattle.file_commands.specs.Makes.{IsUnmadeOf}
 use Rattle.builders.specs.declared.unmade.Unmade.{Unmade}
 use Rattle.builders.specs.declared.unmade.Unmade.TheVariants as unmade
 use Rattle.file_commands.specs.Work.{Outside, outside, reported_all}
-use Rattle.file_commands.specs.lemmas.WorkTerms.{Comes}
-use Rattle.file_commands.specs.lemmas.CommandLemmas.{one-short, refused_comes}
+use Rattle.file_commands.specs.lemmas.WorkTerms.{HasOutcome}
+use Rattle.file_commands.specs.lemmas.CommandLemmas.{one-short, refused_outcome}
 use Rattle.run_commands.specs.lemmas.BoardLemmas.{reports_same}
 
 -- Runs.
@@ -59,7 +59,7 @@ finished r cores scripts system inputs ticks new had got is = is.report ∙ ap (
 -- a run whose report was not taken whole
 pub unwritten : {from to : BoardView} (fault : WriteFault) (cores : List PartFile) (scripts : List Output) (system : System) (inputs : List (List ℕ)) (ticks : ℕ) (new : Machine) (had got : Option (List ℕ)) (before now : ℕ) (files : Option Files) (reads writes calls : ℕ)
     → IsRun (Err fault) ticks (start (with_inputs system inputs)) new had got from to → Rose before now
-    → Comes WriteFaultReport (outcome_of_run ticks cores scripts system inputs) (outside files reads writes calls had before) (outside files reads writes calls got now)
+    → HasOutcome WriteFaultReport (outcome_of_run ticks cores scripts system inputs) (outside files reads writes calls had before) (outside files reads writes calls got now)
 unfolding outcome_of_run
 unwritten fault cores scripts system inputs ticks new had got before now files reads writes calls is rose =
     (rose, subst (λ (lines : List ReportLine). GrewByPrefix had (texts lines) got) (reports_same (with_inputs system inputs) ticks) is.report, refl)
@@ -90,7 +90,7 @@ report_and_after r cores scripts system inputs ticks new had got before now file
 -- the outcome of a run whose whole report went out is what is done after it
 pub run_and_after : {from to : BoardView} (e : Ending) (board : BoardView) (r : Ran) (cores : List PartFile) (scripts : List Output) (system : System) (inputs : List (List ℕ)) (ticks : ℕ) (new : Machine) (had got : Option (List ℕ)) (before now : ℕ) (files : Option Files) (reads writes calls : ℕ) (after : Outside)
     → EndsAfter e (core_outputs new cores ++ scripts) board (outside files reads writes calls got now) after → IsRun (Ok r) ticks (start (with_inputs system inputs)) new had got from to → now ≡ before
-    → Comes e (outcome_of_run ticks cores scripts system inputs) (outside files reads writes calls had before) after
+    → HasOutcome e (outcome_of_run ticks cores scripts system inputs) (outside files reads writes calls had before) after
 run_and_after e board r cores scripts system inputs ticks new had got before now files reads writes calls after ends is same =
     outcome_and_after e board (outcome_of_run ticks cores scripts system inputs) (outside files reads writes calls had before) (outside files reads writes calls got now) after
     (granted ticks cores scripts system inputs) (runs ticks cores scripts system inputs)
@@ -132,9 +132,9 @@ fault_text_by (Err fault) = Err (box_fault_text fault)
 
 -- and nothing is run
 pub unmade_runs : (e : Ending) (file : List ℕ) (options : List RunOption) (contents : List (List ℕ)) (why : Unmade) (read : Result System BoxFault) (before : Outside) → IsUnmadeOf e file why → IsUnmade why (fault_text_by read)
-    → Comes e (run_by file options contents read) before before
+    → HasOutcome e (run_by file options contents read) before before
 unmade_runs e file options contents (unmade.Refused text) (Ok system) before ends is = absurd (cc)
 unmade_runs e file options contents (unmade.Refused text) (Err fault) before ends is =
     let same : box_fault_text fault ≡ string_bytes text = cc in
-    rw (ends, same) (refused_comes file _ before)
+    rw (ends, same) (refused_outcome file _ before)
 unmade_runs e file options contents unmade.Memory read before ends is = rw ends refl

@@ -11,7 +11,7 @@ ghost use Rattle.run_commands.specs.lemmas.Cores.{AreForPartitions, FitInto};
 ghost use Rattle.file_commands.specs.Outcome.{outcome_of, outcome_of_run};
 ghost use Rattle.run_commands.specs.lemmas.Scripts.{made_output};
 ghost use Rattle.file_commands.specs.EndingValues.{ending_of};
-ghost use Rattle.file_commands.specs.lemmas.WorkTerms.{Comes};
+ghost use Rattle.file_commands.specs.lemmas.WorkTerms.{HasOutcome};
 ghost use Rattle.file_commands.specs.Work.{outside};
 ghost use Rattle.command_line.specs.Seen.{seen_files};
 ghost use Rattle.command_line.specs.Words.{Bare};
@@ -66,7 +66,7 @@ fn run_bytes<'a, S: Store, O: Sink>(
     board: &mut Board,
 ) -> Ending<'a>
     requires { ticks ≤ TICKS }
-    ensures comes { Comes (ending_of result) (outcome_of (Bare image.now ticks) (bytes.now ∷ []))
+    ensures outcome { HasOutcome (ending_of result) (outcome_of (Bare image.now ticks) (bytes.now ∷ []))
         (outside (S.files files.old) (S.read_faults files.old) (S.write_faults files.old) (S.calls files.old)
         (O.got out.old) (O.faults out.old))
         (outside (S.files files.new) (S.read_faults files.new) (S.write_faults files.new) (S.calls files.new)
@@ -116,7 +116,7 @@ pub(crate) fn run_system<'a, S: Store, O: Sink>(
     requires most { ticks ≤ TICKS }
     requires given { length inputs ≡ length system.conf.parts }
     requires inside { AreForPartitions (length system.conf.parts) (seen_files cores) }
-    ensures comes { Comes (ending_of result)
+    ensures outcome { HasOutcome (ending_of result)
         (outcome_of_run ticks (seen_files cores.entry) (map made_output scripts.now) system inputs)
         (outside (S.files files.old) (S.read_faults files.old) (S.write_faults files.old) (S.calls files.old)
         (O.got out.old) (O.faults out.old))
@@ -152,8 +152,8 @@ fn run_booted<'a, S: Store, O: Sink>(
     requires fresh { machine.old.state.ticks ≡ 0 }
     requires running { machine.old.state.halted ≡ false }
     requires inside { AreForPartitions (length machine.old.state.parts) (seen_files cores) }
-    ensures comes { (system : Loaded) (inputs : List (List ℕ)) → machine.old.state ≡ start (with_inputs system inputs)
-        → Comes (ending_of result)
+    ensures outcome { (system : Loaded) (inputs : List (List ℕ)) → machine.old.state ≡ start (with_inputs system inputs)
+        → HasOutcome (ending_of result)
         (outcome_of_run ticks (seen_files cores.entry) (map made_output scripts.now) system inputs)
         (outside (S.files files.old) (S.read_faults files.old) (S.write_faults files.old) (S.calls files.old)
         (O.got out.old) (O.faults out.old))
@@ -187,8 +187,8 @@ fn run_into<'a, S: Store, O: Sink>(
     requires running { machine.old.state.halted ≡ false }
     requires inside { AreForPartitions (length machine.old.state.parts) (seen_files cores) }
     requires room { FitInto machine.old.state.system (length room.old) (seen_files cores) }
-    ensures comes { (system : Loaded) (inputs : List (List ℕ)) → machine.old.state ≡ start (with_inputs system inputs)
-        → Comes (ending_of result)
+    ensures outcome { (system : Loaded) (inputs : List (List ℕ)) → machine.old.state ≡ start (with_inputs system inputs)
+        → HasOutcome (ending_of result)
         (outcome_of_run ticks (seen_files cores.entry) (map made_output scripts.now) system inputs)
         (outside (S.files files.old) (S.read_faults files.old) (S.write_faults files.old) (S.calls files.old)
         (O.got out.old) (O.faults out.old))

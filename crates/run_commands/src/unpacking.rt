@@ -14,7 +14,7 @@ ghost use Rattle.file_commands.specs.Inputs.{inputs_for};
 ghost use Rattle.file_commands.specs.Outcome.{content, first_long, outcome_of, outcome_of_run, ran_with, run_outcome, ticks_asked};
 ghost use Rattle.file_commands.specs.Packing.{file_names};
 ghost use Rattle.file_commands.specs.EndingValues.{vector_bytes, ending_of};
-ghost use Rattle.file_commands.specs.lemmas.WorkTerms.{Comes};
+ghost use Rattle.file_commands.specs.lemmas.WorkTerms.{HasOutcome};
 ghost use Rattle.file_commands.specs.Work.{outside};
 ghost use Rattle.command_line.specs.Grammar.{count_of};
 ghost use Rattle.command_line.specs.Seen.{seen_files, seen_options};
@@ -70,7 +70,7 @@ fn run_files<'a, S: Store, O: Sink>(
     board: &mut Board,
 ) -> Ending<'a>
     requires { count_of (span_in (seen_options options)) ≤ TICKS }
-    ensures comes { Comes (ending_of result)
+    ensures outcome { HasOutcome (ending_of result)
         (outcome_of (Run container.now (seen_options options.entry)) (map vector_bytes contents.now))
         (outside (S.files files.old) (S.read_faults files.old) (S.write_faults files.old) (S.calls files.old)
         (O.got out.old) (O.faults out.old))
@@ -106,7 +106,7 @@ fn run_packed<'a, S: Store, O: Sink>(
     requires short { first_long (container.now ∷ file_names (inputs_in (seen_options options)))
         (map vector_bytes contents.now)
         ≡ None }
-    ensures comes { Comes (ending_of result)
+    ensures outcome { HasOutcome (ending_of result)
         (run_outcome container.now (seen_options options.entry) (content 0 (map vector_bytes contents.now))
         (drop 1 (map vector_bytes contents.now)))
         (outside (S.files files.old) (S.read_faults files.old) (S.write_faults files.old) (S.calls files.old)
@@ -145,7 +145,7 @@ fn run_unpacked<'a, S: Store, O: Sink>(
     requires short { first_long (file_names (inputs_in (seen_options options))) (drop 1 (map vector_bytes contents.now))
         ≡ None }
     requires same { unpacked (content 0 (map vector_bytes contents.now)) ≡ Ok system }
-    ensures comes { Comes (ending_of result)
+    ensures outcome { HasOutcome (ending_of result)
         (ran_with container.now (seen_options options.entry) system
         (inputs_for (length system.conf.parts) (seen_options options.entry) (drop 1 (map vector_bytes contents.now))))
         (outside (S.files files.old) (S.read_faults files.old) (S.write_faults files.old) (S.calls files.old)
@@ -183,7 +183,7 @@ fn run_ready<'a, S: Store, O: Sink>(
     requires most { ready.ticks ≤ TICKS }
     requires given { length ready.inputs ≡ length system.conf.parts }
     requires inside { AreForPartitions (length system.conf.parts) (seen_files cores) }
-    ensures comes { Comes (ending_of result)
+    ensures outcome { HasOutcome (ending_of result)
         (outcome_of_run ready.entry.ticks (seen_files cores.entry) (map made_output ready.entry.scripts.items)
         system ready.entry.inputs)
         (outside (S.files files.old) (S.read_faults files.old) (S.write_faults files.old) (S.calls files.old)

@@ -8,7 +8,7 @@ use Rattle.file_commands.specs.Status.{IsCodeOf}
 use Rattle.file_commands.specs.declared.status.Status.{Status}
 use Rattle.file_commands.specs.declared.status.Status.TheVariants.{Done, NoMemory}
 use Rattle.xm_commands.specs.Arguments.{after_name}
-use Rattle.xm_commands.specs.Ended.{ComesTo, IsEndedBy, IsOnFiles, SaysUsage, unseen}
+use Rattle.xm_commands.specs.Ended.{AnswersArguments, IsEndedBy, IsOnFiles, SaysUsage, unseen}
 
 -- the end of a call whose arguments were read, with streams that counted no fault before
 pub read_ended : {A : Type 0} (given : Result (Vec (String A) A) Error) (texts : Vec (String A) A) (handed : List (String A)) (status : Status) (exit before after error_before error_after : ℕ)
@@ -19,8 +19,8 @@ read_ended given texts handed status exit before after error_before error_after 
   faults = after;
   error_faults = error_after;
   code = code;
-  comes =
-      subst (λ g. ComesTo g status after error_after) (sym is) (
+  answer =
+      subst (λ g. AnswersArguments g status after error_after) (sym is) (
       subst (λ n. IsOnFiles status (after_name texts.items) (unseen n) (unseen after) (unseen 0) (unseen error_after)) no_fault (
       subst (λ n. IsOnFiles status (after_name texts.items) (unseen before) (unseen after) (unseen n) (unseen error_after)) no_error (
       subst (λ l. IsOnFiles status (after_name l) (unseen before) (unseen after) (unseen error_before) (unseen error_after)) same came)));
@@ -37,7 +37,7 @@ unread_ended given error status exit error_before error_after is no_error code s
   faults = 0;
   error_faults = error_after;
   code = code;
-  comes = subst (λ g. ComesTo g status 0 error_after) (sym is) record {
+  answer = subst (λ g. AnswersArguments g status 0 error_after) (sym is) record {
     report = refl;
     starved = λ memory. (starved memory, quiet memory ∙ no_error);
     misused = λ other. subst (λ n. SaysUsage status (unseen n) (unseen error_after)) no_error (misused other);

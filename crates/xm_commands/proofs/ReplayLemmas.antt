@@ -24,10 +24,10 @@ use Rattle.xm_base.specs.declared.limits.TheConstants.{FILE_BYTES}
 use Rattle.file_commands.specs.Outcome.{Output, Running, Apart, content, first_long, input_bytes, name_if_any, played, replay_outcome_by, replay_output, unready_denial}
 use Rattle.xm_commands.specs.lemmas.Replaying.{lone_output, ready_of, unready_ending}
 use Rattle.file_commands.specs.Work.{Outside, outside, reported_all}
-use Rattle.file_commands.specs.lemmas.WorkTerms.{Comes}
+use Rattle.file_commands.specs.lemmas.WorkTerms.{HasOutcome}
 use Rattle.std.proofs.lemmas.Bool.Decides.{nat_tests}
 use Rattle.run_commands.specs.lemmas.InputLemmas.{rest_short}
-use Rattle.file_commands.specs.lemmas.CommandLemmas.{refused_comes}
+use Rattle.file_commands.specs.lemmas.CommandLemmas.{refused_outcome}
 
 -- A replay.
 
@@ -61,18 +61,18 @@ played-runs core replay = refl
 -- so its outcome is what is done after its report
 pub after_replay : (e : Ending) (board : BoardView) (lone new : Lone) (cues : List Cue) (core : Option (List ℕ)) (had got : Option (List ℕ)) (before now : ℕ) (files : Option Files) (reads writes calls : ℕ) (mid last : BoardView) (after : Outside)
     → IsWholeReplay cues (replay_lines (own_view lone) cues) lone new had got mid last → now ≡ before → EndsAfter e (map (lone_output new) (name_if_any core)) board (outside files reads writes calls got now) after
-    → Comes e (played core (ready_of lone cues)) (outside files reads writes calls had before) after
+    → HasOutcome e (played core (ready_of lone cues)) (outside files reads writes calls had before) after
 after_replay e board lone new cues core had got before now files reads writes calls mid last after is same ends =
     outcome_and_after e board (played core (ready_of lone cues)) (outside files reads writes calls had before) (outside files reads writes calls got now) after (played-granted core (ready_of lone cues)) (played-runs core (ready_of lone cues))
     (whole_reported lone new cues core had got before now files reads writes calls mid last is same)
     (subst (λ (os : List Output). EndsAfter e os board (outside files reads writes calls got now) after) (cores_are lone new cues core is.left) ends)
 
 -- its report was cut
-pub cut_comes : (lone new : Lone) (cues : List Cue) (core : Option (List ℕ)) (had got : Option (List ℕ)) (before now : ℕ) (files : Option Files) (reads writes calls : ℕ) (mid after : BoardView)
+pub cut_outcome : (lone new : Lone) (cues : List Cue) (core : Option (List ℕ)) (had got : Option (List ℕ)) (before now : ℕ) (files : Option Files) (reads writes calls : ℕ) (mid after : BoardView)
     → IsCutReplay cues (replay_lines (own_view lone) cues) lone new had got mid after → Rose before now
-    → Comes WriteFaultReport (played core (ready_of lone cues)) (outside files reads writes calls had before) (outside files reads writes calls got now)
+    → HasOutcome WriteFaultReport (played core (ready_of lone cues)) (outside files reads writes calls had before) (outside files reads writes calls got now)
 unfolding played
-cut_comes lone new cues core had got before now files reads writes calls mid after is rose = (rose, is.report, refl)
+cut_outcome lone new cues core had got before now files reads writes calls mid after is rose = (rose, is.report, refl)
 
 -- one that was played from a state is one from the state that is the same
 pub played_from : {T : Type 0} (result : Result T WriteFault) (cues : List Cue) (lines : List ReportLine) (lone from new : Lone) (had got : Option (List ℕ)) (mid after : BoardView) → lone ≡ from
@@ -113,12 +113,12 @@ lone_cut lone new cues core had got before mid after is begins = record {
 
 -- A replay that cannot begin.
 
-pub unready_comes : (container : List ℕ) (part : ℕ) (script : List ℕ) (further : ReplayFiles) (why : Option Unready) (made : Result Readied Unready) (before : Outside) → IsUnready why made
-    → Comes (unready_ending container part script further why) (replay_outcome_by container part script further made) before before
-unready_comes container part script further None made before is = refl
-unready_comes container part script further (Some why) made before is =
-    subst (λ (m : Result Readied Unready). Comes (unready_ending container part script further (Some why)) (replay_outcome_by container part script further m) before before) (sym is)
-    (refused_comes (unready_denial container part script further why).file (unready_denial container part script further why).text before)
+pub unready_outcome : (container : List ℕ) (part : ℕ) (script : List ℕ) (further : ReplayFiles) (why : Option Unready) (made : Result Readied Unready) (before : Outside) → IsUnready why made
+    → HasOutcome (unready_ending container part script further why) (replay_outcome_by container part script further made) before before
+unready_outcome container part script further None made before is = refl
+unready_outcome container part script further (Some why) made before is =
+    subst (λ (m : Result Readied Unready). HasOutcome (unready_ending container part script further (Some why)) (replay_outcome_by container part script further m) before before) (sym is)
+    (refused_outcome (unready_denial container part script further why).file (unready_denial container part script further why).text before)
 
 pub unready_leaves : (container : List ℕ) (part : ℕ) (script : List ℕ) (further : ReplayFiles) (why : Option Unready) (run : Option Running) (had got : Option (List ℕ)) (board : BoardView)
     → LeavesBoard (unready_ending container part script further why) run had got board board

@@ -49,11 +49,11 @@ pub record HadNoArguments (status : Status) (error : Error) (faults error_faults
   pub starved : error_kind error ≡ OutOfMemory → (status ≡ exit.NoMemory) × (error_faults ≡ 0)
   pub misused : error_kind error ≢ OutOfMemory → SaysUsage status (unseen 0) (unseen error_faults)
 
--- the outcome of the arguments, of which the first is the program's name, with a report and an error output of which nothing is known but how many
+-- the answer to the arguments, of which the first is the program's name, with a report and an error output of which nothing is known but how many
 -- of their writes failed, none of them before
-abbrev pub ComesTo : {A : Type 0} → Result (Vec (String A) A) Error → Status → ℕ → ℕ → Type 0
-ComesTo (Ok texts) status faults error_faults = IsOnFiles status (after_name texts.items) (unseen 0) (unseen faults) (unseen 0) (unseen error_faults)
-ComesTo (Err error) status faults error_faults = HadNoArguments status error faults error_faults
+abbrev pub AnswersArguments : {A : Type 0} → Result (Vec (String A) A) Error → Status → ℕ → ℕ → Type 0
+AnswersArguments (Ok texts) status faults error_faults = IsOnFiles status (after_name texts.items) (unseen 0) (unseen faults) (unseen 0) (unseen error_faults)
+AnswersArguments (Err error) status faults error_faults = HadNoArguments status error faults error_faults
 
 -- the exit status is the code of a status to which the arguments come
 pub record IsEndedBy {A : Type 0} (given : Result (Vec (String A) A) Error) (exit : ℕ) : Type 0 where
@@ -61,6 +61,6 @@ pub record IsEndedBy {A : Type 0} (given : Result (Vec (String A) A) Error) (exi
   pub faults : ℕ
   pub error_faults : ℕ
   pub code : IsCodeOf status exit
-  pub comes : ComesTo given status faults error_faults
+  pub answer : AnswersArguments given status faults error_faults
   -- after Done no write to the error output failed
   pub silent : status ≡ exit.Done → error_faults ≡ 0

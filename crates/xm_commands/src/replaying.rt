@@ -14,7 +14,7 @@ ghost use Rattle.recording_model.specs.Lone.{booted_alone, own_view};
 ghost use Rattle.xm_machine.specs.Outcome.{HasWriteCause};
 ghost use Rattle.xm_commands.specs.lemmas.Replaying.{HasCoreRoom, ready_of, unready_ending};
 ghost use Rattle.file_commands.specs.EndingValues.{vector_bytes, ending_of};
-ghost use Rattle.file_commands.specs.lemmas.WorkTerms.{Comes};
+ghost use Rattle.file_commands.specs.lemmas.WorkTerms.{HasOutcome};
 ghost use Rattle.file_commands.specs.Work.{outside};
 ghost use Rattle.command_line.specs.Seen.{seen_further};
 ghost use Rattle.command_line.specs.Words.{Replay as ReplayPart, replay_input};
@@ -71,7 +71,7 @@ fn replay_files<'a, S: Store, O: Sink>(
     out: &mut O,
     board: &mut Board,
 ) -> Ending<'a>
-    ensures comes { Comes (ending_of result)
+    ensures outcome { HasOutcome (ending_of result)
         (outcome_of (ReplayPart container.now part script.now (seen_further further.entry))
         (map vector_bytes contents.now))
         (outside (S.files files.old) (S.read_faults files.old) (S.write_faults files.old) (S.calls files.old)
@@ -111,7 +111,7 @@ fn replay_short<'a, S: Store, O: Sink>(
     requires { first_long (container.now ∷ script.now ∷ name_if_any (replay_input (seen_further further)))
         (map vector_bytes contents.now)
         ≡ None }
-    ensures comes { Comes (ending_of result)
+    ensures outcome { HasOutcome (ending_of result)
         (replay_outcome container.now part script.now (seen_further further.entry)
         (content 0 (map vector_bytes contents.now)) (content 1 (map vector_bytes contents.now))
         (input_bytes (replay_input (seen_further further.entry)) (content 2 (map vector_bytes contents.now))))
@@ -170,7 +170,7 @@ fn play_owned<'a, S: Store, O: Sink>(
     board: &mut Board,
 ) -> Ending<'a>
     requires { IsReady replay.silent replay.alone replay.script }
-    ensures comes { Comes (ending_of result) (played (option_copied core.entry) (ready_of replay.alone replay.script))
+    ensures outcome { HasOutcome (ending_of result) (played (option_copied core.entry) (ready_of replay.alone replay.script))
         (outside (S.files files.old) (S.read_faults files.old) (S.write_faults files.old) (S.calls files.old)
         (O.got out.old) (O.faults out.old))
         (outside (S.files files.new) (S.read_faults files.new) (S.write_faults files.new) (S.calls files.new)
@@ -199,7 +199,7 @@ fn play_ready<'a, S: Store, O: Sink>(
     board: &mut Board,
 ) -> Ending<'a>
     requires { IsReady silent alone.old script.now }
-    ensures comes { Comes (ending_of result) (played (option_copied core.entry) (ready_of alone.old script.now))
+    ensures outcome { HasOutcome (ending_of result) (played (option_copied core.entry) (ready_of alone.old script.now))
         (outside (S.files files.old) (S.read_faults files.old) (S.write_faults files.old) (S.calls files.old)
         (O.got out.old) (O.faults out.old))
         (outside (S.files files.new) (S.read_faults files.new) (S.write_faults files.new) (S.calls files.new)
@@ -227,7 +227,7 @@ fn play_into<'a, S: Store, O: Sink>(
 ) -> Ending<'a>
     requires ready { IsReady silent alone.old script.now }
     requires room { HasCoreRoom (option_copied core) (core_length_of (own_view alone.old)) (length room.old) }
-    ensures comes { Comes (ending_of result) (played (option_copied core.entry) (ready_of alone.old script.now))
+    ensures outcome { HasOutcome (ending_of result) (played (option_copied core.entry) (ready_of alone.old script.now))
         (outside (S.files files.old) (S.read_faults files.old) (S.write_faults files.old) (S.calls files.old)
         (O.got out.old) (O.faults out.old))
         (outside (S.files files.new) (S.read_faults files.new) (S.write_faults files.new) (S.calls files.new)

@@ -16,7 +16,7 @@ use Rattle.builders.specs.declared.unmade.Unmade.{Unmade}
 use Rattle.builders.specs.declared.unmade.Unmade.TheVariants as unmade
 use Rattle.file_commands.specs.lemmas.OutputLemmas.{called_for-is, no_output, output-named}
 use Rattle.file_commands.specs.Work.{Outside, AreNotRead, Does, IsDone, IsNotRead, ReadsFiles, Reports, after_store_call, called_for, outside}
-use Rattle.file_commands.specs.lemmas.WorkTerms.{Comes}
+use Rattle.file_commands.specs.lemmas.WorkTerms.{HasOutcome}
 
 -- The outcome of one file.
 
@@ -50,18 +50,18 @@ pub no-writes : (command : Command) (contents : List (List ℕ)) → output_of c
 no-writes command contents none = no_output _ (λ output is. (let named = output-named command contents output is in let no : ⊥ = cc in no))
 
 -- a command that is refused does nothing
-pub refused_comes : (file text : List ℕ) (before : Outside) → Comes (Refused file text) (command_refused file text) before before
-refused_comes file text before = (refl, sym (ap (λ (g : Option (List ℕ)). record before { got = g }) (grown-nothing before.got)))
+pub refused_outcome : (file text : List ℕ) (before : Outside) → HasOutcome (Refused file text) (command_refused file text) before before
+refused_outcome file text before = (refl, sym (ap (λ (g : Option (List ℕ)). record before { got = g }) (grown-nothing before.got)))
 
 -- where nothing was made, nothing is done
-pub unmade_comes : (e : Ending) (file : List ℕ) (outcome : List ℕ → Outcome) (why : Unmade) (m : Result (List ℕ) (List ℕ)) (before : Outside) → IsUnmadeOf e file why → IsUnmade why m → Comes e (converted file outcome m) before before
-unmade_comes e file outcome (unmade.Refused text) m before ends is = rw (ends, is) (refused_comes file _ before)
-unmade_comes e file outcome unmade.Memory m before ends is = rw ends refl
+pub unmade_outcome : (e : Ending) (file : List ℕ) (outcome : List ℕ → Outcome) (why : Unmade) (m : Result (List ℕ) (List ℕ)) (before : Outside) → IsUnmadeOf e file why → IsUnmade why m → HasOutcome e (converted file outcome m) before before
+unmade_outcome e file outcome (unmade.Refused text) m before ends is = rw (ends, is) (refused_outcome file _ before)
+unmade_outcome e file outcome unmade.Memory m before ends is = rw ends refl
 
 -- From what is done with files to what is done in all.
 
 -- a command whose files were read did all of its work, by what was read
-pub does_by : (e : Ending) (command : Command) (contents : List (List ℕ)) (before after : Outside) → ReadsFiles before.files (inputs_of command) contents → Comes e (outcome_of command contents) (called_for (inputs_of command) before) after → Does e contents command before after
+pub does_by : (e : Ending) (command : Command) (contents : List (List ℕ)) (before after : Outside) → ReadsFiles before.files (inputs_of command) contents → HasOutcome e (outcome_of command contents) (called_for (inputs_of command) before) after → Does e contents command before after
 does_by Done command contents before after read comes = record { read = read; denied = comes.0; outside = comes.1 }
 does_by Usage command contents before after read comes = absurd comes
 does_by (ReadFault other) command contents before after read comes = absurd comes
@@ -78,11 +78,11 @@ does_by (WriteFaultFile other) command contents before after read comes = record
 does_by (UartFault place) command contents before after read comes = record { carried = record { read = read; denied = comes.1; outside = comes.2 }; run = comes.0 }
 does_by NoMemory command contents before after read comes = record { first = inputs_of command; rest = []; named = sym (append-nil (inputs_of command)); outside = comes }
 
-pub done_by : (e : Ending) (command : Command) (contents : List (List ℕ)) (before after : Outside) → ReadsFiles before.files (inputs_of command) contents → Comes e (outcome_of command contents) (called_for (inputs_of command) before) after → IsDone e command before after
+pub done_by : (e : Ending) (command : Command) (contents : List (List ℕ)) (before after : Outside) → ReadsFiles before.files (inputs_of command) contents → HasOutcome e (outcome_of command contents) (called_for (inputs_of command) before) after → IsDone e command before after
 done_by e command contents before after read comes = record { contents = contents; does = does_by e command contents before after read comes }
 
 -- a command that reads one file did all of its work
-pub done_by_one : (e : Ending) (command : Command) (file bytes : List ℕ) (before after : Outside) → inputs_of command ≡ file ∷ [] → ReadsFile before.files file FILE_BYTES bytes → Comes e (outcome_of command (bytes ∷ [])) (after_store_call before) after → IsDone e command before after
+pub done_by_one : (e : Ending) (command : Command) (file bytes : List ℕ) (before after : Outside) → inputs_of command ≡ file ∷ [] → ReadsFile before.files file FILE_BYTES bytes → HasOutcome e (outcome_of command (bytes ∷ [])) (after_store_call before) after → IsDone e command before after
 done_by_one e command file bytes before after one read comes = done_by e command (bytes ∷ []) before after (rw one (read, tt)) (rw one comes)
 
 -- a command whose files were not all read ends so, whatever their contents
@@ -100,8 +100,8 @@ pub not_all_read_done : (e : Ending) (command : Command) (before after : Outside
 not_all_read_done e command before after not_read = record { contents = []; does = not_all_read_does e [] command before after not_read }
 
 -- what is done, seen from another state that is the same
-pub comes_from : (e : Ending) (outcome : Outcome) (mid other after : Outside) → mid ≡ other → Comes e outcome mid after → Comes e outcome other after
-comes_from e outcome mid other after same comes = subst (λ (m : Outside). Comes e outcome m after) same comes
+pub outcome_from : (e : Ending) (outcome : Outcome) (mid other after : Outside) → mid ≡ other → HasOutcome e outcome mid after → HasOutcome e outcome other after
+outcome_from e outcome mid other after same comes = subst (λ (m : Outside). HasOutcome e outcome m after) same comes
 
 -- where one file was not read, not all files of a list with that one alone were
 pub not_all_of_one : (e : Ending) (file : List ℕ) (before after : Outside) → IsNotRead e file before after → AreNotRead e (file ∷ []) before after
@@ -128,13 +128,13 @@ not_read_done e command file before after one not_read =
     not_all_read_done e command before after (subst (λ (files : List (List ℕ)). AreNotRead e files before after) (sym one) (not_all_of_one e file before after not_read))
 
 -- a report is all that is done, where no file is written
-pub comes_by_report : (e : Ending) (outcome : Outcome) (files : Option Files) (reads writes calls : ℕ) (had got : Option (List ℕ)) (faults now : ℕ) → outcome.output ≡ None → outcome.later ≡ [] → Reports e outcome had faults got now
-    → Comes e outcome (outside files reads writes calls had faults) (outside files reads writes calls got now)
-comes_by_report Done outcome files reads writes calls had got faults now none last r = (r.0, rw (none, last, r.1, r.2) refl)
-comes_by_report Usage outcome files reads writes calls had got faults now none last r = absurd r
-comes_by_report (ReadFault file) outcome files reads writes calls had got faults now none last r = absurd r
-comes_by_report (Refused file text) outcome files reads writes calls had got faults now none last r = (r.0, rw (none, last, r.1, r.2) refl)
-comes_by_report WriteFaultReport outcome files reads writes calls had got faults now none last r = (r.0, r.1, rw none refl)
-comes_by_report (WriteFaultFile file) outcome files reads writes calls had got faults now none last r = absurd r
-comes_by_report (UartFault place) outcome files reads writes calls had got faults now none last r = absurd r
-comes_by_report NoMemory outcome files reads writes calls had got faults now none last r = rw (r.0, r.1) refl
+pub outcome_by_report : (e : Ending) (outcome : Outcome) (files : Option Files) (reads writes calls : ℕ) (had got : Option (List ℕ)) (faults now : ℕ) → outcome.output ≡ None → outcome.later ≡ [] → Reports e outcome had faults got now
+    → HasOutcome e outcome (outside files reads writes calls had faults) (outside files reads writes calls got now)
+outcome_by_report Done outcome files reads writes calls had got faults now none last r = (r.0, rw (none, last, r.1, r.2) refl)
+outcome_by_report Usage outcome files reads writes calls had got faults now none last r = absurd r
+outcome_by_report (ReadFault file) outcome files reads writes calls had got faults now none last r = absurd r
+outcome_by_report (Refused file text) outcome files reads writes calls had got faults now none last r = (r.0, rw (none, last, r.1, r.2) refl)
+outcome_by_report WriteFaultReport outcome files reads writes calls had got faults now none last r = (r.0, r.1, rw none refl)
+outcome_by_report (WriteFaultFile file) outcome files reads writes calls had got faults now none last r = absurd r
+outcome_by_report (UartFault place) outcome files reads writes calls had got faults now none last r = absurd r
+outcome_by_report NoMemory outcome files reads writes calls had got faults now none last r = rw (r.0, r.1) refl

@@ -12,7 +12,7 @@ use Rattle.file_commands.specs.Work.{Outside}
 use Rattle.file_commands.specs.declared.converting.Conversion.{Conversion}
 use Rattle.file_commands.specs.declared.converting.Conversion.TheVariants.{File, Report}
 use Rattle.file_commands.specs.lemmas.CommandLemmas.{one-short}
-use Rattle.file_commands.specs.lemmas.WorkTerms.{Comes}
+use Rattle.file_commands.specs.lemmas.WorkTerms.{HasOutcome}
 
 -- the file is all that is read
 pub reads_one : (made_of : Conversion) (file : List ℕ) → inputs_of (command_making made_of file) ≡ file ∷ []
@@ -44,13 +44,13 @@ converts (Report printed.Verdicts) file contents = refl
 converts (Report printed.Groups) file contents = refl
 
 -- where the file is not too long, what is done with what is made is what the command does
-pub converted_comes : (e : Ending) (made_of : Conversion) (file bytes : List ℕ) (before after : Outside) → length bytes ≤ FILE_BYTES → Comes e (conversion_outcome made_of file bytes) before after
-    → Comes e (outcome_of (command_making made_of file) (bytes ∷ [])) before after
-converted_comes e made_of file bytes before after short comes =
-    subst (λ (outcome : Outcome). Comes e outcome before after)
+pub command_outcome : (e : Ending) (made_of : Conversion) (file bytes : List ℕ) (before after : Outside) → length bytes ≤ FILE_BYTES → HasOutcome e (conversion_outcome made_of file bytes) before after
+    → HasOutcome e (outcome_of (command_making made_of file) (bytes ∷ [])) before after
+command_outcome e made_of file bytes before after short comes =
+    subst (λ (outcome : Outcome). HasOutcome e outcome before after)
     (sym (one-short (command_making made_of file) file bytes (reads_one made_of file) short ∙ converts made_of file (bytes ∷ []))) comes
 
 -- where something was made, its outcome is that of the conversion
-pub made_comes : (e : Ending) (file : List ℕ) (outcome : List ℕ → Outcome) (m : Result (List ℕ) (List ℕ)) (bytes : List ℕ) (before after : Outside) → m ≡ Ok bytes → Comes e (outcome bytes) before after
-    → Comes e (converted file outcome m) before after
-made_comes e file outcome m bytes before after is comes = subst (λ (r : Result (List ℕ) (List ℕ)). Comes e (converted file outcome r) before after) (sym is) comes
+pub made_outcome : (e : Ending) (file : List ℕ) (outcome : List ℕ → Outcome) (m : Result (List ℕ) (List ℕ)) (bytes : List ℕ) (before after : Outside) → m ≡ Ok bytes → HasOutcome e (outcome bytes) before after
+    → HasOutcome e (converted file outcome m) before after
+made_outcome e file outcome m bytes before after is comes = subst (λ (r : Result (List ℕ) (List ℕ)). HasOutcome e (converted file outcome r) before after) (sym is) comes

@@ -8,18 +8,18 @@ use Rattle.file_commands.specs.Ending.{Ending, Done, Usage, ReadFault, Refused, 
 use Rattle.file_commands.specs.Work.{Outside, after_store_call, with_report, with_files, wrote, did, IsNotSaved}
 
 -- what is done once the files are read: their outcome, by cases on how that ended
-abbrev pub Comes : Ending → Outcome → Outside → Outside → Type 0
-Comes Done outcome before after = (outcome.denial ≡ None) × (after ≡ did outcome before)
-Comes Usage outcome before after = ⊥
-Comes (ReadFault file) outcome before after = ⊥
-Comes (Refused file text) outcome before after =
+abbrev pub HasOutcome : Ending → Outcome → Outside → Outside → Type 0
+HasOutcome Done outcome before after = (outcome.denial ≡ None) × (after ≡ did outcome before)
+HasOutcome Usage outcome before after = ⊥
+HasOutcome (ReadFault file) outcome before after = ⊥
+HasOutcome (Refused file text) outcome before after =
     (outcome.denial ≡ Some (record { file = file; text = text })) × (after ≡ did outcome before)
-Comes WriteFaultReport outcome before after =
+HasOutcome WriteFaultReport outcome before after =
     Rose before.faults after.faults × GrewByPrefix before.got outcome.report after.got
     × (after ≡ with_report after.got after.faults (wrote outcome.output before))
-Comes (WriteFaultFile file) outcome before after = IsNotSaved file outcome before after
-Comes (UartFault place) outcome before after = IsSome outcome.run × (outcome.denial ≡ None) × (after ≡ did outcome before)
-Comes NoMemory outcome before after = after ≡ before
+HasOutcome (WriteFaultFile file) outcome before after = IsNotSaved file outcome before after
+HasOutcome (UartFault place) outcome before after = IsSome outcome.run × (outcome.denial ≡ None) × (after ≡ did outcome before)
+HasOutcome NoMemory outcome before after = after ≡ before
 
 -- a file is written, or it is not, and the others stay
 abbrev pub Saves : {T E : Type 0} → Result T E → Output → Outside → Outside → Type 0

@@ -7,13 +7,13 @@ use Rattle.file_commands.specs.lemmas.CommandLemmas.{does_by, not_all_of_one, no
 use Rattle.file_commands.specs.Ending.{Ending, Done, Usage, ReadFault, Refused, WriteFaultReport, WriteFaultFile, UartFault, NoMemory}
 use Rattle.file_commands.specs.Outcome.{Running, inputs_of, outcome_of}
 use Rattle.file_commands.specs.Work.{AreNotRead, Does, IsDone, IsNotRead, Outside, ReadsFiles, called_for}
-use Rattle.file_commands.specs.lemmas.WorkTerms.{Comes}
+use Rattle.file_commands.specs.lemmas.WorkTerms.{HasOutcome}
 use Rattle.run_commands.specs.Accounts.{HasAccount}
 use Rattle.run_commands.specs.Boards.{LeavesBoard}
 
 -- a command whose files were read
 pub accounted_by : (e : Ending) (command : Command) (contents : List (List ℕ)) (before after : Outside) (board left : BoardView) → ReadsFiles before.files (inputs_of command) contents
-    → Comes e (outcome_of command contents) (called_for (inputs_of command) before) after
+    → HasOutcome e (outcome_of command contents) (called_for (inputs_of command) before) after
     → LeavesBoard e (outcome_of command contents).run before.got after.got board left → HasAccount e (Some command) before after board left
 accounted_by e command contents before after board left read comes leaves = record {
   contents = contents;

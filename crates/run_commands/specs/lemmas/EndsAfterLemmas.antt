@@ -5,16 +5,16 @@ use Rattle.uart_board.specs.Views.{BoardView}
 use Rattle.file_commands.specs.Ending.{Ending, Done, Usage, ReadFault, Refused, WriteFaultReport, WriteFaultFile, UartFault, NoMemory}
 use Rattle.file_commands.specs.Outcome.{Outcome, Output, Running}
 use Rattle.file_commands.specs.Work.{Outside, AreNotSaved, SavesAll, reported_all}
-use Rattle.file_commands.specs.lemmas.WorkTerms.{Comes}
+use Rattle.file_commands.specs.lemmas.WorkTerms.{HasOutcome}
 use Rattle.run_commands.specs.EndsAfter.{EndsAfter}
 use Rattle.run_commands.specs.Boards.{EndsRun, IsRunTo, LeavesBoard, ticks_of_run}
 
 -- an outcome whose files after the report were all written ends as the board says
 ended_outcome : (e : Ending) (board : BoardView) (outcome : Outcome) (before mid after : Outside) → outcome.denial ≡ None → IsSome outcome.run → mid ≡ reported_all outcome before → EndsRun e board
-    → SavesAll None outcome.later mid after → Comes e outcome before after
+    → SavesAll None outcome.later mid after → HasOutcome e outcome before after
 ended_outcome e board outcome before mid after granted runs reported ends saves = by_end e ends (subst (λ (x : Outside). SavesAll None outcome.later x after) reported saves)
   where
-    by_end : (e : Ending) → EndsRun e board → SavesAll None outcome.later (reported_all outcome before) after → Comes e outcome before after
+    by_end : (e : Ending) → EndsRun e board → SavesAll None outcome.later (reported_all outcome before) after → HasOutcome e outcome before after
     by_end Done ends s = (granted, s)
     by_end Usage ends s = absurd ends
     by_end (ReadFault file) ends s = absurd ends
@@ -25,7 +25,7 @@ ended_outcome e board outcome before mid after granted runs reported ends saves 
     by_end NoMemory ends s = absurd ends
 
 -- one of which a file after the report was not
-unsaved_outcome : (e : Ending) (outcome : Outcome) (before mid after : Outside) → mid ≡ reported_all outcome before → AreNotSaved e outcome.later mid after → Comes e outcome before after
+unsaved_outcome : (e : Ending) (outcome : Outcome) (before mid after : Outside) → mid ≡ reported_all outcome before → AreNotSaved e outcome.later mid after → HasOutcome e outcome before after
 unsaved_outcome Done outcome before mid after reported lost = absurd lost
 unsaved_outcome Usage outcome before mid after reported lost = absurd lost
 unsaved_outcome (ReadFault file) outcome before mid after reported lost = absurd lost
@@ -37,7 +37,7 @@ unsaved_outcome NoMemory outcome before mid after reported lost = absurd lost
 
 -- so an outcome whose report went out ends with what is done after it
 pub outcome_and_after : (e : Ending) (board : BoardView) (outcome : Outcome) (before mid after : Outside) → outcome.denial ≡ None → IsSome outcome.run → mid ≡ reported_all outcome before
-    → EndsAfter e outcome.later board mid after → Comes e outcome before after
+    → EndsAfter e outcome.later board mid after → HasOutcome e outcome before after
 outcome_and_after e board outcome before mid after granted runs reported (inl ends) = ended_outcome e board outcome before mid after granted runs reported ends.0 ends.1
 outcome_and_after e board outcome before mid after granted runs reported (inr lost) = unsaved_outcome e outcome before mid after reported lost
 

@@ -5,7 +5,7 @@ use Rattle.file_commands.specs.Outcome.{content, first_long}
 use Rattle.file_commands.specs.Packing.{container_of, file_names}
 use Rattle.file_commands.specs.lemmas.PackingTerms.{limited}
 use Rattle.file_commands.specs.EndingValues.{vector_bytes, ending_of}
-use Rattle.file_commands.proofs.PackingLemmas.{comes_packed}
+use Rattle.file_commands.proofs.PackingLemmas.{packed_outcome}
 use Rattle.file_commands.specs.lemmas.CommandLemmas.{done_by, not_all_read_done}
 use Rattle.file_commands.proofs.packing.pack_files.Goals as goal
 
@@ -19,7 +19,7 @@ returns-in-Ok g c =
     let read = c.in-Ok.ensures (g.O.Sink.got c.args.out.now) (g.O.Sink.faults c.args.out.now) in
     let makes = rw c.deref.ensures.value at c.container-container.ensures.value in
     let comes = c.write_container.ensures (limited (first_long (configuration ∷ file_names images) contents) (container_of configuration (content 0 contents) images (drop 1 contents))) makes in
-    done_by ending command contents _ _ read.0 (comes_packed ending configuration c.args.output.now images contents _ _ _ read.1 comes)
+    done_by ending command contents _ _ read.0 (packed_outcome ending configuration c.args.output.now images contents _ _ _ read.1 comes)
 
 pub returns-in-Err : goal.returns-in-Err
 returns-in-Err g c =

@@ -3,7 +3,7 @@ use Rattle.command_line.specs.Words.{Bare}
 use Rattle.file_commands.specs.Outcome.{outcome_of}
 use Rattle.file_commands.specs.EndingValues.{ending_of}
 use Rattle.run_commands.specs.lemmas.AccountLemmas.{accounted_by, accounted_not_one}
-use Rattle.file_commands.specs.lemmas.CommandLemmas.{comes_from}
+use Rattle.file_commands.specs.lemmas.CommandLemmas.{outcome_from}
 use Rattle.run_commands.proofs.running.run_file.Goals as goal
 
 pub returns-in-Ok : goal.returns-in-Ok
@@ -12,9 +12,9 @@ returns-in-Ok g c =
     let ending = ending_of c.run_bytes.result in
     let contents = c.in-Ok.bytes.items ∷ [] in
     let read = c.in-Ok.ensures (g.O.Sink.got c.args.out.now) (g.O.Sink.faults c.args.out.now) in
-    let comes = rw c.deref.ensures.value at c.run_bytes.ensures.comes in
+    let comes = rw c.deref.ensures.value at c.run_bytes.ensures.outcome in
     let leaves = rw c.deref.ensures.value at c.run_bytes.ensures.board in
-    record { accounted = accounted_by ending command contents _ _ (record { places = _; marks = _ }) (record { places = _; marks = _ }) (read.0, tt) (comes_from ending (outcome_of command contents) _ _ _ read.1 comes) leaves }
+    record { accounted = accounted_by ending command contents _ _ (record { places = _; marks = _ }) (record { places = _; marks = _ }) (read.0, tt) (outcome_from ending (outcome_of command contents) _ _ _ read.1 comes) leaves }
 
 pub returns-in-Err : goal.returns-in-Err
 returns-in-Err g c =

@@ -16,8 +16,8 @@ pub write_later-requires-clause-room : goal.write_later-requires-clause-room
 write_later-requires-clause-room g c =
     run_fits c.keeps_numbers.ensures.runs c.args.machine.now.state c.run.new.self.state c.args.ticks _ (seen_files c.args.cores) c.in-Ok.ensures.run.state c.requires.room
 
-pub returns-in-Ok-clause-comes : goal.returns-in-Ok-clause-comes
-returns-in-Ok-clause-comes g c = λ system inputs starts.
+pub returns-in-Ok-clause-outcome : goal.returns-in-Ok-clause-outcome
+returns-in-Ok-clause-outcome g c = λ system inputs starts.
     let is = rw starts at c.in-Ok.ensures.run in
     let saved = c.write_later.ensures (g.O.Sink.got c.run.new.out) (g.O.Sink.faults c.run.new.out) in
     run_and_after (ending_of c.ended.result) (record { places = _; marks = _ }) c.in-Ok.field-0 (seen_files c.args.cores) (map made_output c.args.scripts.now) system inputs c.args.ticks c.run.new.self.state _ _ _ _ _ _ _ _ _
@@ -30,8 +30,8 @@ returns-in-Ok-clause-board g c = λ system inputs starts.
     left_by_ending (ending_of c.ended.result) (core_outputs c.run.new.self.state (seen_files c.args.cores) ++ map made_output c.args.scripts.now) _ _ c.in-Ok.field-0 (seen_files c.args.cores) (map made_output c.args.scripts.now) system inputs c.args.ticks c.run.new.self.state _ _ (record { places = _; marks = _ }) (record { places = _; marks = _ }) (record { places = _; marks = _ })
     (c.ended.ensures (core_outputs c.run.new.self.state (seen_files c.args.cores) ++ map made_output c.args.scripts.now) _ _ saved) is c.begin.ensures.view
 
-pub returns-in-Err-clause-comes : goal.returns-in-Err-clause-comes
-returns-in-Err-clause-comes g c = λ system inputs starts.
+pub returns-in-Err-clause-outcome : goal.returns-in-Err-clause-outcome
+returns-in-Err-clause-outcome g c = λ system inputs starts.
     let is = rw starts at c.in-Err.ensures.run in
     unwritten c.in-Err.field-0 (seen_files c.args.cores) (map made_output c.args.scripts.now) system inputs c.args.ticks _ _ _ _ _ _ _ _ _ is c.in-Err.ensures.cause
 

@@ -15,8 +15,8 @@ run_booted-requires-clause-running g c = ap (λ (s : Machine). s.halted) c.in-Ok
 pub run_booted-requires-clause-inside : goal.run_booted-requires-clause-inside
 run_booted-requires-clause-inside g c = booted_inside c.args.system c.args.inputs (seen_files c.args.cores) c.in-Ok.machine.state c.keeps_numbers.ensures.boots c.in-Ok.ensures.state c.requires.inside
 
-pub returns-in-Ok-clause-comes : goal.returns-in-Ok-clause-comes
-returns-in-Ok-clause-comes g c = c.run_booted.ensures.comes c.args.system c.args.inputs c.in-Ok.ensures.state
+pub returns-in-Ok-clause-outcome : goal.returns-in-Ok-clause-outcome
+returns-in-Ok-clause-outcome g c = c.run_booted.ensures.outcome c.args.system c.args.inputs c.in-Ok.ensures.state
 
 pub returns-in-Ok-clause-board : goal.returns-in-Ok-clause-board
 returns-in-Ok-clause-board g c = c.run_booted.ensures.board c.args.system c.args.inputs c.in-Ok.ensures.state

@@ -3,7 +3,7 @@ use Rattle.command_line.specs.Seen.{seen_options}
 use Rattle.command_line.specs.Words.{Run}
 use Rattle.file_commands.specs.EndingValues.{vector_bytes, ending_of}
 use Rattle.run_commands.specs.lemmas.AccountLemmas.{accounted_by, accounted_unread}
-use Rattle.file_commands.specs.lemmas.CommandLemmas.{comes_from}
+use Rattle.file_commands.specs.lemmas.CommandLemmas.{outcome_from}
 use Rattle.run_commands.proofs.NumberLemmas.{received_whole, unread_unmade}
 use Rattle.run_commands.proofs.unpacking.run_container.Goals as goal
 
@@ -13,9 +13,9 @@ returns-in-Ok-clause-accounted g c =
     let ending = ending_of c.run_files.result in
     let contents = map vector_bytes c.in-Ok.contents.items in
     let read = rw c.inputs.ensures.value at c.in-Ok.ensures (g.O.Sink.got c.args.out.now) (g.O.Sink.faults c.args.out.now) in
-    let comes = rw c.deref.ensures.value at c.run_files.ensures.comes in
+    let comes = rw c.deref.ensures.value at c.run_files.ensures.outcome in
     let leaves = rw c.deref.ensures.value at c.run_files.ensures.board in
-    accounted_by ending command contents _ _ (record { places = _; marks = _ }) (record { places = _; marks = _ }) read.0 (comes_from ending _ _ _ _ read.1 comes) leaves
+    accounted_by ending command contents _ _ (record { places = _; marks = _ }) (record { places = _; marks = _ }) read.0 (outcome_from ending _ _ _ _ read.1 comes) leaves
 
 pub returns-in-Err-clause-accounted : goal.returns-in-Err-clause-accounted
 returns-in-Err-clause-accounted g c =

@@ -17,14 +17,14 @@ run_unpacked-requires-clause-short g c = rest_short c.args.container.now (file_n
 pub run_unpacked-requires-clause-same : goal.run_unpacked-requires-clause-same
 run_unpacked-requires-clause-same g c = rw c.split_contents.ensures.first at c.in-Ok.ensures.exact
 
-pub returns-in-Ok-clause-comes : goal.returns-in-Ok-clause-comes
-returns-in-Ok-clause-comes g c =
+pub returns-in-Ok-clause-outcome : goal.returns-in-Ok-clause-outcome
+returns-in-Ok-clause-outcome g c =
     let exact = rw c.split_contents.ensures.first at c.in-Ok.ensures.exact in
-    rw (outcome-unpacked c.args.container.now (seen_options c.args.options) _ _ c.in-Ok.system exact) c.run_unpacked.ensures.comes
+    rw (outcome-unpacked c.args.container.now (seen_options c.args.options) _ _ c.in-Ok.system exact) c.run_unpacked.ensures.outcome
 
-pub returns-in-Err-clause-comes : goal.returns-in-Err-clause-comes
+pub returns-in-Err-clause-outcome : goal.returns-in-Err-clause-outcome
 unfolding run_outcome
-returns-in-Err-clause-comes g c =
+returns-in-Err-clause-outcome g c =
     let exact = rw c.split_contents.ensures.first at c.in-Err.ensures.exact in
     let unmade = container_unmade fault_text_by (λ fault. refl) c.in-Err.fault _ c.no_container.result exact c.no_container.ensures.text c.no_container.ensures.memory in
     unmade_runs _ c.args.container.now (seen_options c.args.options) _ c.no_container.result _ _ c.unmade.ensures unmade

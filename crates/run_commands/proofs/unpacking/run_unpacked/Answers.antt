@@ -1,15 +1,15 @@
 use Rattle.file_commands.specs.EndingValues.{ending_of}
-use Rattle.run_commands.proofs.ReadyLemmas.{refusing_comes, refusing_leaves, refusing_unmade}
+use Rattle.run_commands.proofs.ReadyLemmas.{refusing_outcome, refusing_leaves, refusing_unmade}
 use Rattle.run_commands.proofs.unpacking.run_unpacked.Goals as goal
 
-pub returns-in-Ok-clause-comes : goal.returns-in-Ok-clause-comes
-returns-in-Ok-clause-comes g c = rw (c.in-Ok.ensures.value, ← c.cores.ensures.value) c.run_ready.ensures.comes
+pub returns-in-Ok-clause-outcome : goal.returns-in-Ok-clause-outcome
+returns-in-Ok-clause-outcome g c = rw (c.in-Ok.ensures.value, ← c.cores.ensures.value) c.run_ready.ensures.outcome
 
 pub returns-in-Ok-clause-board : goal.returns-in-Ok-clause-board
 returns-in-Ok-clause-board g c = rw (c.in-Ok.ensures.value, ← c.cores.ensures.value) c.run_ready.ensures.board
 
-pub returns-clause-comes : goal.returns-clause-comes
-returns-clause-comes g c = refusing_comes (ending_of c.in-Err.ending) _ _ c.in-Err.ensures.value
+pub returns-clause-outcome : goal.returns-clause-outcome
+returns-clause-outcome g c = refusing_outcome (ending_of c.in-Err.ending) _ _ c.in-Err.ensures.value
 
 pub returns-clause-board : goal.returns-clause-board
 returns-clause-board g c = refusing_leaves (ending_of c.in-Err.ending) _ _ _ (record { places = _; marks = _ }) c.in-Err.ensures.value
