@@ -35,8 +35,8 @@ pub fn script_of(
     requires partition { p < length system.conf.parts }
     requires inputs { length inputs ≡ length system.conf.parts }
     requires most { ticks ≤ TICKS }
-    // The file of a partition's script of this many ticks from the boot of its system on, with these input words; refused
-    // with its length exactly where that has more bytes than a file may have, or there was no memory.
+    // The file of a partition's script of this many ticks from the boot of its system on, with these input words;
+    // refused with its length exactly where that has more bytes than a file may have, or there was no memory.
     ensures file { IsScriptFile (λ file. file.items)
         (script_text p (script (start (with_inputs system inputs)) p ticks)) result }
     // Where the file is made, in all that the partition receives what is a byte is one, and the status of each reset is
