@@ -56,11 +56,11 @@ AnswersArguments (Ok texts) status faults error_faults = IsOnFiles status (after
 AnswersArguments (Err error) status faults error_faults = HadNoArguments status error faults error_faults
 
 -- the exit status is the code of a status to which the arguments come
-pub record IsEndedBy {A : Type 0} (given : Result (Vec (String A) A) Error) (exit : ℕ) : Type 0 where
+pub record IsEndedBy {A : Type 0} (given : Result (Vec (String A) A) Error) (exit_status : ℕ) : Type 0 where
   pub status : Status
   pub faults : ℕ
   pub error_faults : ℕ
-  pub code : IsCodeOf status exit
+  pub code : IsCodeOf status exit_status
   pub answer : AnswersArguments given status faults error_faults
   -- after Done no write to the error output failed
   pub silent : status ≡ exit.Done → error_faults ≡ 0

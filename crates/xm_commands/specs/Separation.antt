@@ -87,8 +87,8 @@ pub record BareAlone (Shows : System → ℕ → List PartFile → List PartFile
   pub are : AreContents before.files (Bare image ticks) contents
   pub shows : Shows (with_inputs (bare_system (content 0 contents)) (no_inputs 1)) ticks [] [] before after
 
--- a container with these contents was run, with input words for its partitions, and the run shows this; where the store's files are known, what the partitions of its scripts are
--- received has its numbers: what is a byte is one, and the status of each reset is a word
+-- a container with these contents was run, with input words for its partitions, and the run shows this; where the store's files are known, the
+-- numbers that the partitions of its scripts received are in range: bytes are bytes, and the status of each reset is a word
 pub record ContainerAlone (Shows : System → ℕ → List PartFile → List PartFile → Outside → Outside → Type 0) (contents : List (List ℕ)) (container : List ℕ) (options : List RunOption) (before after : Outside) : Type 0 where
   pub are : AreContents before.files (Run container options) contents
   pub system : loaded.System
