@@ -612,6 +612,15 @@ A row has the call, the labels of its clauses, what holds, and the definitions t
 `crates/CRATE/specs`; a file without a crate is one of the same crate. A clause without a label is the call's only one. The
 text of a short clause stands in its row. `requires` is what the call is given: every caller is proved to give it. A row with
 a dot is a field of a record that a row above it cites; it stands below the first that does.
+
+In a clause `x.old` and `x.new` are what `x` refers to before and after the call, `x.now` is that where the call does not
+change it, and `result` is the answer. `IfOk result (λ x. P)`: P holds of the value where the result is Ok. `OnOk result P`
+and `OnErr result P`: P holds where it is Ok, and where it is an error. `⟦<T as Store>⟧.calls x` is what the trait `Store`
+says of a value `x` of the type T in clauses; `O.got x` is the same for a type parameter O. `λ x. P` is a function of x; `≡`
+means equals, `×` and, `⊎` or, `¬` not, `↔` exactly where.
+
+In the tables of values, `Value` is what a value of the type is in clauses, `view` how that follows from its fields, and
+`invariant` what holds of each. Other rows are what the type says of a value for the trait that is named first.
 """
 
 
