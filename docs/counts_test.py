@@ -8,7 +8,7 @@ from pathlib import Path
 import pytest
 
 import counts
-from definitions import Key, Tree, Walk
+from definitions import OF_INSTANCE, Key, Tree, Walk, with_traits
 
 # Two crates. Above is `xm_commands`, whose `xm_main` has three clauses; the other one is below it.
 SOURCES = {
@@ -339,3 +339,12 @@ def test_long_lines_of_public_contracts(root: Path) -> None:
     text = top.read_text(encoding="utf-8").replace("    ensures plain { count ≡ count }\n", clause)
     top.write_text(text.replace("    ensures { IsInner }\n", f"    ensures {{ IsInner{' ' * 120} }}\n"), encoding="utf-8")
     assert counts.public_long_lines(root) == {"xm_commands": 1}
+
+
+def test_what_is_said_of_a_tuple_is_that_of_its_first_type() -> None:
+    assert OF_INSTANCE.sub(r"\1◁\2", "⟦<(S, O, Board) as World>⟧.world all") == "S◁World.world all"
+    assert OF_INSTANCE.sub(r"\1◁\2", "⟦<Board as ViewBoard>⟧.view") == "Board◁ViewBoard.view"
+
+
+def test_what_a_type_parameter_says_is_what_its_traits_declare() -> None:
+    assert with_traits(["world", "(", "S.files", "all.0", ")"], {"S": {"Store"}}) == ["world", "(", "Store◁Store.files", "all.0", ")"]

@@ -21,13 +21,13 @@ RUST_USE = re.compile(r"^(?:pub )?use ([\w:]+?)(?:::\{([^}]*)\})?(?: as (\w+))?;
 TYPE = re.compile(r"^(?:pub(?:\(\w+\))? )?(?:struct|enum) (\w+)[^;{(]*([;{(])", re.M)
 CONSTANT = re.compile(r"^(?:pub(?:\(\w+\))? )?const (\w+): ([^;]*);", re.M)
 TRAIT = re.compile(r"^(?:pub(?:\(\w+\))? )?trait (\w+)[^{]*\{", re.M)
-IMPL = re.compile(r"^impl(?:<[^\n{]*?>)? (?:([\w:]+)(?:<[^\n{]*?>)? for )?(Box<dyn )?(\w+)[^\n{]*\{", re.M)
+IMPL = re.compile(r"^impl(?:<[^\n{]*?>)? (?:([\w:]+)(?:<[^\n{]*?>)? for )?(Box<dyn |\()?(\w+)[^\n{]*\{", re.M)
 MEMBER = re.compile(r"^    ghost (\w+)(?::| =) \{", re.M)
 FUNCTION = re.compile(r"^( *)(pub )?(?:const )?fn (\w+)", re.M)
 CLAUSE = re.compile(r"\s*(requires|ensures)\*?\s*(\w*)\s*\{")
 NOT_CODE = re.compile(r"//[^\n]*|\"(?:\\.|[^\"\\])*\"|'(?:\\.|[^'\\])'")
 BODY = re.compile(r"\{|;(?![^\[\]]*\])")
-OF_INSTANCE = re.compile(r"⟦<(?:Box<dyn )?(\w+)[^⟧]*? as (\w+)>⟧")
+OF_INSTANCE = re.compile(r"⟦<(?:Box<dyn |\()?(\w+)[^⟧]*? as (\w+)>⟧")
 
 
 @dataclass(frozen=True, order=True)
@@ -265,6 +265,12 @@ def place_in(call: Call, block: Block | None, is_public: bool) -> None:
         clause.rust |= {call.owner} if any(token.startswith("self") for token in clause.tokens) else set()
 
 
+def with_traits(tokens: list[str], bounds: dict[str, set[str]]) -> list[str]:
+    """Tokens in which what a type parameter says of a ghost member is what its traits declare."""
+    parted = [(token, *token.partition(".")) for token in tokens]
+    return [each for token, first, _, name in parted for each in ([f"{trait}◁{trait}.{name}" for trait in sorted(bounds.get(first, set()))] or [token])]
+
+
 def ghost_members(text: str, blocks: list[Block]) -> Iterator[tuple[str, Definition]]:
     """What traits declare as ghost, and what types say of it. What `impl Model` says of a value is the type's own."""
     for block, name, body in ((block, name, body) for block in blocks for name, body in members(text[block.start : block.end])):
@@ -273,7 +279,8 @@ def ghost_members(text: str, blocks: list[Block]) -> Iterator[tuple[str, Definit
         elif block.trait == "Model" and name in ("Value", "view"):
             yield block.owner, Definition([words(body)])
         elif (block.trait, name) != ("Model", "coded"):
-            yield f"{block.owner}◁{block.trait}.{name}", Definition([words(body)], {block.trait, block.owner})
+            bounds = bounds_of(text[text.rfind("impl", 0, block.start) : block.start])
+            yield f"{block.owner}◁{block.trait}.{name}", Definition([with_traits(words(body), bounds)], {block.trait, block.owner})
 
 
 def types_and_constants(text: str) -> Iterator[tuple[str, Definition]]:
