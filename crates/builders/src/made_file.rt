@@ -25,8 +25,8 @@ pub enum MadeFile {
 
 /// The bytes of the file that is made of a file.
 pub fn make_file(alloc: Global, what: MadeFile, bytes: &[u8]) -> Result<Vec<u8>, Unmade>
-    // Called with fewer than 2^32 bytes.
-    requires { length bytes.now < 2 ^ 32 }
+    // Called with a description of fewer than 2^32 bytes.
+    requires { what ≡ MadeFile.Configuration → length bytes.now < 2 ^ 32 }
     // The binary configuration of a description, the configuration of a binary one of either version, in version 2, or
     // the image of a program; or the text of the first fault, or of the first rule that a description breaks.
     ensures exact { Makes result (made_file what bytes.now) }
