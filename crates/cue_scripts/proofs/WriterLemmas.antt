@@ -9,9 +9,9 @@ use Rattle.std.proofs.lemmas.List.Concat.{flat_map-cons}
 use Rattle.xm_base.specs.declared.limits.TheConstants.{FILE_BYTES}
 use Rattle.xef_images.specs.lemmas.ImageLemmas.{Decides-nat_le}
 use Rattle.machine_model.specs.Cue.{Cue}
-use Rattle.cue_scripts.specs.Entries.{Alike, AreLongest, Entry, MayFollow, Other, cues_of, expanded, plain_cue_of, bare_cue, plain_kind, runs}
+use Rattle.cue_scripts.specs.Entries.{Alike, AreLongest, Entry, MayFollow, Other, bare_cue, cues_of, expanded, is_bare, plain_cue_of, plain_kind, runs}
 use Rattle.cue_scripts.specs.Spelling.{entry_text, script_head_text, script_text}
-use Rattle.cue_scripts.specs.Written.{AreWholeEntries, IsWritten, Written, entry_closed, closed_by, is_open, kept_within, last_own, nothing_written, entry_opened, plain_repeated, repeated_by, with_script_entry}
+use Rattle.cue_scripts.specs.Written.{AreWholeEntries, IsWithin, IsWritten, Written, entry_closed, closed_by, is_open, kept_within, last_own, nothing_written, entry_opened, plain_repeated, repeated_by, with_alike, with_cue, with_kind, with_script_entry}
 use Rattle.cue_scripts.proofs.RunLemmas.{plain_is, runs_again, runs_expand, runs_longest}
 
 -- entries and one more that may stand there are as long as they can be
@@ -143,11 +143,11 @@ covered : (cues : List Cue) (w : Written) → IsWritten cues w → Covers cues (
 covered cues w is = record { whole = is.whole; are = record { size = is.are.size; text = is.are.text }; entries = is.entries }
 
 -- a plain cue more
-repeats : (cues : List Cue) (own : Bool) (w : Written) → IsWritten cues w → IsWritten (cues ++ bare_cue own ∷ []) (plain_repeated own (one_counted w))
+repeats : (cues : List Cue) (own : Bool) (w : Written) → IsWritten cues w → IsWritten (cues ++ bare_cue own ∷ []) (plain_repeated own 1 (one_counted w))
 unfolding plain_repeated
 repeats cues own w is = at (is_open w.own own) refl
   where
-    at : (test : Bool) → is_open w.own own ≡ test → IsWritten (cues ++ bare_cue own ∷ []) (repeated_by test own (one_counted w))
+    at : (test : Bool) → is_open w.own own ≡ test → IsWritten (cues ++ bare_cue own ∷ []) (repeated_by test own 1 (one_counted w))
     at true e =
         let last = same_own w.own own e in
         let next : w.count + 1 ≡ suc w.count = omega arith in
@@ -187,8 +187,88 @@ puts cues cue w other is =
     }
 
 -- a plain cue more
-pub plain_written : (cues : List Cue) (cue : Cue) (own : Bool) (w : Written) → plain_kind cue ≡ Some own → IsWritten cues w → IsWritten (cues ++ cue ∷ []) (plain_repeated own (one_counted w))
-plain_written cues cue own w kind is = subst (λ last. IsWritten (cues ++ last ∷ []) (plain_repeated own (one_counted w))) (plain_is own cue kind) (repeats cues own w is)
+pub plain_written : (cues : List Cue) (cue : Cue) (own : Bool) (w : Written) → plain_kind cue ≡ Some own → IsWritten cues w → IsWritten (cues ++ cue ∷ []) (plain_repeated own 1 (one_counted w))
+plain_written cues cue own w kind is = subst (λ last. IsWritten (cues ++ last ∷ []) (plain_repeated own 1 (one_counted w))) (plain_is own cue kind) (repeats cues own w is)
+
+-- a plain cue is added as what it is
+plain_bare : (own : Bool) → plain_kind (bare_cue own) ≡ Some own
+unfolding plain_kind is_bare bare_cue
+plain_bare true = refl
+plain_bare false = refl
+
+bare_added : (own : Bool) (w : Written) → with_cue (bare_cue own) w ≡ plain_repeated own 1 (one_counted w)
+unfolding with_cue
+bare_added own w = ap (λ kind. with_kind kind (bare_cue own) (one_counted w)) (plain_bare own)
+
+-- this many cues more are counted
+abbrev counted_more : ℕ → Written → Written
+counted_more more w = record w { cues = w.cues + more }
+
+-- closing what was written does not look at the number of cues
+close_counts : (more : ℕ) (w : Written) → entry_closed (counted_more more w) ≡ counted_more more (entry_closed w)
+unfolding entry_closed with_script_entry
+close_counts more w = at w.own
+  where
+    at : (last : Option Bool) → closed_by last (counted_more more w) ≡ counted_more more (closed_by last w)
+    at None = refl
+    at (Some own) = refl
+
+-- the same cue is the one that is repeated
+is_own : (own : Bool) → is_open (Some own) own ≡ true
+is_own true = refl
+is_own false = refl
+
+-- a plain cue is repeated this many times
+abbrev repeating : Option Bool → ℕ → Written → Written
+repeating own count w = record w { own = own; count = count }
+
+-- a plain cue once more, after it was repeated
+once_more : (own : Bool) (count : ℕ) (w : Written) → plain_repeated own 1 (one_counted (plain_repeated own count w)) ≡ plain_repeated own (suc count) (one_counted w)
+unfolding plain_repeated
+once_more own count w = at (is_open w.own own) refl
+  where
+    at : (test : Bool) → is_open w.own own ≡ test → plain_repeated own 1 (one_counted (repeated_by test own count w)) ≡ repeated_by test own (suc count) (one_counted w)
+    at true e =
+        let more : w.count + count + 1 ≡ w.count + suc count = omega arith in
+        ap (λ test. repeated_by test own 1 (one_counted (repeated_by true own count w))) e ∙ ap (λ n. repeating w.own n (one_counted w)) more
+    at false e =
+        let more : count + 1 ≡ suc count = omega arith in
+        ap (λ test. repeated_by test own 1 (one_counted (repeated_by false own count w))) (is_own own)
+        ∙ ap (λ n. repeating (Some own) n (one_counted (entry_closed w))) more
+        ∙ ap (repeating (Some own) (suc count)) (sym (close_counts 1 w))
+
+-- plain cues more that are written at once are those that are added one by one
+alike_closed : (own : Bool) (n : ℕ) (w : Written) → with_alike own (suc n) w ≡ plain_repeated own (suc n) (counted_more (suc n) w)
+unfolding with_alike
+alike_closed own zero w = bare_added own w
+alike_closed own (suc n) w =
+    let sum : w.cues + suc n + 1 ≡ w.cues + suc (suc n) = omega arith in
+    ap (with_cue (bare_cue own)) (alike_closed own n w)
+    ∙ bare_added own (plain_repeated own (suc n) (counted_more (suc n) w))
+    ∙ once_more own (suc n) (counted_more (suc n) w)
+    ∙ ap (λ cues. plain_repeated own (suc (suc n)) (record w { cues = cues })) sum
+
+alike_some : (own : Bool) (count : ℕ) (w : Written) → 0 < count → plain_repeated own count (counted_more count w) ≡ with_alike own count w
+alike_some own zero w some = absurd (omega (arith, some))
+alike_some own (suc n) w some = sym (alike_closed own n w)
+
+pub alike_at : (own : Bool) (count : ℕ) (w old : Written) → w ≡ old → 0 < count → plain_repeated own count (counted_more count w) ≡ with_alike own count old
+alike_at own count w old is some = alike_some own count w some ∙ ap (with_alike own count) is
+
+-- plain cues more
+pub alike_written : (own : Bool) (count : ℕ) (cues : List Cue) (w : Written) → IsWritten cues w → IsWritten (cues ++ replicate count (bare_cue own)) (with_alike own count w)
+unfolding with_alike
+alike_written own zero cues w is = subst (λ all. IsWritten all w) (sym (append-nil cues)) is
+alike_written own (suc count) cues w is =
+    let cue = bare_cue own in
+    let before = cues ++ replicate count cue in
+    let all : before ++ cue ∷ [] ≡ cues ++ replicate (suc count) cue = append_assoc cues (replicate count cue) (cue ∷ []) ∙ ap (λ more. cues ++ more) (sym (replicate_more count cue)) in
+    let more = repeats before own (with_alike own count w) (alike_written own count cues w is) in
+    subst (λ all. IsWritten all (with_cue cue (with_alike own count w))) all (subst (IsWritten (before ++ cue ∷ [])) (sym (bare_added own (with_alike own count w))) more)
+
+-- the entry of a cue has room where one cue more has
+pub entry_within : (text : List ℕ) (w : Written) (size : ℕ) → IsWithin 1 w → size ≤ 70000 → IsWithin 0 (record w { text = text; size = w.size + size })
+entry_within text w size is few = record { size = omega (arith, is.size, few); count = is.count; cues = is.cues }
 
 -- how long an entry of plain cues is
 alike_size : (own : Bool) (count : ℕ) → length (entry_text (Alike own count)) ≡ 5

@@ -1,9 +1,9 @@
 -- A script that is written cue by cue.
-use Rattle.std.specs.Prelude.{◌≡◌, ℕ, ◌+◌, ◌*◌, ◌<◌, ◌≤◌, Bool, true, false, nat_le, List, [], ◌∷◌, ◌++◌, length, Option, Some, None, Result, Ok, Err}
+use Rattle.std.specs.Prelude.{◌≡◌, ℕ, zero, suc, ◌+◌, ◌*◌, ◌<◌, ◌≤◌, Bool, true, false, nat_le, List, [], ◌∷◌, ◌++◌, length, Option, Some, None, Result, Ok, Err}
 use Rattle.std.specs.List.{flat_map}
 use Rattle.xm_base.specs.declared.limits.TheConstants.{FILE_BYTES}
 use Rattle.machine_model.specs.Cue.{Cue}
-use Rattle.cue_scripts.specs.Entries.{Alike, Entry, Other, is_same, plain_cue_of, plain_kind, runs}
+use Rattle.cue_scripts.specs.Entries.{Alike, Entry, Other, bare_cue, is_same, plain_cue_of, plain_kind, runs}
 use Rattle.cue_scripts.specs.Spelling.{entry_text}
 use Rattle.fault_messages.specs.declared.fault.ScriptFault.{ScriptFault}
 use Rattle.fault_messages.specs.declared.fault.ScriptFault.TheVariants as fault
@@ -40,25 +40,31 @@ closed_by (Some own) w = record (with_script_entry (Alike own w.count) w) { own 
 unfoldable pub entry_closed : Written → Written
 entry_closed w = closed_by w.own w
 
--- a plain cue more
+-- plain cues more
 abbrev pub is_open : Option Bool → Bool → Bool
 is_open None own = false
 is_open (Some last) own = is_same last own
 
-abbrev pub repeated_by : Bool → Bool → Written → Written
-repeated_by true own w = record w { count = w.count + 1 }
-repeated_by false own w = record (entry_closed w) { own = Some own; count = 1 }
+abbrev pub repeated_by : Bool → Bool → ℕ → Written → Written
+repeated_by true own count w = record w { count = w.count + count }
+repeated_by false own count w = record (entry_closed w) { own = Some own; count = count }
 
-unfoldable pub plain_repeated : Bool → Written → Written
-plain_repeated own w = repeated_by (is_open w.own own) own w
+-- this many times the same plain cue, once at least
+unfoldable pub plain_repeated : Bool → ℕ → Written → Written
+plain_repeated own count w = repeated_by (is_open w.own own) own count w
 
 -- a cue more
 abbrev pub with_kind : Option Bool → Cue → Written → Written
-with_kind (Some own) cue w = plain_repeated own w
+with_kind (Some own) cue w = plain_repeated own 1 w
 with_kind None cue w = with_script_entry (Other cue) (entry_closed w)
 
 unfoldable pub with_cue : Cue → Written → Written
 with_cue cue w = with_kind (plain_kind cue) cue (record w { cues = w.cues + 1 })
+
+-- this many plain cues more, one by one
+unfoldable pub with_alike : Bool → ℕ → Written → Written
+with_alike own zero w = w
+with_alike own (suc count) w = with_cue (bare_cue own) (with_alike own count w)
 
 -- the entry of plain cues that may still get more
 abbrev pub entry_opened : Option Bool → ℕ → List Entry

@@ -2,10 +2,11 @@
 
 ghost use Rattle.std.specs.Prelude.{◌≡◌, IfOk, IfSome, length};
 
-use crate::{ScriptFault, build_script, read_script};
+use crate::{ScriptFault, ScriptWriter, build_script, read_script};
 use std::alloc::{AllocError, Global};
 use std::process::Abort;
 use std::test::Fail;
+use xm_base::{Memory, TICKS};
 use xm_conf::{
     Action, Area, Chan, ChanKind, Conf, End, HmTable, Kind, Name, Part, Plan, Port, RawConf,
     Region, Slot, Way,
@@ -172,6 +173,23 @@ const ALL: &[u8] = b"XMSC\x00\x01\x00\x00\x00\x00\x00\x00\x00\x00\x0b\
 /// The longest script, of cues that are alike.
 const LONGEST: &[u8] = b"XMSC\x00\x01\x00\x00\x00\x00\x00\xee\x6b\x28\x00\x01\xee\x6b\x28\x00";
 
+/// The same number of cues in entries that change twice.
+const THREE: &[u8] =
+    b"XMSC\x00\x01\x00\x00\x00\x00\x00\xee\x6b\x28\x00\x01\x00\x00\x00\x05\x00\xee\x6b\x27\xfa\x01\x00\x00\x00\x01";
+
+/// Pieces that are written at once, each whose running slot it is and how many cues, with the file of the script.
+const PIECES: [([(bool, u32); 4], &[u8]); 3] = [
+    ([(false, 0), (true, 0), (false, 0), (true, 0)], EMPTY),
+    (
+        [(false, 0), (true, 1), (true, 3_999_999_998), (true, 1)],
+        LONGEST,
+    ),
+    (
+        [(true, 2), (true, 3), (false, 3_999_999_994), (true, 1)],
+        THREE,
+    ),
+];
+
 /// A message into the channel with two ends in partition 0.
 const LOOPED: &[u8] =
     b"XMSC\x00\x01\x00\x00\x00\x00\x00\x00\x00\x00\x01\x02\x00\x01\x03\x00\x01z\x00\x00\x00";
@@ -264,6 +282,29 @@ fn what_is_read_is_written_again(rt: HostRuntime) -> Result<(), Fail> {
                 let file = build_script(rt.alloc(), p, &script)?;
                 assert!(rt; file.as_slice() == bytes);
             }
+            Err(_) => assert!(rt; false),
+        }
+    }
+    Ok(())
+}
+
+/// A script of these pieces, but for those that go past the limit of ticks.
+fn written(alloc: Global, pieces: [(bool, u32); 4]) -> Result<ScriptWriter, Memory> {
+    let mut writer = ScriptWriter::new(alloc);
+    for (own, count) in pieces {
+        if u64::from(writer.cues()) + u64::from(count) <= TICKS {
+            writer.add_alike(own, count)?;
+        }
+    }
+    Ok(writer)
+}
+
+#[test]
+fn plain_cues_are_written_at_once(rt: HostRuntime) -> Result<(), Fail> {
+    for (pieces, bytes) in PIECES {
+        let writer = written(rt.alloc(), pieces)?;
+        match writer.finish(rt.alloc(), 0) {
+            Ok(file) => assert!(rt; file.as_slice() == bytes),
             Err(_) => assert!(rt; false),
         }
     }

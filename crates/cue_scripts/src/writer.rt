@@ -1,12 +1,12 @@
 //! The writing of a script cue by cue.
 
-ghost use Rattle.std.specs.Prelude.{◌≡◌, ◌<◌, ◌++◌, [], ◌∷◌, List, OnOk};
+ghost use Rattle.std.specs.Prelude.{◌≡◌, ℕ, ◌+◌, ◌<◌, ◌≤◌, ◌++◌, [], ◌∷◌, List, OnOk, replicate};
 ghost use Rattle.machine_model.specs.Cue.{Cue};
-ghost use Rattle.cue_scripts.specs.Entries.{Other};
+ghost use Rattle.cue_scripts.specs.Entries.{Other, bare_cue};
 ghost use Rattle.cue_scripts.specs.Kept.{HasCueRanges};
 ghost use Rattle.cue_scripts.specs.Spelling.{script_text};
 ghost use Rattle.cue_scripts.specs.Values.{script_cue_value};
-ghost use Rattle.cue_scripts.specs.Written.{IsScriptFile, IsWithin, IsWritten, entry_closed, is_open, nothing_written, plain_repeated, with_cue, with_script_entry};
+ghost use Rattle.cue_scripts.specs.Written.{IsScriptFile, IsWithin, IsWritten, entry_closed, is_open, nothing_written, plain_repeated, with_alike, with_cue, with_script_entry};
 
 use crate::cue::{ScriptCue, plain_kind};
 use crate::sizes::other_length;
@@ -81,9 +81,26 @@ impl ScriptWriter {
     {
         self.cues += 1;
         match plain_kind(cue) {
-            Some(own) => self.repeat(own),
+            Some(own) => self.repeat(own, 1),
             None => self.append_cue(cue),
         }
+    }
+
+    /// Writes this many cues more with nothing but whose running slot it is: the partition's own, or not.
+    #[tactic(auto, unfolding(crate::specs::Written::with_alike))]
+    pub fn add_alike(&mut self, own: bool, count: u32) -> Result<(), Memory>
+        // Called within the limit of ticks.
+        requires few { self.old.cues + count ≤ TICKS }
+        // This many stimuli more are written that have nothing but whose running slot it is: what is kept, and so the
+        // file, is that of as many stimuli added one by one.
+        ensures value { OnOk result (self.new ≡ with_alike own count self.old) }
+        ensures written { (cues : List Cue) → IsWritten cues self.old → OnOk result (IsWritten (cues ++ replicate count (bare_cue own)) self.new) }
+    {
+        if count == 0 {
+            return Ok(());
+        }
+        self.cues += count;
+        self.repeat(own, count)
     }
 
     /// The file of the script of partition `p` with the cues that are written, where it is not too long for a file.
@@ -102,18 +119,19 @@ impl ScriptWriter {
         Ok(file)
     }
 
-    // Repeats a plain cue.
+    // Repeats a plain cue this many times.
     #[tactic(auto, unfolding(crate::specs::Written::plain_repeated))]
-    fn repeat(&mut self, own: bool) -> Result<(), Memory>
-        requires { IsWithin 1 self.old }
-        ensures { OnOk result (self.new ≡ plain_repeated own self.old) }
+    fn repeat(&mut self, own: bool, count: u32) -> Result<(), Memory>
+        requires within { IsWithin count self.old }
+        requires some { 0 < count }
+        ensures { OnOk result (self.new ≡ plain_repeated own count self.old) }
     {
         if is_open(self.own, own) {
-            self.count += 1;
+            self.count += count;
         } else {
             self.close()?;
             self.own = Some(own);
-            self.count = 1;
+            self.count = count;
         }
         Ok(())
     }
@@ -137,7 +155,7 @@ impl ScriptWriter {
     #[tactic(auto, unfolding(crate::specs::Written::entry_closed, crate::specs::Written::with_script_entry))]
     fn close(&mut self) -> Result<(), Memory>
         ensures value { OnOk result (self.new ≡ entry_closed self.old) }
-        ensures within { IsWithin 1 self.old → OnOk result (IsWithin 1 self.new) }
+        ensures within { (more : ℕ) → IsWithin more self.old → OnOk result (IsWithin more self.new) }
     {
         let Some(own) = self.own else {
             return Ok(());

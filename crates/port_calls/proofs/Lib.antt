@@ -1,3 +1,4 @@
+pub mod EndLemmas
 pub mod HearingLemmas
 pub mod MadePortLemmas
 pub mod MessageLemmas

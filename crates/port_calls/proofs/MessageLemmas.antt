@@ -1,11 +1,13 @@
 -- The outcome of the calls on messages, by their tests.
-use Rattle.std.proofs.Common.{◌≡◌, ℕ, ◌≤◌, Bool, true, false, List, [], ◌∷◌, None, Some, refl, sym, ap, ◌∙◌, arith, subst}
+use Rattle.std.proofs.Common.{◌≡◌, ℕ, ◌<◌, ◌≤◌, Bool, true, false, List, [], ◌∷◌, None, Some, refl, sym, ap, ◌∙◌, arith, subst}
 use Rattle.std.specs.Prelude.{◌==◌, ◌||◌, not, length, nat_le, nat_lt, Option, IsSomeAnd, slice_get}
 use Rattle.std.proofs.lemmas.Bool.Decides.{nat_tests}
 use Rattle.std.proofs.lemmas.Option.{get_or_from_slice_get, same_Some, slice_get_within}
-use Rattle.guest_bus.specs.Memory.{all_from, is_readable}
+use Rattle.std.proofs.lemmas.List.{get_or-set_same, length-set}
+use Rattle.guest_bus.specs.Memory.{Area, Memory, all_from, bytes_at, is_readable}
+use Rattle.guest_bus.specs.lemmas.MemoryLemmas.{length-bytes_at}
 use Rattle.machine_model.specs.Caller.{Caller, Served, Test, answering, b_of, caller_bytes, c_of, invalid_parameter, not_allowed, not_available, refused_if, tested, text, with_answer}
-use Rattle.machine_model.specs.Partition.{areas_of}
+use Rattle.machine_model.specs.Partition.{PartitionState, areas_of}
 use Rattle.machine_model.specs.PortEffects.{MadePort, is_full, is_source, made_port, on_port, size_fits, source_only}
 use Rattle.machine_model.specs.lemmas.PortCallsTerms.{putting}
 use Rattle.machine_model.specs.Emission.{Unseen}
@@ -16,14 +18,15 @@ use Rattle.xm_conf.specs.declared.port.Kind.{Kind}
 use Rattle.xm_conf.specs.declared.port.Kind.TheVariants as kind
 use Rattle.xm_conf.specs.declared.channel.ChanKind.{ChanKind}
 use Rattle.xm_conf.specs.declared.channel.ChanKind.TheVariants as chan_kind
-use Rattle.xm_ports.specs.Channels.{ChannelTable, IsQueuing, IsSampling, IsTable, Shape, content_at, messages_of, most_of}
+use Rattle.xm_ports.specs.Channels.{ChannelTable, IsMessage, IsQueuing, IsSampling, IsTable, Shape, content_at, messages_of, most_of}
 use Rattle.port_calls.specs.lemmas.MadePortsTerms.{IsMade, port_in}
 use Rattle.port_calls.specs.MadePorts.{table_in}
 use Rattle.port_calls.specs.lemmas.Messages.{HasRoomFor, first_refusal, put_tests}
 use Rattle.port_calls.specs.lemmas.OnPortsTerms.{done_on, is_filled, tests_on}
 use Rattle.port_calls.specs.declared.on_ports.PortWork.TheVariants as work
 use Rattle.system_state.specs.Serving.{IsServed, MayRead, caller_of}
-use Rattle.system_state.specs.State.{SysState, with_machine, with_part}
+use Rattle.system_state.specs.State.{SysState, areas_in, memory_of, part_at, with_machine, with_part}
+use Rattle.system_state.specs.lemmas.ServedLemmas.{areas_seen}
 use Rattle.system_state.specs.declared.call_site.CallSite.{CallSite}
 use Rattle.port_calls.specs.declared.made_ports.MadePort as found
 use Rattle.system_state.specs.declared.served.Act.TheVariants as act
@@ -64,7 +67,7 @@ pub record MayPut (caller : Caller) (port : MadePort) : Type 0 where
   pub fit : c_of caller ≤ port.shape.length
   pub readable : MayRead caller (b_of caller) (c_of caller)
 
-either_false : (a b : Bool) → (a || b) ≡ false → (a ≡ false) × (b ≡ false)
+pub either_false : (a b : Bool) → (a || b) ≡ false → (a ≡ false) × (b ≡ false)
 either_false true b is = absurd cc
 either_false false b is = (refl, is)
 
@@ -183,3 +186,30 @@ put_by site old mid new port at size n bytes called passed at_is size_is n_is by
     rw (at_is, size_is)
     (put_served site old mid new port called (may_put caller (port_in site.part old port) passed).readable mid_is
     (new_is ∙ ap (λ (message : List ℕ). with_machine (with_traffic (Puts port.chan message) mid.machine) mid) all))
+
+-- a call that has its result: its partition is there, may read what it might, and has the same memory
+pub caller_set : (site : CallSite) (old mid : SysState) (ps : PartitionState) → site.part < length old.machine.parts → mid ≡ with_machine (with_part site.part ps old.machine) old → site.part < length mid.machine.parts
+caller_set site old mid ps below mid_is = omega (arith, below, ap (λ (s : SysState). length s.machine.parts) mid_is, length-set old.machine.parts site.part ps)
+
+pub readable_set : (site : CallSite) (old mid : SysState) (ps : PartitionState) (at size : ℕ) → at ≡ b_of (caller_of site old) → size ≡ c_of (caller_of site old) → MayRead (caller_of site old) (b_of (caller_of site old)) (c_of (caller_of site old))
+    → mid ≡ with_machine (with_part site.part ps old.machine) old → all_from (is_readable (areas_in site.part mid.machine)) at size ≡ true
+readable_set site old mid ps at size at_is size_is readable mid_is =
+    ap (λ (s : SysState). all_from (is_readable (areas_in site.part s.machine)) at size) mid_is
+    ∙ ap (λ (areas : List Area). all_from (is_readable areas) at size) (sym (areas_seen site old))
+    ∙ ap (λ b. all_from (is_readable (areas_of (caller_of site old).view)) b size) at_is
+    ∙ ap (λ n. all_from (is_readable (areas_of (caller_of site old).view)) (b_of (caller_of site old)) n) size_is
+    ∙ readable
+
+pub memory_set : (site : CallSite) (old mid : SysState) (value : ℕ) → site.part < length old.machine.parts → mid ≡ with_machine (with_part site.part (with_answer value (caller_of site old).state) old.machine) old
+    → memory_of site.part mid.machine ≡ (caller_of site old).state.memory
+unfolding with_answer caller_of
+memory_set site old mid value below mid_is =
+    ap (λ (s : SysState). memory_of site.part s.machine) mid_is
+    ∙ ap (λ (ps : PartitionState). ps.memory) (get_or-set_same old.machine.parts site.part (with_answer value (part_at site.part old.machine)) _ below)
+
+-- a message of the call's size fits its port
+pub message_fits : (caller : Caller) (port : MadePort) (memory : Memory) (at size : ℕ) → None ≡ first_refusal (put_tests caller port) → size ≡ c_of caller → IsMessage port.shape.length (bytes_at memory at size)
+message_fits caller port memory at size passed size_is =
+    let may = may_put caller port passed in
+    let counted = length-bytes_at memory at size in
+    record { some = omega (arith, may.some, counted, size_is); fit = omega (arith, may.fit, counted, size_is) }

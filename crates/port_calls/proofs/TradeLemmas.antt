@@ -1,6 +1,6 @@
 -- A message that is put or taken, and a signal, as the code does them and as the machine has them.
-use Rattle.std.proofs.Common.{◌≡◌, ℕ, zero, suc, ◌+◌, ◌<◌, ◌≤◌, ◌≢◌, Bool, true, false, List, [], ◌∷◌, length, get_or, set, Option, None, Some, refl, sym, ap, ◌∙◌, arith, subst}
-use Rattle.std.specs.Prelude.{◌==◌, ◌&&◌, if◌then◌else◌, option_map, slice_get, unwrap_or, IsSomeAnd, OnSome}
+use Rattle.std.proofs.Common.{◌≡◌, ℕ, zero, suc, ◌+◌, ◌<◌, ◌≢◌, Bool, true, false, List, [], ◌∷◌, length, get_or, set, Option, None, Some, refl, sym, ap, ◌∙◌, arith, subst}
+use Rattle.std.specs.Prelude.{◌==◌, ◌&&◌, if◌then◌else◌, option_map, slice_get, IsSomeAnd}
 use Rattle.std.proofs.lemmas.Bool.{eqb-true}
 use Rattle.std.proofs.lemmas.Bool.Decides.{nat_tests}
 use Rattle.std.proofs.lemmas.Option.{same_Some, slice_get-map}
@@ -9,7 +9,7 @@ use Rattle.xm_conf.specs.View.{channel_of}
 use Rattle.xm_conf.specs.declared.port.Port.{Port}
 use Rattle.xm_conf.specs.declared.channel.ChanKind.{ChanKind}
 use Rattle.xm_conf.specs.declared.channel.ChanKind.TheVariants as chan_kind
-use Rattle.xm_ports.specs.Channels.{ChannelTable, Content, HasQueue, HasSampling, IsQueuing, IsSampling, Queuing, Shape, changed, content_at, first_message, put, shape_of, shapes_of, first_taken, with_content}
+use Rattle.xm_ports.specs.Channels.{ChannelTable, Content, HasQueue, HasSampling, IsQueuing, IsSampling, Queuing, Shape, changed, put, shape_of, shapes_of, first_taken, with_content}
 use Rattle.xm_ports.specs.Ports.{is_made}
 use Rattle.machine_model.specs.lemmas.NameLemmas.{name_is}
 use Rattle.machine_model.specs.Lists.{each, is_number, table, then_some}
@@ -20,7 +20,7 @@ use Rattle.machine_model.specs.Traffic.{Puts, Signals, Takes, after_message, aft
 use Rattle.machine_model.specs.View.{PortChannel, linked, name_from, name_of, part_of, port_channel, view_of, with_its_name, with_name}
 use Rattle.span_model.specs.Passes.{with_traffic}
 use Rattle.port_calls.specs.MadePorts.{table_in}
-use Rattle.system_state.specs.State.{SysState, part_at, with_machine, with_part}
+use Rattle.system_state.specs.State.{SysState, part_at, with_machine, with_part, with_table}
 use Rattle.port_calls.specs.lemmas.Traffic.{Brings, heard_at, hears_from, hears_in, is_on, notified}
 
 -- two passes that do the same to each element
@@ -56,7 +56,7 @@ pub taken_pass : (time chan : ℕ) (contents : List Content) → changed first_t
 taken_pass time chan contents = changed_pass first_taken (λ k. chan == k) chan contents (itself chan) (λ k differs. other_number chan k differs)
 
 -- no port of these is a destination for which the test holds
-none_hears : (test : ℕ → Bool) (r : ℕ) (ports : List Port) → ((k j : ℕ) (port : Port) → j ≡ r + k → k < length ports → (is_destination port.way && test j) ≡ false)
+pub none_hears : (test : ℕ → Bool) (r : ℕ) (ports : List Port) → ((k j : ℕ) (port : Port) → j ≡ r + k → k < length ports → (is_destination port.way && test j) ≡ false)
     → hears_from test r ports ≡ false
 none_hears test r [] none = refl
 none_hears test r (port ∷ ports) none =
@@ -285,21 +285,19 @@ brings_sampling chan conf table shapes has = brings_by IsSampling 3 chan conf ta
 pub brings_queuing : (chan : ℕ) (conf : Conf) (table : ChannelTable) → table.shapes ≡ shapes_of conf → HasQueue chan table → Brings conf chan 4
 brings_queuing chan conf table shapes has = brings_by IsQueuing 4 chan conf table.shapes of_queuing shapes has
 
+-- the system after a message that is read from a partition's memory and put
+pub put_read_done : (old mid new : SysState) (chan n : ℕ) (bytes : List ℕ) → mid ≡ with_table (with_content (put old.machine.time bytes) chan (table_in old)) old → Brings old.machine.system.conf chan n
+    → new ≡ with_machine (notified chan n mid.machine) mid → new ≡ with_machine (with_traffic (Puts chan bytes) old.machine) old
+put_read_done old mid new chan n bytes mid_is brings new_is =
+    put_done old new (table_in old) (with_content (put old.machine.time bytes) chan (table_in old)) chan n bytes refl refl refl brings
+    (new_is ∙ ap (λ (s : SysState). with_machine (notified chan n s.machine) s) mid_is)
+
 -- the system after a message that is taken
-take_by : (old new : SysState) (before after : ChannelTable) (chan : ℕ) (result : Option ℕ) (first : Option (List ℕ)) → before.contents ≡ old.machine.channels → before.shapes ≡ old.shapes → result ≡ option_map length first → IsSomeAnd first (λ message. length message ≤ 4096)
-    → OnSome result (after ≡ with_content first_taken chan before) → new ≡ record { machine = record old.machine { channels = after.contents }; shapes = after.shapes } → new ≡ with_machine (with_traffic (Takes chan) old.machine) old
-take_by old new before after chan result None contents shapes result_is there after_is new_is = absurd there
-take_by old new before after chan result (Some message) contents shapes result_is there after_is new_is =
-    let is : after ≡ with_content first_taken chan before = rw result_is at after_is in
+pub take_done : (old new : SysState) (before after : ChannelTable) (chan : ℕ) → before.contents ≡ old.machine.channels → before.shapes ≡ old.shapes → after ≡ with_content first_taken chan before
+    → new ≡ record { machine = record old.machine { channels = after.contents }; shapes = after.shapes } → new ≡ with_machine (with_traffic (Takes chan) old.machine) old
+take_done old new before after chan contents shapes after_is new_is =
     new_is
-    ∙ ap (λ (t : ChannelTable). record { machine = record old.machine { channels = t.contents }; shapes = t.shapes }) is
+    ∙ ap (λ (t : ChannelTable). record { machine = record old.machine { channels = t.contents }; shapes = t.shapes }) after_is
     ∙ ap (λ (held : List Content). record { machine = record old.machine { channels = changed first_taken chan held }; shapes = before.shapes }) contents
     ∙ ap (λ (s : List Shape). record { machine = record old.machine { channels = changed first_taken chan old.machine.channels }; shapes = s }) shapes
     ∙ ap (λ (g : Machine). with_machine g old) (take_trades old.machine chan)
-
-pub take_done : (old new : SysState) (before after : ChannelTable) (chan : ℕ) (result : Option ℕ) → before.contents ≡ old.machine.channels → before.shapes ≡ old.shapes → result ≡ option_map length (first_message (content_at chan before))
-    → IsSomeAnd (first_message (content_at chan (table_in old))) (λ message. length message ≤ 4096) → OnSome result (after ≡ with_content first_taken chan before) → new ≡ record { machine = record old.machine { channels = after.contents }; shapes = after.shapes }
-    → new ≡ with_machine (with_traffic (Takes chan) old.machine) old
-take_done old new before after chan result contents shapes result_is there after_is new_is =
-    take_by old new before after chan result (first_message (content_at chan (table_in old))) contents shapes
-    (result_is ∙ ap (λ (held : List Content). option_map length (first_message (unwrap_or (slice_get held chan) (Queuing [])))) contents) there after_is new_is

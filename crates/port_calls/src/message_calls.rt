@@ -1,10 +1,11 @@
 //! The calls on messages: numbers 17, 18, 21 and 22.
 
-ghost use Rattle.std.specs.Prelude.{◌≡◌, ◌≤◌, ◌-◌, ◌++◌, IfSome, None, Some, drop, length, option_map, slice_get, take};
+ghost use Rattle.std.specs.Prelude.{◌≡◌, ◌<◌, ◌≤◌, ◌-◌, true, IfSome, None, Some, length, option_map, slice_get};
+ghost use Rattle.guest_bus.specs.Memory.{all_from, bytes_at, is_readable};
 ghost use Rattle.xm_ports.specs.Channels.{HasQueue, HasSampling, IsMessage, IsTable, content_at, first_message, sample_of, shapes_of};
 ghost use Rattle.span_model.specs.Passes.{with_traffic};
 ghost use Rattle.machine_model.specs.Caller.{c_of, with_answer};
-ghost use Rattle.machine_model.specs.PortEffects.{is_full, is_source, message_read, sample_read};
+ghost use Rattle.machine_model.specs.PortEffects.{is_full, is_source};
 ghost use Rattle.machine_model.specs.lemmas.PortCallsTerms.{putting};
 ghost use Rattle.machine_model.specs.Structures.{flag, is_valid, refresh_of};
 ghost use Rattle.machine_model.specs.Emission.{Unseen};
@@ -13,20 +14,21 @@ ghost use Rattle.machine_model.specs.View.{named};
 ghost use Rattle.xm_conf.specs.declared.port.Kind.TheVariants as the_kind;
 ghost use Rattle.port_calls.specs.lemmas.MadePortsTerms.{HasKind, IsMade, port_in};
 ghost use Rattle.port_calls.specs.MadePorts.{table_in};
-ghost use Rattle.port_calls.specs.lemmas.Messages.{HasRoomFor, first_refusal, message_tests, put_tests, sample_tests};
+ghost use Rattle.port_calls.specs.lemmas.Messages.{HasRoomFor, IsHeadOf, first_refusal, message_tests, put_tests, sample_tests};
 ghost use Rattle.port_calls.specs.lemmas.OnPortsTerms.{done_on, held_in, is_filled};
 ghost use Rattle.port_calls.specs.declared.on_ports.PortWork.TheVariants as work;
 ghost use Rattle.system_state.specs.Serving.{IsCaller, IsServed, caller_of};
-ghost use Rattle.system_state.specs.State.{with_machine, with_part};
+ghost use Rattle.system_state.specs.State.{areas_in, memory_of, with_machine, with_part};
 
 use crate::made_ports::{MadePort, most_of, refresh_of};
-use crate::traffic::{MESSAGE_BYTES, drop_first, put_sampling, send};
+use crate::traffic::{drop_first, put_sampling_from, send_from};
 use system_state::answering::{
     B, C, D, INVALID_PARAMETER, NO_ACTION, NOT_ALLOWED, NOT_AVAILABLE, answer, answer_written,
-    argument, read, room, text, write,
+    argument, room, text,
 };
 use system_state::structures::validity;
-use system_state::{Act, CallSite, Note, Served, Sys, engine};
+use system_state::{Act, CallSite, Note, Served, Sys, engine, messages};
+use xm_base::PartId;
 use xm_conf::{ChanKind, Kind, Way};
 
 /// Calls 17, XM_write_sampling_message(a, b, c), and 21, XM_send_queuing_message(a, b, c), on a made port: c bytes at b.
@@ -100,27 +102,10 @@ fn put_message(sys: &mut Sys, site: CallSite, port: MadePort) -> Served
     requires room { HasRoomFor port.kind port.chan sys.old }
     ensures { IsServed site.part Unseen (putting (caller_of site sys.old) (port_in site.part sys.old port)) result sys.old sys.new }
 {
-    let size = argument(sys, site, C);
-    let mut buffer = [0; MESSAGE_BYTES];
-    put_read(sys, site, port, &mut buffer[..size as usize])
-}
-
-/// Reads the call's message into a buffer of its size, and puts it into a port's channel.
-fn put_read(sys: &mut Sys, site: CallSite, port: MadePort, message: &mut [u8]) -> Served
-    requires caller { IsCaller site sys.old }
-    requires shapes { sys.old.shapes ≡ shapes_of sys.old.machine.system.conf }
-    requires named { named sys.old.machine.system.conf site.part (port_in site.part sys.old port).name ≡ Some port.chan }
-    requires shaped { slice_get sys.old.shapes port.chan ≡ Some (record { kind = port.kind; length = port.length }) }
-    requires tests { first_refusal (put_tests (caller_of site sys.old) (port_in site.part sys.old port)) ≡ None }
-    requires size { length message.old ≡ c_of (caller_of site sys.old) }
-    requires room { HasRoomFor port.kind port.chan sys.old }
-    ensures { IsServed site.part Unseen (putting (caller_of site sys.old) (port_in site.part sys.old port)) result sys.old sys.new }
-{
     let at = argument(sys, site, B);
     let size = argument(sys, site, C);
-    read(sys, site, at, message);
     set_result(sys, site, 0);
-    put_bytes(sys, port, message);
+    put_bytes(sys, site.part, port, at, size);
     Served {
         note: Note::Put {
             chan: port.chan,
@@ -131,17 +116,20 @@ fn put_read(sys: &mut Sys, site: CallSite, port: MadePort, message: &mut [u8]) -
     }
 }
 
-/// Puts a message into a port's channel.
-fn put_bytes(sys: &mut Sys, port: MadePort, bytes: &[u8])
+/// Puts bytes of a partition's memory into a port's channel.
+fn put_bytes(sys: &mut Sys, p: PartId, port: MadePort, at: u32, size: u32)
+    requires partition { p < length sys.old.machine.parts }
+    requires few { size ≤ 4096 }
+    requires readable { all_from (is_readable (areas_in p sys.old.machine)) at size ≡ true }
     requires shapes { sys.old.shapes ≡ shapes_of sys.old.machine.system.conf }
     requires shaped { slice_get sys.old.shapes port.chan ≡ Some (record { kind = port.kind; length = port.length }) }
-    requires bytes { IsMessage port.length bytes.now }
+    requires bytes { IsMessage port.length (bytes_at (memory_of p sys.old.machine) at size) }
     requires room { HasRoomFor port.kind port.chan sys.old }
-    ensures { sys.new ≡ with_machine (with_traffic (Puts port.chan bytes.now) sys.old.machine) sys.old }
+    ensures { sys.new ≡ with_machine (with_traffic (Puts port.chan (bytes_at (memory_of p sys.old.machine) at size)) sys.old.machine) sys.old }
 {
     match port.kind {
-        ChanKind::Sampling { refresh: _ } => put_sampling(sys, port.chan, bytes),
-        ChanKind::Queuing { most: _ } => match send(sys, port.chan, bytes) {
+        ChanKind::Sampling { refresh: _ } => put_sampling_from(sys, port.chan, p, at, size),
+        ChanKind::Queuing { most: _ } => match send_from(sys, port.chan, p, at, size) {
             Ok(()) => {}
             Err(_) => unreachable!(),
         },
@@ -188,26 +176,38 @@ fn read_held_sample(sys: &mut Sys, site: CallSite, port: MadePort) -> Served
     requires made { IsMade the_kind.Sampling site.part sys.old port }
     ensures { IsServed site.part Unseen (held_in the_kind.Sampling (caller_of site sys.old) (port_in site.part sys.old port)) result sys.old sys.new }
 {
-    let mut buffer = [0; MESSAGE_BYTES];
-    let Some((time, size)) = copy_sample(sys, port.chan, &mut buffer) else {
+    let Some((time, size)) = sample_head(sys, port.chan) else {
         return answer(sys, site, NO_ACTION);
     };
-    read_sample(sys, site, port, time, &buffer[..size])
+    read_sample(sys, site, port, time, size as u32)
 }
 
-/// Writes the message of a sampling channel to the caller's memory, and whether it is valid.
-fn read_sample(sys: &mut Sys, site: CallSite, port: MadePort, time: u64, message: &[u8]) -> Served
-    requires caller { IsCaller site sys.old }
-    requires few { length message.now ≤ 4096 }
-    ensures { IsServed site.part Unseen (sample_read (caller_of site sys.old) (port_in site.part sys.old port) (record { time = time; bytes = message.now })) result sys.old sys.new }
+/// When the message of a sampling channel was written, and how many bytes it has.
+fn sample_head(sys: &Sys, chan: u8) -> Option<(u64, usize)>
+    requires channel { HasSampling chan (table_in sys.now) }
+    requires table { IsTable (table_in sys.now) }
+    ensures value { IsHeadOf result (sample_of (content_at chan (table_in sys.now))) }
+    ensures few { IfSome result (λ head. head.1 ≤ 4096) }
 {
-    if let Some(code) = sample_refusal(sys, site, message.len() as u32) {
+    let sample = sys.channels().get_sampling(chan)?;
+    Some((sample.time, sample.bytes.len()))
+}
+
+/// Writes the message of a sampling port to the caller's memory, and whether it is valid.
+fn read_sample(sys: &mut Sys, site: CallSite, port: MadePort, time: u64, size: u32) -> Served
+    requires caller { IsCaller site sys.old }
+    requires made { IsMade the_kind.Sampling site.part sys.old port }
+    requires head { IsHeadOf (Some (time, size)) (sample_of (content_at port.chan (table_in sys.old))) }
+    ensures { IsServed site.part Unseen (held_in the_kind.Sampling (caller_of site sys.old) (port_in site.part sys.old port)) result sys.old sys.new }
+{
+    if let Some(code) = sample_refusal(sys, site, size) {
         return answer(sys, site, code);
     }
     let valid = validity_at(port.kind, sys.now(), time);
     let at = argument(sys, site, D);
-    write(sys, site, argument(sys, site, B), message);
-    answer_written(sys, site, at, &valid.to_be_bytes(), message.len() as u32)
+    let to = argument(sys, site, B);
+    messages::write_sample(sys, port.chan, site.part, to);
+    answer_written(sys, site, at, &valid.to_be_bytes(), size)
 }
 
 /// Why a message of this many bytes is not written to the caller's memory, with its validity, where that is refused.
@@ -231,55 +231,42 @@ fn validity_at(kind: ChanKind, now: u64, written: u64) -> u32
     validity(refresh_of(kind), now.saturating_sub(written))
 }
 
-/// Copies the message of a sampling channel to the beginning of a buffer, and answers when it was written and how many bytes it has.
-fn copy_sample(sys: &Sys, chan: u8, into: &mut [u8]) -> Option<(u64, usize)>
-    requires channel { HasSampling chan (table_in sys.now) }
-    requires table { IsTable (table_in sys.now) }
-    requires room { 4096 ≤ length into.old }
-    ensures value { option_map (λ found. record { time = found.0; bytes = take found.1 into.new }) result ≡ sample_of (content_at chan (table_in sys.now)) }
-    ensures few { IfSome result (λ found. found.1 ≤ 4096) }
-    ensures length { length into.new ≡ length into.old }
-{
-    let sample = sys.channels().get_sampling(chan)?;
-    put_front(into, sample.bytes);
-    Some((sample.time, sample.bytes.len()))
-}
-
-/// Copies bytes to the beginning of a buffer.
-fn put_front(into: &mut [u8], from: &[u8])
-    requires { length from.now ≤ length into.old }
-    ensures { into.new ≡ from.now ++ drop (length from.now) into.old }
-{
-    into[..from.len()].copy_from_slice(from);
-}
-
 /// Reads and takes the first message of a queuing port, where there is one.
 fn read_first(sys: &mut Sys, site: CallSite, port: MadePort) -> Served
     requires caller { IsCaller site sys.old }
     requires made { IsMade the_kind.Queuing site.part sys.old port }
     ensures { IsServed site.part Unseen (held_in the_kind.Queuing (caller_of site sys.old) (port_in site.part sys.old port)) result sys.old sys.new }
 {
-    let mut buffer = [0; MESSAGE_BYTES];
-    let Some(size) = copy_first(sys, port.chan, &mut buffer) else {
+    let Some(size) = first_size(sys, port.chan) else {
         return answer(sys, site, NOT_AVAILABLE);
     };
-    read_message(sys, site, port, &buffer[..size])
+    read_message(sys, site, port, size as u32)
 }
 
-/// Writes the first message of a queue to the caller's memory, and takes it from the queue.
-fn read_message(sys: &mut Sys, site: CallSite, port: MadePort, message: &[u8]) -> Served
-    requires caller { IsCaller site sys.old }
-    requires named { named sys.old.machine.system.conf site.part (port_in site.part sys.old port).name ≡ Some port.chan }
-    requires queue { HasQueue port.chan (table_in sys.old) }
-    requires first { Some message.now ≡ first_message (content_at port.chan (table_in sys.old)) }
-    requires few { length message.now ≤ 4096 }
-    ensures { IsServed site.part Unseen (message_read (caller_of site sys.old) (port_in site.part sys.old port) message.now) result sys.old sys.new }
+/// How many bytes the first message of a queue has.
+fn first_size(sys: &Sys, chan: u8) -> Option<usize>
+    requires channel { HasQueue chan (table_in sys.now) }
+    requires table { IsTable (table_in sys.now) }
+    ensures value { result ≡ option_map length (first_message (content_at chan (table_in sys.now))) }
+    ensures few { IfSome result (λ size. size ≤ 4096) }
 {
-    let size = message.len() as u32;
+    let message = sys.channels().first(chan)?;
+    Some(message.len())
+}
+
+/// Writes the first message of a queuing port to the caller's memory, and takes it from the queue.
+fn read_message(sys: &mut Sys, site: CallSite, port: MadePort, size: u32) -> Served
+    requires caller { IsCaller site sys.old }
+    requires made { IsMade the_kind.Queuing site.part sys.old port }
+    requires size { Some size ≡ option_map length (first_message (content_at port.chan (table_in sys.old))) }
+    requires few { size ≤ 4096 }
+    ensures { IsServed site.part Unseen (held_in the_kind.Queuing (caller_of site sys.old) (port_in site.part sys.old port)) result sys.old sys.new }
+{
     if let Some(code) = message_refusal(sys, site, size) {
         return answer(sys, site, code);
     }
-    write(sys, site, argument(sys, site, B), message);
+    let to = argument(sys, site, B);
+    messages::write_first(sys, port.chan, site.part, to);
     set_result(sys, site, size);
     drop_first(sys, port.chan);
     Served {
@@ -297,18 +284,4 @@ fn message_refusal(sys: &Sys, site: CallSite, size: u32) -> Option<u32>
         return Some(INVALID_PARAMETER);
     }
     room(sys, site, argument(sys, site, B), size)
-}
-
-/// Copies the first message of a queue to the beginning of a buffer, and answers how many bytes it has.
-fn copy_first(sys: &Sys, chan: u8, into: &mut [u8]) -> Option<usize>
-    requires channel { HasQueue chan (table_in sys.now) }
-    requires table { IsTable (table_in sys.now) }
-    requires room { 4096 ≤ length into.old }
-    ensures value { option_map (λ size. take size into.new) result ≡ first_message (content_at chan (table_in sys.now)) }
-    ensures few { IfSome result (λ size. size ≤ 4096) }
-    ensures length { length into.new ≡ length into.old }
-{
-    let message = sys.channels().first(chan)?;
-    put_front(into, message);
-    Some(message.len())
 }

@@ -1,23 +1,22 @@
 //! Messages that are put into channels and taken from them, signals over links, and the partitions that hear of them.
 
-ghost use Rattle.std.specs.Prelude.{◌≡◌, ◌↔◌, ◌<◌, ◌≤◌, IsErr, IsSomeAnd, OnErr, OnOk, Some, length};
+ghost use Rattle.std.specs.Prelude.{◌≡◌, ◌↔◌, ◌<◌, ◌≤◌, true, IsErr, IsSomeAnd, OnErr, OnOk, Some, length, slice_get};
+ghost use Rattle.std.specs.List.{list_any};
+ghost use Rattle.guest_bus.specs.Memory.{all_from, bytes_at, is_readable};
 ghost use Rattle.xm_ports.specs.Channels.{FitsChannel, HasQueue, HasSampling, IsFull, content_at, first_message, shapes_of};
 ghost use Rattle.span_model.specs.Passes.{with_traffic};
 ghost use Rattle.machine_model.specs.Emission.{OwnSignals};
 ghost use Rattle.machine_model.specs.Traffic.{Puts, Takes, hearing, interrupted, is_destination};
 ghost use Rattle.machine_model.specs.View.{part_of, view_of};
 ghost use Rattle.port_calls.specs.MadePorts.{table_in};
-ghost use Rattle.system_state.specs.State.{part_at, with_machine, with_part};
-ghost use Rattle.port_calls.specs.lemmas.Traffic.{heard_at, hears_from, hears_in, is_on, notified};
+ghost use Rattle.system_state.specs.State.{areas_in, memory_of, part_at, with_machine, with_part};
+ghost use Rattle.port_calls.specs.lemmas.Traffic.{heard_at, hears_from, hears_in, is_end_of, is_in, is_on, notified};
 
-use system_state::Sys;
 use system_state::interrupts::{LINK_SIGNAL, QUEUING_MESSAGE, SAMPLING_MESSAGE};
+use system_state::{Sys, messages};
 use xm_base::{PartId, State, proof};
-use xm_conf::{Port, Way};
+use xm_conf::{Conf, End, Port, Way};
 use xm_ports::Full;
-
-/// How many bytes a message has at most.
-pub(crate) const MESSAGE_BYTES: usize = 4096;
 
 /// Writes a message to a sampling channel. The partitions that hear it are interrupted.
 pub fn put_sampling(sys: &mut Sys, chan: u8, bytes: &[u8])
@@ -57,6 +56,47 @@ pub fn send(sys: &mut Sys, chan: u8, bytes: &[u8]) -> Result<(), Full>
     }
 }
 
+/// Writes bytes of a partition's memory to a sampling channel. The partitions that hear it are interrupted.
+pub(crate) fn put_sampling_from(sys: &mut Sys, chan: u8, p: PartId, address: u32, size: u32)
+    requires partition { p < length sys.old.machine.parts }
+    requires few { size ≤ 4096 }
+    requires readable { all_from (is_readable (areas_in p sys.old.machine)) address size ≡ true }
+    requires shapes { sys.old.shapes ≡ shapes_of sys.old.machine.system.conf }
+    requires channel { HasSampling chan (table_in sys.old) }
+    requires bytes { FitsChannel (bytes_at (memory_of p sys.old.machine) address size) chan (table_in sys.old) }
+    ensures { sys.new ≡ with_machine (with_traffic (Puts chan (bytes_at (memory_of p sys.old.machine) address size)) sys.old.machine) sys.old }
+{
+    messages::put_sampling_from(sys, chan, p, address, size);
+    notify(sys, chan, SAMPLING_MESSAGE);
+}
+
+/// Puts bytes of a partition's memory at the end of a queue, or answers `Full`. The partitions that hear it are
+/// interrupted.
+pub(crate) fn send_from(
+    sys: &mut Sys,
+    chan: u8,
+    p: PartId,
+    address: u32,
+    size: u32,
+) -> Result<(), Full>
+    requires partition { p < length sys.old.machine.parts }
+    requires few { size ≤ 4096 }
+    requires readable { all_from (is_readable (areas_in p sys.old.machine)) address size ≡ true }
+    requires shapes { sys.old.shapes ≡ shapes_of sys.old.machine.system.conf }
+    requires channel { HasQueue chan (table_in sys.old) }
+    requires bytes { FitsChannel (bytes_at (memory_of p sys.old.machine) address size) chan (table_in sys.old) }
+    ensures full { IsErr result ↔ IsFull chan (table_in sys.old) }
+    ensures sent { OnOk result (sys.new ≡ with_machine (with_traffic (Puts chan (bytes_at (memory_of p sys.old.machine) address size)) sys.old.machine) sys.old) }
+{
+    match messages::send_from(sys, chan, p, address, size) {
+        Ok(()) => {
+            notify(sys, chan, QUEUING_MESSAGE);
+            Ok(())
+        }
+        Err(full) => Err(full),
+    }
+}
+
 /// Takes the first message from a queue.
 pub fn drop_first(sys: &mut Sys, chan: u8)
     // Called for a queue in which a message of at most 4096 bytes waits.
@@ -64,8 +104,7 @@ pub fn drop_first(sys: &mut Sys, chan: u8)
     requires first { IsSomeAnd (first_message (content_at chan (table_in sys.old))) (λ first. length first ≤ 4096) }
     ensures { sys.new ≡ with_machine (with_traffic (Takes chan) sys.old.machine) sys.old }
 {
-    let mut message = [0; MESSAGE_BYTES];
-    sys.channels_mut().receive(chan, &mut message);
+    sys.channels_mut().drop_first(chan);
 }
 
 /// Signals over a link of a number to a partition: the link's interrupt is pending there, unless the partition has halted.
@@ -119,7 +158,37 @@ fn hears(sys: &Sys, q: PartId, chan: u8) -> bool
     requires { q < length sys.now.machine.parts }
     ensures { result ≡ hears_in sys.now.machine.system.conf q chan (part_at q sys.now.machine) }
 {
-    one_hears(sys, q, chan, ports_of(sys, q))
+    if is_end_of(sys.conf(), q, chan) {
+        one_hears(sys, q, chan, ports_of(sys, q))
+    } else {
+        false
+    }
+}
+
+/// Whether a partition has an end of a channel: its source, or one of its destinations.
+#[tactic(auto, unfolding(xm_conf::specs::Description::described))]
+fn is_end_of(conf: &Conf, q: PartId, chan: u8) -> bool
+    ensures { result ≡ is_end_of q (slice_get conf.now.chans chan) }
+{
+    match conf.raw().chans.get(usize::from(chan)) {
+        Some(chan) => is_in(q, &chan.source) || any_in(q, &chan.dests),
+        None => false,
+    }
+}
+
+/// Whether one of these ends is in a partition.
+fn any_in(q: PartId, ends: &[End]) -> bool
+    ensures { result ≡ list_any (is_in q) ends.now }
+{
+    ends.iter().any(|end| is_in(q, end))
+}
+
+/// Whether an end is in a partition.
+#[tactic(auto, unfolding(crate::specs::lemmas::Traffic::is_in))]
+fn is_in(q: PartId, end: &End) -> bool
+    ensures { result ≡ is_in q end.now }
+{
+    end.part == q
 }
 
 /// The ports of a partition.

@@ -2,5 +2,4 @@ pub mod NumberLemmas
 pub mod ReadyLemmas
 pub mod RunLemmas
 pub mod ScriptLemmas
-pub mod TickLemmas
 pub mod WorkLemmas

@@ -1,7 +1,10 @@
 -- What partitions receive in a run has its numbers.
-use Rattle.std.proofs.Common.{◌≡◌, ℕ, List, [], ◌∷◌, length, drop, Option, Some, Result, Ok, IfOk, sym, ◌∙◌, subst}
+use Rattle.std.proofs.Common.{◌≡◌, ℕ, List, [], ◌∷◌, length, drop, Option, Some, Result, Ok, Err, IfOk, refl, sym, ◌∙◌, subst}
+use Rattle.std.specs.Prelude.{All}
+use Rattle.std.proofs.lemmas.List.Elements.{All-head, All-tail}
 use Rattle.xm_outside.specs.Files.{Files}
 use Rattle.loaded_system.specs.System.{System}
+use Rattle.machine_model.specs.Machine.{start}
 use Rattle.machine_model.specs.View.{System as Booted}
 use Rattle.system_state.specs.State.{with_inputs}
 use Rattle.xm_container.specs.Reading.{unpacked}
@@ -13,11 +16,14 @@ use Rattle.file_commands.specs.Ending.{Ending, Done, Usage, ReadFault, Refused, 
 use Rattle.file_commands.specs.Inputs.{inputs_for}
 use Rattle.file_commands.specs.Makes.{IsUnmadeOf}
 use Rattle.run_commands.specs.Numbers.{ReceivesNumbers, AllReceiveNumbers, HasScripts, ReceivesIn, ReceivesOf}
+use Rattle.run_commands.specs.declared.recording.Recording.{Recording}
 use Rattle.run_commands.specs.lemmas.NumbersTerms.{ReceivesShort}
+use Rattle.run_commands.specs.lemmas.Recordings.{IsRecorded, parts_of}
 use Rattle.file_commands.specs.Outcome.{content, ticks_asked}
 use Rattle.file_commands.specs.Packing.{file_names}
 use Rattle.file_commands.specs.Work.{AreNotRead, Outside, ReadsFiles}
 use Rattle.run_commands.specs.lemmas.ContentLemmas.{are_whole}
+use Rattle.run_commands.proofs.ScriptLemmas.{next_recording, recorded_parts}
 
 -- Endings.
 
@@ -37,20 +43,24 @@ unread_unmade (WriteFaultFile file) files before after not_read is = not_read
 unread_unmade (UartFault place) files before after not_read is = not_read
 unread_unmade NoMemory files before after not_read is = is
 
--- Scripts, one after another.
+-- Recordings, one for each script.
 
--- all are those that are left
-pub received_begun : (system : Booted) (ticks : ℕ) (all rest : List PartFile) → rest ≡ all → AllReceiveNumbers system ticks rest → AllReceiveNumbers system ticks all
-received_begun system ticks all rest same have = subst (AllReceiveNumbers system ticks) same have
+-- what is recorded has its numbers, whether a script is made of it or not
+pub recorded_numbers : {X E : Type 0} (made : Result X E) (system : Booted) (ticks : ℕ) (recordings : List Recording) (names : List PartFile) → recorded_parts recordings ≡ parts_of names
+    → All (IsRecorded (start system) ticks) recordings → IfOk made (λ _. AllReceiveNumbers system ticks names)
+recorded_numbers made system ticks recordings names same have = for_made made (at recordings names same have)
+  where
+    for_made : {X E P : Type 0} (made : Result X E) → P → IfOk made (λ _. P)
+    for_made (Ok scripts) holds = holds
+    for_made (Err ending) holds = tt
 
--- the next one has its numbers
-pub received_next : (system : Booted) (ticks : ℕ) (all rest others : List PartFile) (named : PartFile) → rest ≡ named ∷ others → ReceivesNumbers system ticks named.part
-    → (AllReceiveNumbers system ticks rest → AllReceiveNumbers system ticks all) → AllReceiveNumbers system ticks others → AllReceiveNumbers system ticks all
-received_next system ticks all rest others named is has goes have = goes (subst (AllReceiveNumbers system ticks) (sym is) (has, have))
-
--- none is left
-pub received_all : (system : Booted) (ticks : ℕ) (all rest : List PartFile) → rest ≡ [] → (AllReceiveNumbers system ticks rest → AllReceiveNumbers system ticks all) → AllReceiveNumbers system ticks all
-received_all system ticks all rest none goes = goes (subst (AllReceiveNumbers system ticks) (sym none) tt)
+    at : (recordings : List Recording) (names : List PartFile) → recorded_parts recordings ≡ parts_of names → All (IsRecorded (start system) ticks) recordings → AllReceiveNumbers system ticks names
+    at recordings [] same have = tt
+    at [] (named ∷ names) same have = absurd cc
+    at (one ∷ recordings) (named ∷ names) same have =
+        let next = next_recording (one ∷ recordings) recordings one (named ∷ names) names named refl refl same in
+        let first = All-head (IsRecorded (start system) ticks) one recordings have in
+        (subst (ReceivesNumbers system ticks) next.0 first.numbers, at recordings names next.1 (All-tail (IsRecorded (start system) ticks) one recordings have))
 
 -- A run, by the outcome of its files.
 

@@ -1,116 +1,204 @@
--- A script of a run of two parts.
-use Rattle.std.proofs.Common.{◌≡◌, ℕ, zero, suc, ◌+◌, ◌-◌, ◌<◌, ◌≤◌, Bool, true, false, List, [], ◌∷◌, ◌++◌, length, IfOk, Result, Ok, Err, refl, sym, ap, subst, ◌∙◌, arith}
+-- What is recorded in a run, span by span.
+use Rattle.std.proofs.Common.{◌≡◌, ◌≢◌, ℕ, zero, suc, ◌+◌, ◌-◌, ◌<◌, ◌≤◌, Bool, true, false, not, List, [], ◌∷◌, ◌++◌, length, map, get_or, set, replicate, All, IfOk, OnOk, Option, Some, None, Result, Ok, Err, refl, sym, ap, subst, ◌∙◌, arith, below_more, get_or-set_other, get_or-set_same}
 use Rattle.std.specs.List.{AllByRecursion}
-use Rattle.std.proofs.Math.Nat.{suc-add, zero-add}
-use Rattle.std.proofs.lemmas.List.{append-nil}
+use Rattle.std.proofs.lemmas.List.{get_or-map, length-map, replicate_more}
 use Rattle.machine_model.specs.Cue.{Cue, cue, script, script_unless}
-use Rattle.machine_model.specs.Facts.{RunsKeepNumbers}
-use Rattle.machine_model.specs.Machine.{Machine, after, happened, run, step, step_unless}
-use Rattle.machine_model.specs.Emission.{AllHalted, AllReset, NoEvent, WholeEvent}
-use Rattle.machine_model.specs.Whole.{ticks_after}
+use Rattle.loaded_system.specs.System.{System}
+use Rattle.machine_model.specs.Facts.{BootsComplete, RunsKeepNumbers}
+use Rattle.machine_model.specs.Machine.{Machine, run, start, step}
+use Rattle.machine_model.specs.View.{System as Booted}
 use Rattle.span_model.specs.lemmas.RunLemmas.{run_add}
-use Rattle.cue_scripts.specs.Written.{IsWritten, Written}
+use Rattle.system_state.specs.State.{with_inputs}
+use Rattle.tick_steps.specs.lemmas.KeptLemmas.{ticks_most}
+use Rattle.cue_scripts.specs.Entries.{bare_cue, is_away, is_bare, plain_kind}
+use Rattle.cue_scripts.specs.Spelling.{script_text}
+use Rattle.cue_scripts.specs.Written.{IsScriptFile, IsWritten, Written, closed_by, entry_closed, is_open, plain_repeated, repeated_by, with_alike, with_cue, with_script_entry}
+use Rattle.fault_messages.specs.declared.fault.ScriptFault.{ScriptFault}
 use Rattle.recording_model.specs.Receiving.{HasNumbers}
+use Rattle.run_commands.specs.declared.recording.Recording.{Recording}
+use Rattle.run_commands.specs.lemmas.Recordings.{HasReceived, IsRecorded}
+use Rattle.xm_machine.specs.Cues.{last_received}
+use Rattle.xm_machine.specs.Machine.{Meaning}
+use Rattle.xm_machine.specs.Spans.{ReceiveSpan, span_cues}
+use Rattle.xm_machine.specs.lemmas.ScriptLemmas.{script_add, script_ends}
 
--- a machine that has halted stays as it is
-step_halted : (g : Machine) → g.halted ≡ true → step g ≡ g
-unfolding step
-step_halted g halts = ap (λ b. step_unless b g) halts
+-- numbers of cues, and then of others
+both_numbered : (cues more : List Cue) → AllByRecursion HasNumbers cues → AllByRecursion HasNumbers more → AllByRecursion HasNumbers (cues ++ more)
+both_numbered [] more all has = has
+both_numbered (first ∷ cues) more all has = (all.0, both_numbered cues more all.1 has)
 
-run_halted : (count : ℕ) (g : Machine) → g.halted ≡ true → run g count ≡ g
-run_halted zero g halts = refl
-run_halted (suc count) g halts = ap (λ (m : Machine). run m count) (step_halted g halts) ∙ run_halted count g halts
+-- a cue with nothing but whose running slot it is has no numbers
+pub bare_numbered : (own : Bool) → HasNumbers (bare_cue own)
+unfolding bare_cue
+bare_numbered own = record { message = tt; status = tt; shown = tt }
 
--- and its script is empty
-script_halted : (count : ℕ) (g : Machine) (p : ℕ) → g.halted ≡ true → script g p count ≡ []
-script_halted zero g p halts = refl
-script_halted (suc count) g p halts = ap (λ b. script_unless b (cue g p) (script (step g) p count)) halts
+alike_numbered : (count : ℕ) (own : Bool) → AllByRecursion HasNumbers (replicate count (bare_cue own))
+alike_numbered zero own = tt
+alike_numbered (suc count) own = (bare_numbered own, alike_numbered count own)
 
--- a script of two parts
-pub script_add : (j k : ℕ) (g : Machine) (p : ℕ) → script g p (j + k) ≡ script g p j ++ script (run g j) p k
-script_add zero k g p = ap (script g p) (zero-add k)
-script_add (suc j) k g p = ap (script g p) (suc-add j k) ∙ at g.halted refl (script_add j k (step g) p)
-  where
-    at : (b : Bool) → g.halted ≡ b → script (step g) p (j + k) ≡ script (step g) p j ++ script (run (step g) j) p k
-        → script_unless b (cue g p) (script (step g) p (j + k)) ≡ script_unless b (cue g p) (script (step g) p j) ++ script (run (step g) j) p k
-    at true halts more = sym (script_halted k (run g (suc j)) p (ap (λ (m : Machine). m.halted) (run_halted (suc j) g halts) ∙ halts))
-    at false runs more = ap (λ rest. cue g p ∷ rest) more
+-- and it says whether a slot of the partition's own runs
+bare_own : (own : Bool) → not (is_away (bare_cue own).mine) ≡ own
+unfolding bare_cue
+bare_own true = refl
+bare_own false = refl
 
--- a script is whole once the hypervisor has halted
-pub script_ends : (done asked : ℕ) (g : Machine) (p : ℕ) → done ≤ asked → (run g done).halted ≡ true → script g p done ≡ script g p asked
-script_ends done asked g p within halts =
-    let rest : done + (asked - done) ≡ asked = omega (arith, within) in
-    sym (append-nil (script g p done)) ∙ ap (λ later. script g p done ++ later) (sym (script_halted (asked - done) (run g done) p halts))
-    ∙ sym (script_add done (asked - done) g p) ∙ ap (script g p) rest
+-- a span whose last cue has nothing else, either
+span_bare : (ticks : ℕ) (own : Bool) → 0 < ticks → span_cues ticks (bare_cue own) ≡ replicate ticks (bare_cue own)
+span_bare ticks own some =
+    let all : ticks - 1 + 1 ≡ ticks = omega (arith, some) in
+    ap (λ (o : Bool). replicate (ticks - 1) (bare_cue o) ++ bare_cue own ∷ []) (bare_own own) ∙ replicate_more (ticks - 1) (bare_cue own) ∙ ap (λ n. replicate n (bare_cue own)) all
 
--- a tick counts once at most
-event_most : (e : WholeEvent) (n : ℕ) → ticks_after e n ≤ n + 1
-event_most NoEvent n = omega arith
-event_most (AllReset mode) n = omega arith
-event_most AllHalted n = omega arith
+-- it is written as so many such cues
+pub bare_written : {T E : Type 0} (result : Result T E) (ticks : ℕ) (own : Bool) (last : Cue) (cues : List Cue) (w : Written) → 0 < ticks → last ≡ bare_cue own
+    → OnOk result (IsWritten (cues ++ replicate ticks (bare_cue own)) w) → OnOk result (IsWritten (cues ++ span_cues ticks last) w)
+bare_written result ticks own last cues w some bare is =
+    let same : span_cues ticks last ≡ replicate ticks (bare_cue own) = ap (span_cues ticks) bare ∙ span_bare ticks own some in
+    subst (λ more. OnOk result (IsWritten (cues ++ more) w)) (sym same) is
 
-step_most : (g : Machine) → (step g).ticks ≤ g.ticks + 1
-unfolding step after
-step_most g = at g.halted
-  where
-    at : (b : Bool) → (step_unless b g).ticks ≤ g.ticks + 1
-    at true = omega arith
-    at false = event_most (happened g).event g.ticks
+-- whatever became of that
+pub bare_has : {T E : Type 0} (result : Result T E) (own : Bool) (last : Cue) → last ≡ bare_cue own → OnOk result (HasNumbers last)
+bare_has (Ok done) own last bare = subst HasNumbers (sym bare) (bare_numbered own)
+bare_has (Err fault) own last bare = tt
 
--- and a run its ticks at most
-pub ticks_most : (count : ℕ) (g : Machine) → (run g count).ticks ≤ g.ticks + count
-ticks_most zero g = omega arith
-ticks_most (suc count) g = omega (arith, ticks_most count (step g), step_most g)
+-- cues that are alike are counted
+closed_cues : (own : Option Bool) (w : Written) → (closed_by own w).cues ≡ w.cues
+unfolding with_script_entry
+closed_cues None w = refl
+closed_cues (Some own) w = refl
 
--- this many of the ticks asked were done, and what partition p received in them is written and has its numbers
-pub record IsRecorded (g : Machine) (p asked done : ℕ) (now : Machine) (w : Written) : Type 0 where
-  pub within : done ≤ asked
-  pub state : now ≡ run g done
-  pub written : IsWritten (script g p done) w
-  pub numbers : AllByRecursion HasNumbers (script g p done)
+repeated_cues : (again own : Bool) (count : ℕ) (w : Written) → (repeated_by again own count w).cues ≡ w.cues
+unfolding entry_closed
+repeated_cues true own count w = refl
+repeated_cues false own count w = closed_cues w.own w
 
--- none is done
-pub none_recorded : (g : Machine) (p asked : ℕ) (w : Written) → IsWritten [] w → IsRecorded g p asked 0 g w
-none_recorded g p asked w is = record { within = omega arith; state = refl; written = is; numbers = tt }
+bare_counted : (own : Bool) (w : Written) → (with_cue (bare_cue own) w).cues ≡ w.cues + 1
+unfolding with_cue plain_repeated plain_kind is_bare bare_cue
+bare_counted true w = repeated_cues (is_open w.own true) true 1 (record w { cues = w.cues + 1 })
+bare_counted false w = repeated_cues (is_open w.own false) false 1 (record w { cues = w.cues + 1 })
 
--- numbers of one cue more
-one_numbered : (cues : List Cue) (cue : Cue) → AllByRecursion HasNumbers cues → HasNumbers cue → AllByRecursion HasNumbers (cues ++ cue ∷ [])
-one_numbered [] cue all has = (has, tt)
-one_numbered (first ∷ cues) cue all has = (all.0, one_numbered cues cue all.1 has)
+pub alike_counted : (own : Bool) (count : ℕ) (w : Written) → (with_alike own count w).cues ≡ w.cues + count
+unfolding with_alike
+alike_counted own zero w = omega arith
+alike_counted own (suc count) w = omega (arith, bare_counted own (with_alike own count w), alike_counted own count w)
 
--- one more
-pub one_recorded : (g : Machine) (p asked done : ℕ) (now next : Machine) (w more : Written) → done < asked → now.halted ≡ false → IsRecorded g p asked done now w → next ≡ run now 1
-    → HasNumbers (cue now p) → ((cues : List Cue) → IsWritten cues w → IsWritten (cues ++ cue now p ∷ []) more) → IsRecorded g p asked (done + 1) next more
-one_recorded g p asked done now next w more below runs is goes has adds =
-    let one : script now p 1 ≡ cue now p ∷ [] = ap (λ b. script_unless b (cue now p) []) runs in
-    let received : script g p done ++ cue now p ∷ [] ≡ script g p (done + 1) =
-    ap (λ cues. script g p done ++ cues) (sym one) ∙ ap (λ (m : Machine). script g p done ++ script m p 1) is.state ∙ sym (script_add done 1 g p) in
+-- numbers of the cues of a span
+span_numbered : (ticks : ℕ) (last : Cue) → HasNumbers last → AllByRecursion HasNumbers (span_cues ticks last)
+span_numbered ticks last has = both_numbered (replicate (ticks - 1) (bare_cue (not (is_away last.mine)))) (last ∷ []) (alike_numbered (ticks - 1) (not (is_away last.mine))) (has, tt)
+
+-- a recording with a span more
+span_recorded : (g : Machine) (done ticks : ℕ) (now : Meaning) (old new : Recording) → HasReceived ticks (run g done) now → old.p < length now.state.parts → new.p ≡ old.p
+    → ((cues : List Cue) → IsWritten cues old.writer → IsWritten (cues ++ span_cues ticks (last_received now old.p)) new.writer) → HasNumbers (last_received now old.p)
+    → IsRecorded g done old → IsRecorded g (done + ticks) new
+span_recorded g done ticks now old new received there same adds has is =
+    let all : script g old.p done ++ span_cues ticks (last_received now old.p) ≡ script g old.p (done + ticks) =
+    ap (λ cues. script g old.p done ++ cues) (sym (received old.p there)) ∙ sym (script_add done ticks g old.p) in
     record {
-      within = omega (arith, below);
-      state = goes ∙ ap (λ (m : Machine). run m 1) is.state ∙ sym (run_add g done 1);
-      written = subst (λ cues. IsWritten cues more) received (adds (script g p done) is.written);
-      numbers = subst (AllByRecursion HasNumbers) received (one_numbered (script g p done) (cue now p) is.numbers has);
+      written = subst (λ p. IsWritten (script g p (done + ticks)) new.writer) (sym same) (subst (λ cues. IsWritten cues new.writer) all (adds (script g old.p done) is.written));
+      numbers = subst (λ p. AllByRecursion HasNumbers (script g p (done + ticks))) (sym same)
+          (subst (AllByRecursion HasNumbers) all (both_numbered (script g old.p done) (span_cues ticks (last_received now old.p)) is.numbers (span_numbered ticks (last_received now old.p) has)));
     }
 
--- all are done
-pub all_recorded : (g : Machine) (p asked done : ℕ) (now : Machine) (w : Written) → asked ≤ done → IsRecorded g p asked done now w → IsWritten (script g p asked) w
-all_recorded g p asked done now w enough is =
-    let same : done ≡ asked = omega (arith, enough, is.within) in
-    subst (λ n. IsWritten (script g p n) w) same is.written
+-- the first `count` recordings have this span, and the others are as they were
+pub record AreSpanned (ticks : ℕ) (now : Meaning) (count : ℕ) (old new : List Recording) : Type 0 where
+  pub parts : map (λ recording. recording.p) new ≡ map (λ recording. recording.p) old
+  pub rest : (k : ℕ) (d : Recording) → count ≤ k → get_or new k d ≡ get_or old k d
+  pub spanned : (g : Machine) (done : ℕ) → HasReceived ticks (run g done) now → All (IsRecorded g done) old → (k : ℕ) → k < count → (d : Recording) → IsRecorded g (done + ticks) (get_or new k d)
 
-pub all_numbered : (g : Machine) (p asked done : ℕ) (now : Machine) (w : Written) → asked ≤ done → IsRecorded g p asked done now w → AllByRecursion HasNumbers (script g p asked)
-all_numbered g p asked done now w enough is =
+-- none has it
+pub none_spanned : (ticks : ℕ) (now : Meaning) (recordings : List Recording) → AreSpanned ticks now 0 recordings recordings
+none_spanned ticks now recordings = record {
+  parts = refl;
+  rest = λ k d above. refl;
+  spanned = λ g done received all k below d. absurd (omega (arith, below));
+}
+
+-- a recording that is written anew keeps its partition
+same_parts : (recordings : List Recording) (i : ℕ) (d next : Recording) → next.p ≡ (get_or recordings i d).p → map (λ recording. recording.p) (set recordings i next) ≡ map (λ recording. recording.p) recordings
+same_parts [] i d next same = refl
+same_parts (recording ∷ later) zero d next same = ap (λ p. p ∷ map (λ recording. recording.p) later) same
+same_parts (recording ∷ later) (suc i) d next same = ap (λ rest. recording.p ∷ rest) (same_parts later i d next same)
+
+-- one more has it
+pub one_spanned : (ticks : ℕ) (now : Meaning) (count : ℕ) (old new : List Recording) (d this next : Recording) (last : Cue) → count < length old → length new ≡ length old → AreSpanned ticks now count old new
+    → this ≡ get_or new count d → All (λ recording. recording.p < length now.state.parts) old → last ≡ last_received now this.p → next.p ≡ this.p
+    → ((cues : List Cue) → IsWritten cues this.writer → IsWritten (cues ++ span_cues ticks last) next.writer) → HasNumbers last → AreSpanned ticks now (count + 1) old (set new count next)
+one_spanned ticks now count old new d this next last below long is here inside received same adds has =
+    let within : count < length new = omega (arith, below, long) in
+    let before : this ≡ get_or old count d = here ∙ is.rest count d (omega arith) in
+    let there : this.p < length now.state.parts = subst (λ (recording : Recording). recording.p < length now.state.parts) (sym before) (inside count d below) in
+    record {
+      parts = same_parts new count d next (same ∙ ap (λ (recording : Recording). recording.p) here) ∙ is.parts;
+      rest = λ k e above. let other : k ≢ count = omega (arith, above) in let past : count ≤ k = omega (arith, above) in get_or-set_other new count k next e other ∙ is.rest k e past;
+      spanned = λ g done spans all.
+          below_more _ _
+          (λ k less e. let other : k ≢ count = omega (arith, less) in subst (IsRecorded g (done + ticks)) (sym (get_or-set_other new count k next e other)) (is.spanned g done spans all k less e))
+          (λ e.
+          subst (IsRecorded g (done + ticks)) (sym (get_or-set_same new count next e within))
+          (span_recorded g done ticks now this next spans there same (λ cues written. subst (λ cue. IsWritten (cues ++ span_cues ticks cue) next.writer) received (adds cues written)) (subst HasNumbers received has)
+          (subst (IsRecorded g done) (sym before) (all count d below))));
+    }
+
+-- a recording that is not whole is of the same partition
+pub parts_kept : (ticks : ℕ) (now : Meaning) (count : ℕ) (old new : List Recording) (d this next : Recording) → AreSpanned ticks now count old new → this ≡ get_or new count d → next.p ≡ this.p
+    → map (λ recording. recording.p) (set new count next) ≡ map (λ recording. recording.p) old
+parts_kept ticks now count old new d this next is here same = same_parts new count d next (same ∙ ap (λ (recording : Recording). recording.p) here) ∙ is.parts
+
+-- all have it
+pub all_spanned : (ticks : ℕ) (now : Meaning) (count : ℕ) (old new : List Recording) → length new ≤ count → AreSpanned ticks now count old new
+    → (g : Machine) (done : ℕ) → HasReceived ticks (run g done) now → All (IsRecorded g done) old → All (IsRecorded g (done + ticks)) new
+all_spanned ticks now count old new whole is g done received all = λ k d within. is.spanned g done received all k (omega (arith, within, whole)) d
+
+-- what holds of each partition of recordings holds of those of others of the same partitions
+parts_hold : (P : ℕ → Type 0) (old new : List Recording) → map (λ recording. recording.p) new ≡ map (λ recording. recording.p) old → All (λ recording. P recording.p) old → All (λ recording. P recording.p) new
+parts_hold P old new same all = λ k d within.
+    let long : length new ≡ length old = sym (length-map new (λ recording. recording.p)) ∙ ap (λ (parts : List ℕ). length parts) same ∙ length-map old (λ recording. recording.p) in
+    let there : k < length old = omega (arith, within, long) in
+    subst P (sym (get_or-map (λ recording. recording.p) old k d d.p there) ∙ ap (λ parts. get_or parts k d.p) (sym same) ∙ get_or-map (λ recording. recording.p) new k d d.p within) (all k d there)
+
+-- this many of the ticks asked were done, and what partitions received in them is recorded
+pub record AreRecorded (g : Machine) (asked done : ℕ) (now : Machine) (first recordings : List Recording) : Type 0 where
+  pub within : done ≤ asked
+  pub state : now ≡ run g done
+  pub parts : map (λ recording. recording.p) recordings ≡ map (λ recording. recording.p) first
+  pub recorded : All (IsRecorded g done) recordings
+
+-- none is done
+pub none_recorded : (g : Machine) (asked : ℕ) (now : Machine) (recordings : List Recording) → now ≡ g → All (λ recording. IsWritten [] recording.writer) recordings → AreRecorded g asked 0 now recordings recordings
+none_recorded g asked now recordings same empty = record {
+  within = omega arith;
+  state = same;
+  parts = refl;
+  recorded = λ k d within. record { written = empty k d within; numbers = tt };
+}
+
+-- a span more
+pub more_recorded : (g : Machine) (asked done ticks : ℕ) (now : Machine) (next : Meaning) (first old new : List Recording) → done < asked → ticks ≤ asked - done → AreRecorded g asked done now first old
+    → next.state ≡ run now ticks → map (λ recording. recording.p) new ≡ map (λ recording. recording.p) old
+    → ((g : Machine) (done : ℕ) → HasReceived ticks (run g done) next → All (IsRecorded g done) old → All (IsRecorded g (done + ticks)) new) → HasReceived ticks now next → AreRecorded g asked (done + ticks) next.state first new
+more_recorded g asked done ticks now next first old new below few is goes same spanned received = record {
+  within = omega (arith, below, few);
+  state = goes ∙ ap (λ (m : Machine). run m ticks) is.state ∙ sym (run_add g done ticks);
+  parts = same ∙ is.parts;
+  recorded = spanned g done (subst (λ (m : Machine). HasReceived ticks m next) is.state received) is.recorded;
+}
+
+-- all are done
+pub all_recorded : (g : Machine) (asked done : ℕ) (now : Machine) (first recordings : List Recording) → asked ≤ done → AreRecorded g asked done now first recordings → All (IsRecorded g asked) recordings
+all_recorded g asked done now first recordings enough is =
     let same : done ≡ asked = omega (arith, enough, is.within) in
-    subst (λ n. AllByRecursion HasNumbers (script g p n)) same is.numbers
+    subst (λ n. All (IsRecorded g n) recordings) same is.recorded
 
 -- the hypervisor has halted
-pub halt_recorded : (g : Machine) (p asked done : ℕ) (now : Machine) (w : Written) → now.halted ≡ true → IsRecorded g p asked done now w → IsWritten (script g p asked) w
-halt_recorded g p asked done now w halts is =
-    subst (λ cues. IsWritten cues w) (script_ends done asked g p is.within (ap (λ (m : Machine). m.halted) (sym is.state) ∙ halts)) is.written
-
-pub halt_numbered : (g : Machine) (p asked done : ℕ) (now : Machine) (w : Written) → now.halted ≡ true → IsRecorded g p asked done now w → AllByRecursion HasNumbers (script g p asked)
-halt_numbered g p asked done now w halts is =
-    subst (AllByRecursion HasNumbers) (script_ends done asked g p is.within (ap (λ (m : Machine). m.halted) (sym is.state) ∙ halts)) is.numbers
+pub halt_recorded : (g : Machine) (asked done : ℕ) (now : Machine) (first recordings : List Recording) → now.halted ≡ true → AreRecorded g asked done now first recordings → All (IsRecorded g asked) recordings
+halt_recorded g asked done now first recordings halts is = λ k d within. whole (get_or recordings k d) (is.recorded k d within)
+  where
+    whole : (recording : Recording) → IsRecorded g done recording → IsRecorded g asked recording
+    whole recording has =
+        let all : script g recording.p done ≡ script g recording.p asked = script_ends done asked g recording.p is.within (ap (λ (m : Machine). m.halted) (sym is.state) ∙ halts) in
+        record {
+          written = subst (λ cues. IsWritten cues recording.writer) all has.written;
+          numbers = subst (AllByRecursion HasNumbers) all has.numbers;
+        }
 
 -- whatever is made of it
 pub are_numbered : {X E : Type 0} (made : Result X E) (cues : List Cue) → AllByRecursion HasNumbers cues → IfOk made (λ _. AllByRecursion HasNumbers cues)
@@ -118,7 +206,7 @@ are_numbered (Ok file) cues has = has
 are_numbered (Err fault) cues has = tt
 
 -- a script has a cue for each tick at most
-pub script_few : (count : ℕ) (g : Machine) (p : ℕ) → length (script g p count) ≤ count
+script_few : (count : ℕ) (g : Machine) (p : ℕ) → length (script g p count) ≤ count
 script_few zero g p = omega arith
 script_few (suc count) g p = at g.halted (script_few count (step g) p)
   where
@@ -126,14 +214,54 @@ script_few (suc count) g p = at g.halted (script_few count (step g) p)
     at true few = omega arith
     at false few = omega (arith, few)
 
--- so there is room for one more while a tick is left
-pub room_left : (g : Machine) (p asked done : ℕ) (now : Machine) (w : Written) → done < asked → IsRecorded g p asked done now w → w.cues < asked
-room_left g p asked done now w below is = omega (arith, below, is.written.count, script_few done g p)
+-- so there is room for a span of the ticks that are left
+pub room_left : (g : Machine) (asked most done ticks : ℕ) (now : Machine) (first recordings : List Recording) → asked ≤ most → done < asked → ticks ≤ asked - done → AreRecorded g asked done now first recordings
+    → All (λ recording. recording.writer.cues + ticks ≤ most) recordings
+room_left g asked most done ticks now first recordings few below left is = λ k d within.
+    omega (arith, few, below, left, (is.recorded k d within).written.count, script_few done g (get_or recordings k d).p)
 
--- and a tick may be done
-pub tick_left : (g : Machine) (p asked done : ℕ) (now : Machine) (w : Written) → g.ticks ≡ 0 → done < asked → IsRecorded g p asked done now w → now.ticks < asked
-tick_left g p asked done now w fresh below is = omega (arith, fresh, below, ticks_most done g, ap (λ (m : Machine). m.ticks) is.state)
+-- and these may be done
+pub ticks_left : (g : Machine) (asked most done : ℕ) (now : Machine) (first recordings : List Recording) → g.ticks ≡ 0 → asked ≤ most → done < asked → AreRecorded g asked done now first recordings → now.ticks + (asked - done) ≤ most
+ticks_left g asked most done now first recordings fresh few below is = omega (arith, fresh, few, below, ticks_most done g, ap (λ (m : Machine). m.ticks) is.state)
 
 -- the partitions are as many as at first
-pub part_left : RunsKeepNumbers → (g : Machine) (p asked done : ℕ) (now : Machine) (w : Written) → p < length g.parts → IsRecorded g p asked done now w → p < length now.parts
-part_left keeps g p asked done now w there is = omega (arith, there, (keeps g done).parts, ap (λ (m : Machine). length m.parts) is.state)
+pub parts_left : RunsKeepNumbers → (g : Machine) (count asked done ticks : ℕ) (now next : Machine) (first recordings : List Recording) → length g.parts ≡ count → All (λ recording. recording.p < count) first
+    → AreRecorded g asked done now first recordings → next ≡ run now ticks → All (λ recording. recording.p < length next.parts) recordings
+parts_left keeps g count asked done ticks now next first recordings many there is goes =
+    let same : length next.parts ≡ count =
+    omega (arith, many, (keeps g done).parts, (keeps now ticks).parts, ap (λ (m : Machine). length m.parts) is.state, ap (λ (m : Machine). length m.parts) goes) in
+    parts_hold (λ p. p < length next.parts) first recordings is.parts (λ k d within. omega (arith, same, there k d within))
+
+-- so each of them received what a span says
+pub has_received : RunsKeepNumbers → (ticks : ℕ) (old new : Meaning) → new.state ≡ run old.state ticks → ReceiveSpan ticks old new → HasReceived ticks old.state new
+has_received keeps ticks old new goes received = λ p there. received p (omega (arith, there, (keeps old.state ticks).parts, ap (λ (m : Machine). length m.parts) goes))
+
+-- what is recorded of one partition
+pub only_recorded : (g : Machine) (ticks p : ℕ) (first : Recording) (lent recordings : List Recording) → first.p ≡ p → lent ≡ first ∷ [] → map (λ recording. recording.p) recordings ≡ map (λ recording. recording.p) lent
+    → All (IsRecorded g ticks) recordings → ((get_or recordings 0 first).p ≡ p) × IsRecorded g ticks (get_or recordings 0 first)
+only_recorded g ticks p first lent recordings of one same all =
+    let parts : map (λ (recording : Recording). recording.p) recordings ≡ p ∷ [] = same ∙ ap (map (λ (recording : Recording). recording.p)) one ∙ ap (λ part. part ∷ []) of in
+    let long : length recordings ≡ 1 = sym (length-map recordings (λ recording. recording.p)) ∙ ap (λ (parts : List ℕ). length parts) parts in
+    let there : 0 < length recordings = omega (arith, long) in
+    (sym (get_or-map (λ recording. recording.p) recordings 0 first p there) ∙ ap (λ parts. get_or parts 0 p) parts, all 0 first there)
+
+-- the file of it
+pub file_recorded : {X : Type 0} (view : X → List ℕ) (made : Result X ScriptFault) (g : Machine) (ticks p : ℕ) (recording : Recording) → recording.p ≡ p → IsRecorded g ticks recording
+    → ((cues : List Cue) → IsWritten cues recording.writer → IsScriptFile view (script_text recording.p cues) made) → IsScriptFile view (script_text p (script g p ticks)) made
+file_recorded view made g ticks p recording same is finishes =
+    subst (λ part. IsScriptFile view (script_text part (script g part ticks)) made) same (finishes (script g recording.p ticks) is.written)
+
+-- and its numbers
+pub numbers_recorded : {X E : Type 0} (made : Result X E) (g : Machine) (ticks p : ℕ) (recording : Recording) → recording.p ≡ p → IsRecorded g ticks recording
+    → IfOk made (λ _. AllByRecursion HasNumbers (script g p ticks))
+numbers_recorded made g ticks p recording same is = are_numbered made (script g p ticks) (subst (λ part. AllByRecursion HasNumbers (script g part ticks)) same is.numbers)
+
+-- a machine boots with no tick done
+pub started-ticks : (system : Booted) → (start system).ticks ≡ 0
+unfolding start
+started-ticks system = refl
+
+-- and with the partitions of its configuration
+pub started-parts : BootsComplete → (system : System) (inputs : List (List ℕ)) → length (start (with_inputs system inputs)).parts ≡ length system.conf.parts
+unfolding start
+started-parts law system inputs = (law (with_inputs system inputs)).parts

@@ -1,11 +1,15 @@
 -- Scripts that are made before a run, and written after its core files.
 use Rattle.std.proofs.Common.{◌≡◌, ℕ, ◌+◌, ◌<◌, ◌≤◌, Bool, true, false, nat_lt, if◌then◌else◌, List, [], ◌∷◌, ◌++◌, length, map, drop, Option, Some, None, Result, Ok, Err, get_or, refl, sym, ap, ◌∙◌, subst, arith, append_assoc}
+use Rattle.std.specs.Prelude.{All}
+use Rattle.std.specs.List.{AllByRecursion}
 use Rattle.std.proofs.lemmas.Bool.Decides.{nat_tests}
-use Rattle.std.proofs.lemmas.List.{append-nil, at_drop_more}
+use Rattle.std.proofs.lemmas.List.{append-nil, at_drop_more, length-map, map-append}
+use Rattle.std.proofs.lemmas.List.Elements.{All-from_recursion, All-head, All-tail}
 use Rattle.xm_base.specs.declared.limits.TheConstants.{FILE_BYTES, TICKS}
 use Rattle.xm_outside.specs.Causes.{Rose}
 use Rattle.xm_outside.specs.Files.{OthersStay}
 use Rattle.loaded_system.specs.System.{System}
+use Rattle.machine_model.specs.Machine.{Machine, start}
 use Rattle.machine_model.specs.View.{System as Booted}
 use Rattle.system_state.specs.State.{with_inputs}
 use Rattle.command_line.specs.Words.{PartFile, RunOption, cores_in, scripts_in, span_in}
@@ -21,6 +25,9 @@ use Rattle.file_commands.specs.Makes.{IsUnmadeOf}
 use Rattle.file_commands.specs.Denial.{Denial}
 use Rattle.file_commands.specs.Ending.{Ending, Done, Usage, ReadFault, Refused, WriteFaultReport, WriteFaultFile, UartFault, NoMemory, ticks_text}
 use Rattle.file_commands.specs.Outcome.{Output, ran_for, ran_scripted, ran_within, command_refused, script_before, script_bytes, script_denial, script_output, scripts_for, ticks_asked, unless_denied}
+use Rattle.run_commands.specs.declared.recording.Recording.{Recording}
+use Rattle.run_commands.specs.lemmas.Cores.{AreForPartitions}
+use Rattle.run_commands.specs.lemmas.Recordings.{IsRecorded, parts_of}
 use Rattle.run_commands.specs.lemmas.Scripts.{script_or}
 use Rattle.file_commands.specs.EndingValues.{AreSaved, ending_of}
 use Rattle.file_commands.specs.lemmas.EndingValuesTerms.{IsDenied}
@@ -62,6 +69,79 @@ script_unmade view system ticks part file (fault.Short at) said e is stated memo
 script_unmade view system ticks part file (fault.Trailing at) said e is stated memory ends = absurd is
 script_unmade view system ticks part file (fault.Field at) said e is stated memory ends = absurd is
 script_unmade view system ticks part file (fault.Cue tick) said e is stated memory ends = absurd is
+
+-- Recordings, one for each script.
+
+-- their partitions, in their order
+abbrev pub recorded_parts : List Recording → List ℕ
+recorded_parts recordings = map (λ (recording : Recording). recording.p) recordings
+
+-- before the first there is none
+pub none_begun : (recordings : List Recording) (all : List PartFile) → recordings ≡ [] → recorded_parts recordings ++ parts_of all ≡ parts_of all
+none_begun recordings all none = ap (λ (rs : List Recording). recorded_parts rs ++ parts_of all) none
+
+-- one more, for the next of the scripts that are left
+pub one_begun : (recordings more : List Recording) (one : Recording) (all rest others : List PartFile) (named : PartFile) → rest ≡ named ∷ others → one.p ≡ named.part → more ≡ recordings ++ one ∷ []
+    → recorded_parts recordings ++ parts_of rest ≡ parts_of all → recorded_parts more ++ parts_of others ≡ parts_of all
+one_begun recordings more one all rest others named is part added goes =
+    ap (λ (rs : List Recording). recorded_parts rs ++ parts_of others) added
+    ∙ ap (λ (ps : List ℕ). ps ++ parts_of others) (map-append (λ (recording : Recording). recording.p) recordings (one ∷ []))
+    ∙ append_assoc (recorded_parts recordings) (one.p ∷ []) (parts_of others)
+    ∙ ap (λ (p : ℕ). recorded_parts recordings ++ p ∷ parts_of others) part
+    ∙ ap (λ (names : List PartFile). recorded_parts recordings ++ parts_of names) (sym is)
+    ∙ goes
+
+-- all have one
+pub all_begun : (recordings : List Recording) (all rest : List PartFile) → rest ≡ [] → recorded_parts recordings ++ parts_of rest ≡ parts_of all → recorded_parts recordings ≡ parts_of all
+all_begun recordings all rest none goes =
+    sym (append-nil (recorded_parts recordings)) ∙ ap (λ (names : List PartFile). recorded_parts recordings ++ parts_of names) (sym none) ∙ goes
+
+-- the first is for the first of the scripts, and the others are for the others
+pub next_recording : (more recordings : List Recording) (one : Recording) (rest others : List PartFile) (named : PartFile) → more ≡ one ∷ recordings → rest ≡ named ∷ others → recorded_parts more ≡ parts_of rest
+    → (one.p ≡ named.part) × (recorded_parts recordings ≡ parts_of others)
+next_recording more recordings one rest others named taken is same =
+    let both : one.p ∷ recorded_parts recordings ≡ named.part ∷ parts_of others = ap recorded_parts (sym taken) ∙ same ∙ ap parts_of is in
+    (cc, cc)
+
+-- where there is none, there is no script
+pub no_recording : (recordings : List Recording) (names : List PartFile) → length recordings ≡ 0 → recorded_parts recordings ≡ parts_of names → names ≡ []
+no_recording [] [] none same = refl
+no_recording [] (named ∷ names) none same = absurd cc
+no_recording (one ∷ recordings) names none same = absurd cc
+
+-- their partitions are some of these
+pub all_inside : (parts : ℕ) (recordings : List Recording) (names : List PartFile) → recorded_parts recordings ≡ parts_of names → AreForPartitions parts names
+    → All (λ (recording : Recording). recording.p < parts) recordings
+all_inside parts recordings names same inside = All-from_recursion (λ (recording : Recording). recording.p < parts) recordings (at recordings names same inside)
+  where
+    at : (recordings : List Recording) (names : List PartFile) → recorded_parts recordings ≡ parts_of names → AreForPartitions parts names
+        → AllByRecursion (λ (recording : Recording). recording.p < parts) recordings
+    at [] names same inside = tt
+    at (one ∷ recordings) [] same inside = absurd cc
+    at (one ∷ recordings) (named ∷ names) same inside =
+        let next = next_recording (one ∷ recordings) recordings one (named ∷ names) names named refl refl same in
+        (omega (arith, next.0, inside.0), at recordings names next.1 inside.1)
+
+-- there are as many as there were
+pub as_many : (old new : List Recording) → recorded_parts new ≡ recorded_parts old → length new ≡ length old
+as_many old new same =
+    sym (length-map new (λ (recording : Recording). recording.p)) ∙ ap length same ∙ length-map old (λ (recording : Recording). recording.p)
+
+-- what is recorded of the first, and of the others
+pub first_recorded : (g : Machine) (ticks : ℕ) (more recordings : List Recording) (one : Recording) → more ≡ one ∷ recordings → All (IsRecorded g ticks) more
+    → IsRecorded g ticks one × All (IsRecorded g ticks) recordings
+first_recorded g ticks more recordings one is all =
+    let both = subst (All (IsRecorded g ticks)) is all in
+    (All-head (IsRecorded g ticks) one recordings both, All-tail (IsRecorded g ticks) one recordings both)
+
+-- what is recorded of a system that is made once more is that of the first
+pub recorded_again : (again system : System) (ticks : ℕ) (read : Result (List (List ℕ)) Denial) (inputs given : List (List ℕ)) (recordings all : List Recording) → again ≡ system → read ≡ Ok inputs → read ≡ Ok given
+    → all ≡ recordings → All (IsRecorded (start (with_inputs again inputs)) ticks) recordings → All (IsRecorded (start (with_inputs system given)) ticks) all
+recorded_again again system ticks read inputs given recordings all same is other whole have =
+    let words : inputs ≡ given = (let both : Ok inputs ≡ Ok given = sym is ∙ other in cc) in
+    subst (All (IsRecorded (start (with_inputs system given)) ticks)) (sym whole)
+    (subst (λ (machine : Machine). All (IsRecorded machine ticks) recordings)
+    (ap (λ (s : System). start (with_inputs s inputs)) same ∙ ap (λ (ws : List (List ℕ)). start (with_inputs system ws)) words) have)
 
 -- Scripts, one after another.
 

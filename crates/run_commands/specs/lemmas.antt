@@ -7,4 +7,5 @@ pub mod EndsAfterLemmas
 pub mod InputLemmas
 pub mod NumbersTerms
 pub mod ReadyRuns
+pub mod Recordings
 pub mod Scripts

@@ -1,25 +1,28 @@
 //! The script of a partition in a run.
 
 ghost use Rattle.std.specs.List.{AllByRecursion};
-ghost use Rattle.std.specs.Prelude.{◌≡◌, ◌<◌, ◌≤◌, IfOk, false, length};
+ghost use Rattle.std.specs.Prelude.{◌≡◌, ℕ, ◌+◌, ◌<◌, ◌≤◌, ◌++◌, [], All, IfOk, List, OnOk, false, length, map};
 ghost use Rattle.cue_scripts.specs.Kept.{HasCueRanges};
 ghost use Rattle.cue_scripts.specs.Spelling.{script_text};
-ghost use Rattle.cue_scripts.specs.Values as kept;
 ghost use Rattle.cue_scripts.specs.Written.{IsScriptFile, IsWritten};
-ghost use Rattle.machine_model.specs.Cue.{cue, script};
-ghost use Rattle.machine_model.specs.Machine.{run, start};
+ghost use Rattle.machine_model.specs.Cue.{Cue as ModelCue, script};
+ghost use Rattle.machine_model.specs.Machine.{Machine as ModelMachine, run, start};
 ghost use Rattle.recording_model.specs.Receiving.{HasNumbers};
+ghost use Rattle.run_commands.specs.lemmas.Recordings.{HasReceived, IsRecorded};
 ghost use Rattle.system_state.specs.State.{with_inputs};
+ghost use Rattle.tick_steps.specs.CueValues.{cue_value};
+ghost use Rattle.xm_machine.specs.Spans.{ReceiveSpan, ReceivesInRanges, span_cues};
 
-use crate::received::kept_cue;
-use cue_scripts::{ScriptCue, ScriptFault, ScriptWriter};
+use crate::received::{bare_slot, is_own, kept_cue};
+use cue_scripts::{ScriptFault, ScriptWriter};
 use loaded_system::System;
-use machine_model::{keeps_numbers, trades_few_bytes};
+use machine_model::keeps_numbers;
 use recording_model::has_numbers;
 use std::alloc::Global;
+use std::slice;
 use uart_board::Board;
 use xm_base::{Memory, PartId, TICKS, proof};
-use xm_machine::{Inputs, Machine};
+use xm_machine::{Cue, Inputs, Machine};
 use xm_outside::SureSink;
 
 /// The file of all that partition `p` receives in a run of `ticks` ticks. A machine of its own does the run, and its lines and console
@@ -44,69 +47,163 @@ pub fn script_of(
     ensures numbers { IfOk result
         (λ _. AllByRecursion HasNumbers (script (start (with_inputs system inputs)) p ticks)) }
 {
-    proof! { keeps_numbers(); }
-    let mut machine = Machine::boot(alloc, system, inputs)?;
-    let writer = written(alloc, &mut machine, p, ticks)?;
-    writer.finish(alloc, p)
+    let mut recording = Recording::new(alloc, p);
+    record(
+        alloc,
+        system,
+        inputs,
+        ticks,
+        slice::from_mut(&mut recording),
+    )?;
+    recording.finish(alloc)
 }
 
-/// What partition `p` of a machine receives in `ticks` ticks, written cue by cue.
-fn written(
+/// A partition, and what is recorded of what it receives.
+#[derive(Debug, Drop)]
+pub(crate) struct Recording {
+    p: PartId,
+    writer: ScriptWriter,
+}
+
+impl Recording {
+    /// Nothing yet of what partition `p` receives.
+    pub(crate) fn new(alloc: Global, p: PartId) -> Recording
+        ensures partition { result.p ≡ p }
+        ensures written { IsWritten [] result.writer }
+    {
+        Recording {
+            p,
+            writer: ScriptWriter::new(alloc),
+        }
+    }
+
+    /// The file of what is recorded, where it is not too long for a file.
+    pub(crate) fn finish(self, alloc: Global) -> Result<Vec<u8>, ScriptFault>
+        ensures { (cues : List ModelCue) → IsWritten cues self.writer
+            → IsScriptFile (λ file. file.items) (script_text self.p cues) result }
+    {
+        self.writer.finish(alloc, self.p)
+    }
+
+    /// Records a span of this many ticks: a cue for each but the last, with nothing but whether a slot of the partition's own runs, and
+    /// the last cue.
+    fn add_span(&mut self, alloc: Global, ticks: u32, last: Cue<'_>) -> Result<(), Memory>
+        requires some { 0 < ticks }
+        requires ranges { HasCueRanges (cue_value last) }
+        requires few { self.old.writer.cues + ticks ≤ TICKS }
+        ensures partition { self.new.p ≡ self.old.p }
+        ensures written { (cues : List ModelCue) → IsWritten cues self.old.writer
+            → OnOk result (IsWritten (cues ++ span_cues ticks (cue_value last.entry)) self.new.writer) }
+        ensures numbers { OnOk result (HasNumbers (cue_value last.entry)) }
+    {
+        match bare_slot(last) {
+            Some(own) => self.writer.add_alike(own, ticks),
+            None => self.add_other(alloc, ticks, last),
+        }
+    }
+
+    /// Records a span whose last cue may be any.
+    fn add_other(&mut self, alloc: Global, ticks: u32, last: Cue<'_>) -> Result<(), Memory>
+        requires some { 0 < ticks }
+        requires ranges { HasCueRanges (cue_value last) }
+        requires few { self.old.writer.cues + ticks ≤ TICKS }
+        ensures partition { self.new.p ≡ self.old.p }
+        ensures written { (cues : List ModelCue) → IsWritten cues self.old.writer
+            → OnOk result (IsWritten (cues ++ span_cues ticks (cue_value last.entry)) self.new.writer) }
+        ensures numbers { OnOk result (HasNumbers (cue_value last.entry)) }
+    {
+        let own = is_own(last.mine);
+        self.writer.add_alike(own, ticks - 1)?;
+        let cue = kept_cue(alloc, last)?;
+        proof! { has_numbers(&cue); }
+        self.writer.add(&cue)
+    }
+}
+
+/// Records what partitions receive in a run of `ticks` ticks. A machine of its own does the run, and its lines and console bytes go
+/// nowhere.
+pub(crate) fn record(
+    alloc: Global,
+    system: System,
+    inputs: Inputs,
+    ticks: u64,
+    recordings: &mut [Recording],
+) -> Result<(), Memory>
+    requires inputs { length inputs ≡ length system.conf.parts }
+    requires most { ticks ≤ TICKS }
+    requires inside { All (λ recording. recording.p < length system.conf.parts) recordings.old }
+    requires empty { All (λ recording. IsWritten [] recording.writer) recordings.old }
+    ensures partitions { map (λ recording. recording.p) recordings.new ≡ map (λ recording. recording.p) recordings.old }
+    ensures recorded { OnOk result (All (IsRecorded (start (with_inputs system inputs)) ticks) recordings.new) }
+{
+    proof! { keeps_numbers(); }
+    let mut machine = Machine::boot(alloc, system, inputs)?;
+    record_run(alloc, &mut machine, ticks, recordings)
+}
+
+/// Records what partitions receive in `ticks` ticks of a machine.
+fn record_run(
     alloc: Global,
     machine: &mut Machine,
-    p: PartId,
     ticks: u64,
-) -> Result<ScriptWriter, Memory>
-    requires partition { p < length machine.old.state.parts }
+    recordings: &mut [Recording],
+) -> Result<(), Memory>
     requires fresh { machine.old.state.ticks ≡ 0 }
     requires most { ticks ≤ TICKS }
-    ensures written { IfOk result (IsWritten (script machine.old.state p ticks)) }
-    ensures numbers { IfOk result (λ _. AllByRecursion HasNumbers (script machine.old.state p ticks)) }
+    requires inside { All (λ recording. recording.p < length machine.old.state.parts) recordings.old }
+    requires empty { All (λ recording. IsWritten [] recording.writer) recordings.old }
+    ensures partitions { map (λ recording. recording.p) recordings.new ≡ map (λ recording. recording.p) recordings.old }
+    ensures recorded { OnOk result (All (IsRecorded machine.old.state ticks) recordings.new) }
 {
     proof! { keeps_numbers(); }
     let mut board = Board::new();
-    let mut writer = ScriptWriter::new(alloc);
     let mut done = 0;
     while done < ticks {
         if machine.halted() {
-            return Ok(writer);
+            return Ok(());
         }
-        let cue = received_in_tick(alloc, machine, p, &mut board)?;
-        proof! { has_numbers(&cue); }
-        writer.add(&cue)?;
-        done += 1;
+        let span = next_span(machine, ticks - done, &mut board);
+        record_span(alloc, machine, span, recordings)?;
+        done += u64::from(span);
     }
-    Ok(writer)
+    Ok(())
 }
 
-/// Does one tick of a machine, and returns what partition `p` receives in it.
-fn received_in_tick(
-    alloc: Global,
-    machine: &mut Machine,
-    p: PartId,
-    board: &mut Board,
-) -> Result<ScriptCue, Memory>
-    requires partition { p < length machine.old.state.parts }
+/// Does a span of at most this many ticks of a machine, and returns how many they were.
+fn next_span(machine: &mut Machine, most: u64, board: &mut Board) -> u32
     requires running { machine.old.state.halted ≡ false }
-    requires more { machine.old.state.ticks < TICKS }
-    ensures state { machine.new.state ≡ run machine.old.state 1 }
-    ensures cue { IfOk result (λ received. kept.script_cue_value received ≡ cue machine.old.state p) }
-    ensures ranges { IfOk result (λ received. HasCueRanges (kept.script_cue_value received)) }
+    requires some { 0 < most }
+    requires most { machine.old.state.ticks + most ≤ TICKS }
+    ensures some { 0 < result }
+    ensures within { result ≤ most }
+    ensures state { machine.new.state ≡ run machine.old.state result }
+    ensures received { ReceiveSpan result machine.old machine.new }
+    ensures ranges { ReceivesInRanges machine.new }
 {
-    proof! {
-        keeps_numbers();
-        has_ranges(machine, p);
-    }
-    // The sink takes all bytes, so that there is no fault.
-    let _ = machine.tick(&mut SureSink::new(), board);
-    kept_cue(alloc, machine.cue(p))
+    // The sink takes all bytes.
+    let Ok(ticks) = machine.span(most, &mut SureSink::new(), board) else {
+        unreachable!();
+    };
+    ticks as u32
 }
 
-/// For the proof: what reaches partition `p` in the next tick is in the ranges of its fields.
-fn has_ranges(machine: &Machine, p: PartId)
-    ensures { HasCueRanges (cue machine.now.state p) }
+/// Records in each of these what its partition received in the last `ticks` ticks of a machine, which were a span.
+fn record_span(
+    alloc: Global,
+    machine: &Machine,
+    ticks: u32,
+    recordings: &mut [Recording],
+) -> Result<(), Memory>
+    requires some { 0 < ticks }
+    requires ranges { ReceivesInRanges machine.now }
+    requires inside { All (λ recording. recording.p < length machine.now.state.parts) recordings.old }
+    requires few { All (λ recording. recording.writer.cues + ticks ≤ TICKS) recordings.old }
+    ensures partitions { map (λ recording. recording.p) recordings.new ≡ map (λ recording. recording.p) recordings.old }
+    ensures recorded { (g : ModelMachine) (done : ℕ) → HasReceived ticks (run g done) machine.now
+        → All (IsRecorded g done) recordings.old → OnOk result (All (IsRecorded g (done + ticks)) recordings.new) }
 {
-    trades_few_bytes();
-    let _counted = machine.done();
-    let _fits = machine.sys().conf().raw();
+    for recording in recordings.iter_mut() {
+        recording.add_span(alloc, ticks, machine.cue(recording.p))?;
+    }
+    Ok(())
 }

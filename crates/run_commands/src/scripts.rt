@@ -1,29 +1,31 @@
 //! The scripts of partitions, as a run writes them.
 
-ghost use Rattle.std.specs.Prelude.{◌≡◌, ◌<◌, ◌≤◌, ◌++◌, ◌∷◌, [], ℕ, List, IfOk, None, Ok, OnOk, Option, drop, length, map};
+ghost use Rattle.std.specs.Prelude.{◌≡◌, ◌≤◌, ◌++◌, ◌∷◌, [], ℕ, All, List, IfOk, None, Ok, OnOk, Option, drop, length, map};
 ghost use Rattle.xm_base.specs.declared.limits.TheConstants.{TICKS};
 ghost use Rattle.system_state.specs.State.{with_inputs};
-ghost use Rattle.cue_scripts.specs.Written.{IsScriptFile};
+ghost use Rattle.cue_scripts.specs.Written.{IsScriptFile, IsWritten};
+ghost use Rattle.machine_model.specs.Machine.{start};
 ghost use Rattle.machine_model.specs.View.{System as Booted};
 ghost use Rattle.xm_container.specs.Reading.{unpacked};
 ghost use Rattle.run_commands.specs.lemmas.Cores.{AreForPartitions};
 ghost use Rattle.file_commands.specs.Inputs.{inputs_for};
-ghost use Rattle.run_commands.specs.Numbers.{ReceivesNumbers, AllReceiveNumbers};
+ghost use Rattle.run_commands.specs.Numbers.{AllReceiveNumbers};
 ghost use Rattle.file_commands.specs.Outcome.{content, first_long, script_bytes, script_denial, script_output, scripts_for};
 ghost use Rattle.file_commands.specs.Packing.{file_names};
+ghost use Rattle.run_commands.specs.lemmas.Recordings.{IsRecorded, parts_of};
 ghost use Rattle.run_commands.specs.lemmas.Scripts.{made_output, made_outputs, script_or};
 ghost use Rattle.file_commands.specs.EndingValues.{AreSaved, vector_bytes};
 ghost use Rattle.file_commands.specs.lemmas.EndingValuesTerms.{MakesOr};
 ghost use Rattle.file_commands.specs.lemmas.WorkTerms.{Saves};
 ghost use Rattle.file_commands.specs.Work.{outside};
-ghost use Rattle.command_line.specs.Seen.{seen_file, seen_options};
+ghost use Rattle.command_line.specs.Seen.{seen_file, seen_files, seen_options};
 ghost use Rattle.command_line.specs.Words.{inputs_in, scripts_in};
 
 use crate::inputs::inputs_for;
 use crate::readiness::part_count;
-use crate::recording::script_of;
+use crate::recording::{Recording, record};
 use builders::no_script;
-use command_line::{PartFile, RunOptions};
+use command_line::{PartFile, PartFiles, RunOptions};
 use cue_scripts::ScriptFault;
 use file_commands::{Ending, split_contents, unmade};
 use std::alloc::Global;
@@ -39,8 +41,8 @@ pub(crate) struct MadeScript<'a> {
     pub(crate) bytes: Vec<u8>,
 }
 
-/// The scripts that options of a run of this many ticks ask for, in their order; or the first that is too long for a file. A run of its own
-/// makes each, of the same files.
+/// The scripts that options of a run of this many ticks ask for, in their order; or the first that is too long for a file. One run of its
+/// own, of the same files, makes all of them.
 pub(crate) fn make_scripts<'a>(
     alloc: Global,
     ticks: u64,
@@ -66,10 +68,77 @@ pub(crate) fn make_scripts<'a>(
         → MakesOr made_outputs result
         (scripts_for (with_inputs system.now inputs) ticks (scripts_in (seen_options options.entry))) }
 {
-    let mut made = Vec::new(alloc);
-    let mut rest = options.scripts();
+    if options.scripts().split_first().is_none() {
+        return Ok(Vec::new(alloc));
+    }
+    match record_all(alloc, ticks, options, contents, system) {
+        Ok(recordings) => finish_all(alloc, options.scripts(), recordings),
+        Err(Memory) => Err(Ending::NoMemory),
+    }
+}
+
+// What the partitions of the options' scripts receive in a run of this many ticks of these files, in the order of the options. One
+// machine does the run for all of them.
+fn record_all(
+    alloc: Global,
+    ticks: u64,
+    options: RunOptions<'_>,
+    contents: &[Vec<u8>],
+    system: &System,
+) -> Result<Vec<Recording>, Memory>
+    requires most { ticks ≤ TICKS }
+    requires short { first_long (file_names (inputs_in (seen_options options))) (drop 1 (map vector_bytes contents.now))
+        ≡ None }
+    requires same { unpacked (content 0 (map vector_bytes contents.now)) ≡ Ok system.now }
+    requires inside { AreForPartitions (length system.now.conf.parts) (scripts_in (seen_options options)) }
+    ensures partitions { IfOk result
+        (λ recordings. map (λ recording. recording.p) recordings.items ≡ parts_of (scripts_in (seen_options options.entry))) }
+    ensures recorded { (inputs : List (List ℕ))
+        → inputs_for (length system.now.conf.parts) (seen_options options.entry)
+        (drop 1 (map vector_bytes contents.now))
+        ≡ Ok inputs
+        → IfOk result
+        (λ recordings. All (IsRecorded (start (with_inputs system.now inputs)) ticks) recordings.items) }
+{
+    let mut recordings = begun(alloc, options.scripts())?;
+    let (system, inputs) = made_again(alloc, options, contents, system)?;
+    record(alloc, system, inputs, ticks, &mut recordings)?;
+    Ok(recordings)
+}
+
+// A recording for each of these scripts, in their order, without a cue.
+fn begun(alloc: Global, scripts: PartFiles<'_>) -> Result<Vec<Recording>, Memory>
+    ensures partitions { IfOk result
+        (λ recordings. map (λ recording. recording.p) recordings.items ≡ parts_of (seen_files scripts.entry)) }
+    ensures empty { IfOk result
+        (λ recordings. All (λ recording. IsWritten [] recording.writer) recordings.items) }
+{
+    let mut recordings = Vec::new(alloc);
+    let mut rest = scripts;
     while let Some((first, others)) = rest.split_first() {
-        let script = match make_script(alloc, ticks, options, contents, system, first) {
+        recordings.push(Recording::new(alloc, first.part))?;
+        rest = others;
+    }
+    Ok(recordings)
+}
+
+// The files of recordings, in the order of these scripts; or the first that is too long for a file.
+fn finish_all<'a>(
+    alloc: Global,
+    scripts: PartFiles<'a>,
+    recordings: Vec<Recording>,
+) -> Result<Vec<MadeScript<'a>>, Ending<'a>>
+    requires { map (λ recording. recording.p) recordings.items ≡ parts_of (seen_files scripts) }
+    ensures { (system : Booted) (ticks : ℕ) → All (IsRecorded (start system) ticks) recordings.items
+        → MakesOr made_outputs result (scripts_for system ticks (seen_files scripts.entry)) }
+{
+    let mut made = Vec::new(alloc);
+    let mut rest = scripts;
+    for recording in recordings {
+        let Some((first, others)) = rest.split_first() else {
+            return Ok(made);
+        };
+        let script = match finished(alloc, first, recording) {
             Ok(script) => script,
             Err(ending) => return Err(ending),
         };
@@ -82,6 +151,20 @@ pub(crate) fn make_scripts<'a>(
     Ok(made)
 }
 
+// The file of what a recording has, under the name that is given for its partition; or the refusal of it where it is too long for a file.
+fn finished<'a>(
+    alloc: Global,
+    named: PartFile<'a>,
+    recording: Recording,
+) -> Result<MadeScript<'a>, Ending<'a>>
+    requires { recording.p ≡ named.part }
+    ensures { (system : Booted) (ticks : ℕ) → IsRecorded (start system) ticks recording
+        → MakesOr made_output result
+        (script_or (script_denial system ticks (seen_file named.entry)) (script_output system ticks (seen_file named.entry))) }
+{
+    script_or_ending(alloc, named.file, recording.finish(alloc))
+}
+
 // Puts a script after others.
 fn put_made<'a>(made: &mut Vec<MadeScript<'a>>, script: MadeScript<'a>) -> Result<(), Memory>
     ensures { OnOk result
@@ -90,43 +173,6 @@ fn put_made<'a>(made: &mut Vec<MadeScript<'a>>, script: MadeScript<'a>) -> Resul
     match made.push(script) {
         Ok(()) => Ok(()),
         Err(_) => Err(Memory),
-    }
-}
-
-// The script of a partition in a run of this many ticks of these files.
-fn make_script<'a>(
-    alloc: Global,
-    ticks: u64,
-    options: RunOptions<'a>,
-    contents: &[Vec<u8>],
-    system: &System,
-    named: PartFile<'a>,
-) -> Result<MadeScript<'a>, Ending<'a>>
-    requires most { ticks ≤ TICKS }
-    requires short { first_long (file_names (inputs_in (seen_options options))) (drop 1 (map vector_bytes contents.now))
-        ≡ None }
-    requires same { unpacked (content 0 (map vector_bytes contents.now)) ≡ Ok system.now }
-    requires inside { (seen_file named).part < length system.now.conf.parts }
-    ensures numbers { (inputs : List (List ℕ))
-        → inputs_for (length system.now.conf.parts) (seen_options options.entry)
-        (drop 1 (map vector_bytes contents.now))
-        ≡ Ok inputs
-        → IfOk result (λ _. ReceivesNumbers (with_inputs system.now inputs) ticks (seen_file named.entry).part) }
-    ensures made { (inputs : List (List ℕ))
-        → inputs_for (length system.now.conf.parts) (seen_options options.entry)
-        (drop 1 (map vector_bytes contents.now))
-        ≡ Ok inputs
-        → MakesOr made_output result
-        (script_or (script_denial (with_inputs system.now inputs) ticks (seen_file named.entry))
-        (script_output (with_inputs system.now inputs) ticks (seen_file named.entry))) }
-{
-    match made_again(alloc, options, contents, system) {
-        Ok((system, inputs)) => script_or_ending(
-            alloc,
-            named.file,
-            script_of(alloc, system, inputs, named.part, ticks),
-        ),
-        Err(Memory) => Err(Ending::NoMemory),
     }
 }
 
@@ -163,9 +209,7 @@ fn script_or_ending<'a>(
     file: &'a str,
     script: Result<Vec<u8>, ScriptFault>,
 ) -> Result<MadeScript<'a>, Ending<'a>>
-    ensures numbers { (system : Booted) (ticks : ℕ) (part : ℕ) → IfOk script (λ _. ReceivesNumbers system ticks part)
-        → IfOk result (λ _. ReceivesNumbers system ticks part) }
-    ensures made { (system : Booted) (ticks : ℕ) (part : ℕ)
+    ensures { (system : Booted) (ticks : ℕ) (part : ℕ)
         → IsScriptFile vector_bytes (script_bytes system ticks part) script
         → MakesOr made_output result
         (script_or (script_denial system ticks (record { part = part; file = file.now }))

@@ -32,7 +32,7 @@ use Rattle.span_model.specs.PassLaws.{IsInPasses, IsPassedNext, PassedNext, Tick
 use Rattle.span_model.specs.Passes.{rest_but, traded, traffic_in, with_part, worked_lines, worked_through}
 use Rattle.span_model.specs.SpanLaws.{IsAwake, its_areas, met}
 use Rattle.span_model.specs.Undisturbed.{IsUndisturbed, UndisturbedNext, gone_parts, next_instruction}
-use Rattle.tick_steps.specs.Kept.{kept_by, kept_tick}
+use Rattle.tick_steps.specs.Kept.{AreBareTicks, kept_by, kept_tick}
 use Rattle.tick_steps.specs.Quiet.{AreQuiet, ends_in}
 use Rattle.tick_steps.specs.lemmas.SpanTerms.{AreDoneFrom}
 use Rattle.tick_steps.specs.Span.{ends_so}
@@ -41,7 +41,7 @@ use Rattle.tick_steps.specs.lemmas.WorkTerms.{ended_by, ending_lines}
 use Rattle.tick_steps.specs.declared.beyond.Beyond.{Beyond}
 use Rattle.tick_steps.specs.declared.beyond.Beyond.TheVariants as beyond
 use Rattle.span_engine.proofs.KeepingLemmas.{IsNoted, same_order, worked_kept}
-use Rattle.span_engine.proofs.QuietLemmas.{acts_so, quiet_gone, same_end}
+use Rattle.span_engine.proofs.QuietLemmas.{acts_so, bare_gone, quiet_gone, same_end}
 use Rattle.tick_steps.specs.lemmas.SlotLemmas.{at_next, its_before, within_bounds}
 use Rattle.span_engine.proofs.TickLemmas.{tick_lines, tick_state}
 use Rattle.tick_steps.specs.lemmas.ListLemmas.{each_at}
@@ -117,13 +117,13 @@ directed_one act reach m is one =
 
 -- ticks of which the last had this work, which was done and ended
 passed_done : RunsKeepNumbers → (g m : Machine) (p done most : ℕ) (first : Bool) (work : Worked) (a_note : Note) (reach : Beyond) (old mid new : SysState) (got all : List ReportLine)
-    → m ≡ run g done → m.halted ≡ false → m.ticks ≡ g.ticks + done → lines g done ≡ [] → AreQuiet (done + 1) g → p < length m.parts → done < most
+    → m ≡ run g done → m.halted ≡ false → m.ticks ≡ g.ticks + done → lines g done ≡ [] → AreQuiet (done + 1) g → AreBareTicks (done + 1) g → p < length m.parts → done < most
     → run g (suc done) ≡ worked_through p work m → lines g (suc done) ≡ worked_lines p work m
     → turn_after done (turn_of g) ≡ Some (record { part = p; first = first }) → IsTickOf m p first work → bounded (view_of m.system p) work.act ≡ work.act
     → IsNoted m p work a_note → IsTickWorked p work a_note reach (with_machine m old) mid got → EmitsAlone a_note reach
     → new ≡ with_machine (ended_by (act_beyond reach) p mid.machine) mid → all ≡ got ++ ending_lines (act_beyond reach) mid.machine → length all ≤ 40
     → AreDoneFrom (record { ticks = done + 1; part = p; worked = true; note = a_note; reach = reach }) most g old new all
-passed_done keeps g m p done most first work a_note reach old mid new got all m_is runs ticks silent quiet below fewer state its_lines turns tick bounds noted worked alone ended emitted_lines few =
+passed_done keeps g m p done most first work a_note reach old mid new got all m_is runs ticks silent quiet bare below fewer state its_lines turns tick bounds noted worked alone ended emitted_lines few =
     let one : done + 1 ≡ suc done = omega arith in
     let its_state : new ≡ with_machine (run g (done + 1)) old =
     tick_state p work a_note reach (with_machine m old) mid new got worked ended ∙ ap (λ (x : Machine). with_machine x old) (sym state ∙ ap (run g) (sym one)) in
@@ -158,6 +158,7 @@ passed_done keeps g m p done most first work a_note reach old mid new got all m_
           (same_areas (run g (done + 1)) m (many.system ∙ sym before.system ∙ sym (ap (λ (x : Machine). x.system) m_is)) worked.readable);
       kept = subst (λ (n : ℕ). kept_tick (run g n) ≡ kept_by (turn_after n (turn_of g)) true a_note reach (memory_of p new.machine)) (less done) its_kept;
       quiet = quiet;
+      bare = bare;
       ends = subst (λ (n : ℕ). ends_in (run g n) ≡ ends_so a_note reach) (less done) its_end;
     }
   where
@@ -187,7 +188,7 @@ next_done keeps bounds calms undisturbed passes g p first ps done most a_note re
     (within_bounds bounds (run g done) p (first_after done first) (its_before done ps (gone_on done (its_areas g p) (met g first ps))) (gone_on done (its_areas g p) (met g first ps)) at)
     (directed_one (next_instruction (run g done) p (gone_on done (its_areas g p) (met g first ps))).act reach (run g done) worked.act worked.one) in
     passed_done keeps g (run g done) p done most (first_after done first) (next_instruction (run g done) p (gone_on done (its_areas g p) (met g first ps))) a_note reach old mid new got all refl
-    (ap (λ (x : Machine). x.halted) next.before.state ∙ is.span.running) (ap (λ (x : Machine). x.ticks) next.before.state) next.before.lines (quiet_gone calms g p first ps done is gone) there fewer passed.state passed.lines
+    (ap (λ (x : Machine). x.halted) next.before.state ∙ is.span.running) (ap (λ (x : Machine). x.ticks) next.before.state) next.before.lines (quiet_gone calms g p first ps done is gone) (bare_gone calms g p first ps done is gone) there fewer passed.state passed.lines
     (ap (turn_after done) is.goes.slot.turn) next.tick
     (within_bounds bounds (run g done) p (first_after done first) (its_before done ps (gone_on done (its_areas g p) (met g first ps))) (gone_on done (its_areas g p) (met g first ps)) at)
     noted worked alone ended emitted_lines few
@@ -216,5 +217,5 @@ met_done keeps bounds meets passes g p first ps most a_note reach old mid new go
     let passed : IsInPasses g p (next_work g p (met g first ps)) =
     passes g p first (next_work g p (met g first ps)) runs below (meets g p first ps runs is) (awake_bounds bounds g p first ps is)
     (directed_one (next_work g p (met g first ps)).act reach g worked.act worked.one) in
-    passed_done keeps g g p 0 most first (next_work g p (met g first ps)) a_note reach old mid new got all refl runs (omega arith) refl (λ k below_last. absurd (omega (arith, below_last))) below some passed.state
+    passed_done keeps g g p 0 most first (next_work g p (met g first ps)) a_note reach old mid new got all refl runs (omega arith) refl (λ k below_last. absurd (omega (arith, below_last))) (λ k below_last. absurd (omega (arith, below_last))) below some passed.state
     (append-nil (step_lines g) ∙ passed.lines) (ap (turn_after 0) is.slot.turn) (meets g p first ps runs is) (awake_bounds bounds g p first ps is) noted worked alone ended emitted_lines few

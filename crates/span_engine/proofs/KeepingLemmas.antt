@@ -1,5 +1,5 @@
 -- What is to be kept of a tick, by what happened in it.
-use Rattle.std.proofs.Common.{◌≡◌, ℕ, Bool, true, Option, None, Some, refl, ap, ◌∙◌}
+use Rattle.std.proofs.Common.{◌≡◌, ℕ, Bool, true, Option, None, Some, refl, sym, ap, ◌∙◌}
 use Rattle.std.specs.Prelude.{is_some}
 use Rattle.guest_bus.specs.Memory.{Memory}
 use Rattle.xm_conf.specs.Configuration.{Conf}
@@ -15,10 +15,11 @@ use Rattle.machine_model.specs.Whole.{event_of}
 use Rattle.span_model.specs.Calm.{IsCalm, turn_after}
 use Rattle.span_model.specs.NextLaws.{IsTickOf}
 use Rattle.span_model.specs.Passes.{traffic_in}
+use Rattle.system_state.specs.State.{memory_of}
 use Rattle.system_state.specs.Serving.{sight_by, traffic_by, without_traffic}
 use Rattle.system_state.specs.declared.served.Note.{Note}
 use Rattle.system_state.specs.declared.served.Note.TheVariants as note
-use Rattle.tick_steps.specs.Kept.{KeptTick, kept_by, kept_from, kept_in, kept_tick, shown_to}
+use Rattle.tick_steps.specs.Kept.{IsBareTick, KeptTick, kept_by, kept_from, kept_in, kept_tick, shown_to}
 use Rattle.tick_steps.specs.Work.{act_beyond}
 use Rattle.tick_steps.specs.declared.beyond.Beyond.{Beyond}
 use Rattle.tick_steps.specs.declared.beyond.Beyond.TheVariants as beyond
@@ -48,6 +49,13 @@ calm_kept g done works memory calm =
     shows : (t : Option SlotTurn) → shown_to (run g done) t ≡ Unseen
     shows None = refl
     shows (Some t) = calm.unseen t.part
+
+-- in such a tick partitions receive nothing but whose slot it is
+pub calm_bare : (g : Machine) (done : ℕ) (works : Bool) → IsCalm g done works → IsBareTick (run g done)
+calm_bare g done works calm = record {
+  works = works;
+  kept = calm_kept g done works (memory_of 0 g) calm ∙ ap (λ (turn : Option SlotTurn). kept_from turn works emission.Nothing Still Unseen) (sym calm.turn);
+}
 
 -- the traffic of the work of a partition, and what it was shown, are what its note records
 pub record IsNoted (m : Machine) (p : ℕ) (work : Worked) (a_note : Note) : Type 0 where

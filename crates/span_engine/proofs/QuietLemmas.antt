@@ -1,4 +1,5 @@
--- Ticks of which none but the last may have an act that ends a stretch.
+-- Ticks of which none but the last may have an act that ends a stretch, and of which in none but the last partitions may receive more than
+-- whose slot it is.
 use Rattle.std.proofs.Common.{◌≡◌, ℕ, zero, suc, ◌+◌, ◌<◌, ◌≤◌, Bool, true, false, List, Option, None, Some, refl, ap, subst, ◌∙◌, arith}
 use Rattle.std.specs.Prelude.{◌-◌, if◌then◌else◌, IfSome}
 use Rattle.guest_bus.specs.Memory.{Area, Memory}
@@ -23,10 +24,12 @@ use Rattle.system_state.specs.Serving.{traffic_by, without_traffic}
 use Rattle.system_state.specs.declared.served.Note.{Note}
 use Rattle.system_state.specs.declared.served.Note.TheVariants as note
 use Rattle.xm_conf.specs.Configuration.{Conf}
+use Rattle.tick_steps.specs.Kept.{AreBareTicks}
 use Rattle.tick_steps.specs.Quiet.{AreQuiet, ends_in, ends_stretch, is_signal}
 use Rattle.tick_steps.specs.Span.{ends_so, notes_signal}
 use Rattle.tick_steps.specs.Work.{act_beyond}
 use Rattle.tick_steps.specs.declared.beyond.Beyond.{Beyond}
+use Rattle.span_engine.proofs.KeepingLemmas.{calm_bare}
 
 -- a tick with this act
 pub acts_so : (g : Machine) (act : Act) → machine.act_of (local g) ≡ act → ends_in g ≡ ends_stretch act
@@ -145,8 +148,15 @@ earlier_undisturbed g p first ps j k less is = record {
 }
 
 -- ticks in which the partition of a slot only went, and one more
+calm_before : GoneCalm → (g : Machine) (p : ℕ) (first : Bool) (ps : PartitionState) (done : ℕ) → IsUndisturbed g p first ps done → HasGone done (view_of g.system p) (met g first ps)
+    → (k : ℕ) → k + 1 < done + 1 → IsCalm g k true
+calm_before calms g p first ps done is gone k below =
+    calms g p first ps k (earlier_undisturbed g p first ps k done (omega (arith, below)) is) (earlier_gone (suc k) done (view_of g.system p) (met g first ps) (omega (arith, below)) gone)
+
 pub quiet_gone : GoneCalm → (g : Machine) (p : ℕ) (first : Bool) (ps : PartitionState) (done : ℕ) → IsUndisturbed g p first ps done → HasGone done (view_of g.system p) (met g first ps)
     → AreQuiet (done + 1) g
-quiet_gone calms g p first ps done is gone k below =
-    calm_goes g k true
-    (calms g p first ps k (earlier_undisturbed g p first ps k done (omega (arith, below)) is) (earlier_gone (suc k) done (view_of g.system p) (met g first ps) (omega (arith, below)) gone))
+quiet_gone calms g p first ps done is gone k below = calm_goes g k true (calm_before calms g p first ps done is gone k below)
+
+pub bare_gone : GoneCalm → (g : Machine) (p : ℕ) (first : Bool) (ps : PartitionState) (done : ℕ) → IsUndisturbed g p first ps done → HasGone done (view_of g.system p) (met g first ps)
+    → AreBareTicks (done + 1) g
+bare_gone calms g p first ps done is gone k below = calm_bare g k true (calm_before calms g p first ps done is gone k below)

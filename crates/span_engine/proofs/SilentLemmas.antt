@@ -1,5 +1,5 @@
 -- Ticks without output, and more of them.
-use Rattle.std.proofs.Common.{◌≡◌, ℕ, ◌+◌, ◌-◌, ◌<◌, ◌≤◌, false, List, [], ◌++◌, map, Option, refl, sym, ap, ◌∙◌, arith}
+use Rattle.std.proofs.Common.{◌≡◌, ℕ, ◌+◌, ◌-◌, ◌<◌, ◌≤◌, false, List, [], ◌++◌, map, Option, refl, sym, ap, subst, ◌∙◌, arith}
 use Rattle.xm_report.specs.Report.{ReportLine}
 use Rattle.machine_model.specs.Facts.{RunsKeepNumbers}
 use Rattle.machine_model.specs.Lines.{lines}
@@ -10,18 +10,19 @@ use Rattle.span_model.specs.lemmas.RunLemmas.{lines_add, run_add}
 use Rattle.system_state.specs.State.{SysState, memory_of, with_machine}
 use Rattle.system_state.specs.declared.served.Note.{Note}
 use Rattle.system_state.specs.declared.served.Note.TheVariants as note
-use Rattle.tick_steps.specs.Kept.{KeptTick, kept_by, kept_in, kept_tick}
+use Rattle.tick_steps.specs.Kept.{AreBareTicks, IsBareTick, KeptTick, kept_by, kept_in, kept_tick}
 use Rattle.tick_steps.specs.lemmas.KeptLemmas.{ticks_exact}
-use Rattle.span_engine.specs.lemmas.LaterLemmas.{later_at}
+use Rattle.span_engine.specs.lemmas.LaterLemmas.{later_at, turn_at}
 use Rattle.span_engine.specs.Place.{IsAt}
 use Rattle.span_engine.specs.lemmas.PlaceTerms.{place_after}
 use Rattle.tick_steps.specs.Quiet.{ends_in}
-use Rattle.tick_steps.specs.lemmas.QuietRunLemmas.{AllQuiet, all_quiet, quiet_on, quiet_runs}
+use Rattle.tick_steps.specs.lemmas.QuietRunLemmas.{AllBare, AllQuiet, all_bare, all_quiet, bare_on, quiet_on, quiet_runs}
 use Rattle.tick_steps.specs.lemmas.SpanTerms.{AreDoneFrom, IsSilent}
 use Rattle.tick_steps.specs.Span.{ends_so}
 use Rattle.span_engine.specs.Spans.{IsSpanDone}
 use Rattle.tick_steps.specs.Work.{console_emissions}
 use Rattle.span_engine.specs.declared.place.Place.{Place}
+use Rattle.tick_steps.specs.declared.beyond.Beyond.{Beyond}
 use Rattle.tick_steps.specs.declared.span.Span.{Span}
 
 -- this many ticks were done, fewer than there may be, and without output; the machine is at this place
@@ -29,6 +30,7 @@ pub record AreSilent (done most : ℕ) (place : Place) (old mid : SysState) (had
   pub fewer : done < most
   pub state : mid ≡ with_machine (run old.machine done) old
   pub quiet : AllQuiet done old.machine
+  pub bare : AllBare done old.machine
   pub silent : lines old.machine done ≡ []
   pub none : had ≡ []
   pub at : IsAt place mid.machine
@@ -36,13 +38,9 @@ pub record AreSilent (done most : ℕ) (place : Place) (old mid : SysState) (had
 -- this many ticks were done; the last part of them, which this span has, began at this place
 pub record HaveEnded (done most : ℕ) (place : Place) (span : Span) (old new : SysState) (got : List ReportLine) : Type 0 where
   pub are : IsSpanDone (record span { ticks = done }) most old new got
+  pub bare : AreBareTicks done old.machine
   pub some : 0 < span.ticks
   pub turn : turn_after (span.ticks - 1) (turn_here place.slot) ≡ turn_of (run old.machine (done - 1))
-
--- whose slot a machine at a place is in
-turn_at : (place : Place) (g : Machine) → IsAt place g → turn_here place.slot ≡ turn_of g
-unfolding turn_of
-turn_at place g at = ap turn_here at.slot
 
 -- the last of ticks of one slot or gap is in it
 last_turn : (span : Span) (most : ℕ) (g : Machine) (old new : SysState) (got : List ReportLine) → AreDoneFrom span most g old new got
@@ -67,12 +65,24 @@ part_done span here most old new got fewer part = record {
   ends = part.ends;
 }
 
+-- without output partitions receive nothing but whose slot it is in the last of them, either
+silent_bare : (span : Span) (most : ℕ) (g : Machine) (old new : SysState) (got : List ReportLine) → AreDoneFrom span most g old new got → IsSilent span got
+    → IsBareTick (run g (span.ticks - 1))
+silent_bare span most g old new got done silent = record {
+  works = span.worked;
+  kept = done.kept
+      ∙ ap (λ (turn : Option SlotTurn). kept_by turn span.worked span.note span.reach (memory_of span.part new.machine)) (sym (last_turn span most g old new got done))
+      ∙ ap (λ (n : Note). kept_by (turn_of (run g (span.ticks - 1))) span.worked n span.reach (memory_of span.part new.machine)) silent.note
+      ∙ ap (λ (reach : Beyond). kept_by (turn_of (run g (span.ticks - 1))) span.worked note.Nothing reach (memory_of span.part new.machine)) silent.reach;
+}
+
 -- nothing is done yet
 pub silent_begins : (most : ℕ) (place : Place) (old : SysState) (had : List ReportLine) → 0 < most → IsAt place old.machine → had ≡ [] → AreSilent 0 most place old old had
 silent_begins most place old had some at none = record {
   fewer = some;
   state = refl;
   quiet = λ k below. absurd (omega (arith, below));
+  bare = λ k below. absurd (omega (arith, below));
   silent = refl;
   none = none;
   at = at;
@@ -139,9 +149,14 @@ module _ (done most here : ℕ) (place : Place) (span : Span) (old mid new : Sys
     ends = ap ends_in run_last ∙ part.ends;
   }
 
+  -- in none of them but the last partitions receive more than whose slot it is
+  all_are_bare : AreBareTicks (done + span.ticks) old.machine
+  all_are_bare = bare_on old.machine mid.machine done span.ticks mid_is is.bare part.bare
+
   pub ended : HaveEnded (done + span.ticks) most place span old new got
   ended = record {
     are = span_on;
+    bare = all_are_bare;
     some = part.some;
     turn = ap (turn_after (span.ticks - 1)) (turn_at place mid.machine is.at) ∙ sym (last_turn span here mid.machine mid new got part) ∙ ap turn_of (sym run_last);
   }
@@ -161,6 +176,7 @@ module _ (done most here : ℕ) (place : Place) (span : Span) (old mid new : Sys
     fewer = omega (arith, left);
     state = its_state;
     quiet = all_quiet (done + span.ticks) old.machine span_on.quiet (λ any. span_on.ends ∙ goes_so silent);
+    bare = all_bare (done + span.ticks) old.machine all_are_bare (λ any. subst IsBareTick (sym run_last) (silent_bare span here mid.machine mid new got part silent));
     silent = span_on.lines
         ∙ ap (λ (n : Note). map (line_of (old.machine.ticks + (done + span.ticks) - 1) span.part) (console_emissions n (memory_of span.part new.machine)) ++ got) silent.note
         ∙ silent.lines;

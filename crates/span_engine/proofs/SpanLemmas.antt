@@ -34,7 +34,7 @@ use Rattle.tick_steps.specs.declared.beyond.Beyond.TheVariants as beyond
 use Rattle.tick_steps.specs.declared.span.Span.{Span}
 use Rattle.tick_steps.specs.lemmas.ReachLemmas.{one_before}
 use Rattle.span_engine.specs.lemmas.Ending.{CanEndTick}
-use Rattle.span_engine.proofs.KeepingLemmas.{calm_kept}
+use Rattle.span_engine.proofs.KeepingLemmas.{calm_bare, calm_kept}
 use Rattle.tick_steps.specs.lemmas.ListLemmas.{each_at}
 use Rattle.span_engine.proofs.QuietLemmas.{calm_goes, earlier_bound}
 use Rattle.tick_steps.specs.lemmas.WorkLemmas.{put_there}
@@ -73,6 +73,7 @@ quiet_done keeps g ticks most p works parts old new all some within below quiet 
       kept = calm_kept g (ticks - 1) works (memory_of p new.machine) calm;
       quiet = λ k below_last. calm_goes g k works (calms k (omega (arith, below_last)));
       ends = calm_goes g (ticks - 1) works calm;
+      bare = λ k below_last. calm_bare g k works (calms k (omega (arith, below_last)));
     }
 
 -- ticks of a slot or gap in which all rest

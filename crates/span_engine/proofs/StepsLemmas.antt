@@ -172,6 +172,7 @@ done_before span most p went g old mid counted new all counted_is mid_is done = 
   running = done.running;
   quiet = done.quiet;
   ends = done.ends;
+  bare = done.bare;
 }
 
 -- after an instruction that called the program goes on

@@ -155,6 +155,7 @@ done_from span most g h old sys new all is done = record {
   running = done.running;
   quiet = done.quiet;
   ends = done.ends;
+  bare = done.bare;
 }
 
 -- a partition that goes on is met so

@@ -7,7 +7,7 @@ ghost use Rattle.system_state.specs.Serving.{CanBeEmitted};
 ghost use Rattle.system_state.specs.State.{areas_in, memory_of};
 ghost use Rattle.tick_steps.specs.CueValues.{cue_value};
 ghost use Rattle.tick_steps.specs.lemmas.KeptTerms.{bytes_noted};
-ghost use Rattle.tick_steps.specs.Kept.{kept_cue, kept_tick, no_kept, slot_partition};
+ghost use Rattle.tick_steps.specs.Kept.{AreBareTicks, kept_cue, kept_tick, no_kept, slot_partition};
 ghost use Rattle.tick_steps.specs.Machine.{IsMachine};
 ghost use Rattle.span_engine.specs.Place.{IsPlace};
 ghost use Rattle.span_engine.specs.Spans.{IsSpanDone};
@@ -106,6 +106,9 @@ impl Engine {
         // lines but for one of bytes for a console, which its note names and which still stand in its partition's
         // memory; the span says whether the act of the last ends a stretch.
         ensures done { IsSpanDone result most sys.old sys.new lines.new }
+        // In each of these ticks but the last, partitions receive nothing but whose slot it is: all that is kept of such a
+        // tick is its slot, and whether the slot's partition worked.
+        ensures bare { AreBareTicks result.ticks sys.old.machine }
         // What happened in the last tick is kept, with the bytes of its message or of what was shown.
         ensures kept { self.new ≡ kept_tick (run sys.old.machine (result.ticks - 1)) }
     {

@@ -13,6 +13,7 @@ ghost use Rattle.span_model.specs.SpanLaws.{IsNobodys};
 ghost use Rattle.span_model.specs.Spans.{IsSlotOf, IsStretch, after_span, plan_line};
 ghost use Rattle.span_model.specs.Undisturbed.{NoneFallsDue};
 ghost use Rattle.virt_traps.specs.Virtual.{due};
+ghost use Rattle.tick_steps.specs.Kept.{AreBareTicks};
 ghost use Rattle.tick_steps.specs.Machine.{IsMachine};
 ghost use Rattle.span_engine.specs.Place.{IsAt};
 ghost use Rattle.span_engine.specs.lemmas.Ending.{CanEndTick, IsTickEnded};
@@ -55,6 +56,7 @@ pub(crate) fn run_span(
     requires ticks { sys.old.machine.ticks + most ≤ 4000000000 }
     requires empty { lines.old ≡ [] }
     ensures done { IsSpanDone span.new most sys.old sys.new lines.new }
+    ensures bare { AreBareTicks span.new.ticks sys.old.machine }
     ensures turn { turn_here result ≡ turn_of (run sys.old.machine (span.new.ticks - 1)) }
 {
     proof! {

@@ -21,7 +21,7 @@ use sparc_code::fields::{op, op2, op3, rd, rs1};
 /// Executes the instruction at `pc`.
 #[inline(never)]
 pub fn turn<B: Bus>(core: &mut Core, bus: &mut B) -> Turn
-    // What an instruction came to, and the registers and the memory that it leaves.
+    // The outcome of an instruction, and the registers and the memory that it leaves.
     ensures turned { turned (B.areas bus.old) core.old (B.memory bus.old) ≡ record { turn = result; core = core.new; memory = B.memory bus.new } }
     // After a trap the registers and the memory are as before.
     ensures trapped { IsUndone result core.old core.new (B.memory bus.old) (B.memory bus.new) }
@@ -42,7 +42,7 @@ impl Processor {
     #[inline(always)]
     #[tactic(auto, unfolding(crate::specs::Execution::turned))]
     pub fn turn<B: Bus>(&mut self, bus: &mut B) -> Turn
-        // What an instruction came to, and the registers and the memory that it leaves.
+        // The outcome of an instruction, and the registers and the memory that it leaves.
         ensures turn { result ≡ (turned (B.areas bus.old) self.old (B.memory bus.old)).turn }
         ensures core { self.new ≡ (turned (B.areas bus.old) self.old (B.memory bus.old)).core }
         ensures memory { B.memory bus.new ≡ (turned (B.areas bus.old) self.old (B.memory bus.old)).memory }

@@ -1,5 +1,6 @@
 pub mod BootLemmas
 pub mod CallerLemmas
+pub mod ExchangeLemmas
 pub mod InputLemmas
 pub mod InsideLemmas
 pub mod PartsLemmas

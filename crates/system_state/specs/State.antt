@@ -1,5 +1,5 @@
 -- The state of the whole system as it is kept: the machine, with the state of each partition apart from its memory.
-use Rattle.std.specs.Prelude.{◌≡◌, ℕ, Bool, false, List, [], ◌∷◌, length, map, drop, is_some, slice_index_or}
+use Rattle.std.specs.Prelude.{◌≡◌, ℕ, Bool, false, List, [], ◌∷◌, length, map, drop, is_some, slice_index_or, Option, None, Some}
 use Rattle.std.specs.Bool.{OnTrue}
 use Rattle.std.specs.List.{list_any}
 use Rattle.cyclic_plans.specs.PlanClock.{CyclicClock}
@@ -12,7 +12,7 @@ use Rattle.sparc_step.specs.Registers.{Registers}
 use Rattle.virt_clocks.specs.Clocks.{PartitionClocks}
 use Rattle.virt_traps.specs.Virtual.{VirtualTraps}
 use Rattle.xm_base.specs.declared.partition.State.{State}
-use Rattle.xm_ports.specs.Channels.{ChannelTable, Shape}
+use Rattle.xm_ports.specs.Channels.{ChannelTable, HeldSample, Shape}
 use Rattle.xm_traces.specs.Ring.{Kept}
 use Rattle.xm_traces.specs.declared.entry.TraceEntry.{TraceEntry}
 use Rattle.machine_model.specs.Machine.{Machine}
@@ -115,6 +115,19 @@ input_words_of p g = slice_index_or g.system.inputs p []
 -- the system with this machine
 abbrev pub with_machine : Machine → SysState → SysState
 with_machine g sys = record sys { machine = g }
+
+-- the channels of a system with what they hold
+abbrev pub table_in : SysState → ChannelTable
+table_in sys = record { shapes = sys.shapes; contents = sys.machine.channels }
+
+-- the bytes of the message that a sampling channel holds; none where it holds no message
+abbrev pub sample_bytes : Option HeldSample → List ℕ
+sample_bytes None = []
+sample_bytes (Some sample) = sample.bytes
+
+-- the system with these channels
+abbrev pub with_table : ChannelTable → SysState → SysState
+with_table table sys = record { machine = record sys.machine { channels = table.contents }; shapes = table.shapes }
 
 -- the machine with another state of one partition, whose memory stays
 abbrev pub with_own : ℕ → OwnState → Machine → Machine

@@ -42,6 +42,10 @@ use xm_conf::{Conf, Kind, Part};
 use xm_ports::{Channels, CreateFault};
 
 pub mod engine;
+pub mod messages;
+
+/// How many bytes a message has at most.
+const MESSAGE_BYTES: usize = 4096;
 
 /// A system that was booted: its partitions, memories, channels and clocks.
 #[derive(Debug, Drop)]
@@ -58,6 +62,8 @@ pub struct Sys {
     halted: bool,
     // Where it is set, no hardware timer is armed; where it is not, one may be. It is no part of what the system means.
     untimed: bool,
+    // A message on its way to a channel. It is no part of what the system means.
+    message: [u8; MESSAGE_BYTES],
 }
 
 impl Model for Sys {
@@ -101,6 +107,7 @@ impl Sys {
             resets: 0,
             halted: false,
             untimed: true,
+            message: [0; MESSAGE_BYTES],
         })
     }
 

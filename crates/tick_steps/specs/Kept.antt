@@ -1,10 +1,10 @@
 -- What a machine keeps of its last tick, and what each partition received in it.
-use Rattle.std.specs.Prelude.{◌≡◌, ℕ, ◌&&◌, Bool, false, if◌then◌else◌, List, Option, None, Some, is_some}
+use Rattle.std.specs.Prelude.{◌≡◌, ℕ, ◌+◌, ◌<◌, ◌&&◌, Bool, false, if◌then◌else◌, List, Option, None, Some, is_some}
 use Rattle.guest_bus.specs.Memory.{Memory}
 use Rattle.xm_conf.specs.Configuration.{Conf}
 use Rattle.machine_model.specs.Cue.{Cue, cue, slot_of, unless_own}
-use Rattle.machine_model.specs.Machine.{Happened, Machine, SlotTurn, happened, is_turn_of, order_for, sight, turn_of}
-use Rattle.machine_model.specs.Emission.{Act, Directed, NoEvent, NotKept, Sight, Unseen, WholeEvent, Words, reach_of}
+use Rattle.machine_model.specs.Machine.{Happened, Machine, SlotTurn, happened, is_turn_of, order_for, run, sight, turn_of}
+use Rattle.machine_model.specs.Emission.{Act, Directed, NoEvent, NotKept, Nothing, Sight, Unseen, WholeEvent, Words, reach_of}
 use Rattle.machine_model.specs.Traffic.{Puts, Signals, Still, Takes, Traffic, heard_as}
 use Rattle.machine_model.specs.Whole.{event_of}
 use Rattle.system_state.specs.Serving.{sight_by, traffic_by}
@@ -55,6 +55,15 @@ slot_partition (Some turn) = turn.part
 abbrev pub kept_from : Option SlotTurn → Bool → Act → Traffic → Sight → KeptTick
 kept_from turn worked act traffic seen =
     record { turn = turn; worked = worked; traffic = traffic; order = (reach_of act).directed; event = event_of act; seen = seen }
+
+-- in the machine's next tick partitions receive nothing but whose slot it is: all that is kept of it is the slot, and whether its partition worked
+pub record IsBareTick (g : Machine) : Type 0 where
+  pub works : Bool
+  pub kept : kept_tick g ≡ kept_from (turn_of g) works Nothing Still Unseen
+
+-- each of this many ticks but the last is so
+abbrev pub AreBareTicks : ℕ → Machine → Type 0
+AreBareTicks done g = (k : ℕ) → k + 1 < done → IsBareTick (run g k)
 
 -- what is kept of a tick by its slot, whether a partition worked, what its call noted and how it reached beyond, over the memory that the tick leaves
 abbrev pub kept_by : Option SlotTurn → Bool → Note → Beyond → Memory → KeptTick

@@ -96,7 +96,7 @@ impl Board {
         }
     }
 
-    /// The lowest place that was marked since `begin`.
+    /// The lowest place that has a mark.
     pub fn failed(&self) -> Option<u8>
         // The lowest place that is marked, and None exactly where none is.
         ensures marked { IfSome result (λ place. IsSome (mark_at place self.now.marks)) }

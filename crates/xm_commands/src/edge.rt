@@ -36,7 +36,7 @@ pub fn program<O: Write + Drop, E: Write + Drop>(
     stderr: E,
 ) -> ExitCode
     // The exit status is the code of a status to which the given arguments come. Arguments that were read: the status
-    // answers the words after the first as that of `do_command` does, over a store that reports nothing but its counts,
+    // answers the words after the first as that of `xm_main` does, over a store that reports nothing but its counts,
     // which were 0, with a board that has at each of its eight places the UART of a file before its first write, and
     // with a report and an error output that report nothing but their faults, of which there were none; or there was no
     // memory for the UARTs, and nothing was done. Arguments that could not be read: NoMemory where the cause was

@@ -31,7 +31,7 @@ kept_runs : (count : ℕ) (g : Machine) (before : KeptTick) → g.halted ≡ fal
 kept_runs count g before runs = ap (λ b. kept_unless b before (kept_after (step g) count (kept_tick g))) runs
 
 -- the last of ticks, where the hypervisor has not halted before it
-kept_last : (count : ℕ) (g : Machine) (before : KeptTick) → (run g count).halted ≡ false → kept_after g (suc count) before ≡ kept_tick (run g count)
+pub kept_last : (count : ℕ) (g : Machine) (before : KeptTick) → (run g count).halted ≡ false → kept_after g (suc count) before ≡ kept_tick (run g count)
 kept_last zero g before runs = kept_runs 0 g before runs
 kept_last (suc count) g before runs = kept_runs (suc count) g before (ran_on (suc count) g runs) ∙ kept_last count (step g) (kept_tick g) runs
 

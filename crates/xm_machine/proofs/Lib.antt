@@ -6,5 +6,7 @@ pub mod GoingLemmas
 pub mod HeardLemmas
 pub mod LoneStepLemmas
 pub mod OutLemmas
+pub mod RangeLemmas
+pub mod SpanLemmas
 pub mod StretchLemmas
 pub mod WholeLemmas

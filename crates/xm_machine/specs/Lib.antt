@@ -5,6 +5,7 @@ pub mod Cues
 pub mod Heard
 pub mod Machine
 pub mod Outcome
+pub mod Spans
 pub mod Steps
 pub mod Stretch
 pub mod lemmas

@@ -21,12 +21,14 @@ ghost use Rattle.tick_steps.specs.CueValues.{cue_value};
 ghost use Rattle.xm_machine.specs.Cues.{AreCued, RunsCued, last_received};
 ghost use Rattle.xm_machine.specs.lemmas.CuesTerms.{KeepsTicks};
 ghost use Rattle.xm_machine.specs.Heard.{IsRunHeard};
-ghost use Rattle.tick_steps.specs.Kept.{no_kept};
+ghost use Rattle.tick_steps.specs.Kept.{AreBareTicks, no_kept};
 ghost use Rattle.tick_steps.specs.Machine.{IsCounted, IsMachine};
 ghost use Rattle.xm_machine.specs.Outcome.{HasWriteCause, IsRun, IsTick, first_line};
 ghost use Rattle.xm_machine.specs.lemmas.OutcomeTerms.{last_line};
 ghost use Rattle.xm_machine.specs.lemmas.StepsTerms.{RunsTicks, Prints};
 ghost use Rattle.xm_machine.specs.lemmas.StretchTerms.{AreAllOfStretch, KeepsStepped, Steps};
+ghost use Rattle.xm_machine.specs.Spans.{ReceiveSpan, ReceivesInRanges, Spans};
+ghost use Rattle.xm_machine.specs.lemmas.SpansTerms.{span_left};
 ghost use Rattle.xm_machine.specs.Stretch.{Stretches, StretchesAlone, StretchesCued, left_of};
 ghost use Rattle.xm_ports.specs.Channels.{shapes_of};
 ghost use Rattle.xm_report.specs.Report.{line_value};
@@ -36,15 +38,15 @@ use crate::report::{end_parts, print_alone, print_tick};
 use crate::run::Ran;
 use crate::stretch::{Stepped, ends_stretch, stepped_by};
 use core_files::{core_into, core_length};
-use cyclic_plans::PlanClock;
+use cyclic_plans::{Here, PlanClock};
 use hypercalls::{Inputs, Sys};
 use loaded_system::System;
 use machine_model::{
     all_ticks, boots_alone, keeps_facts, keeps_hardware_clock, keeps_numbers, keeps_plans,
-    own_lines,
+    own_lines, trades_few_bytes,
 };
 use replay_tick::{span_alone, tick_alone};
-use span_engine::{Engine, reset_all};
+use span_engine::{Engine, Place, reset_all};
 use std::alloc::Global;
 use std::marker::Model;
 use tick_steps::{Cue, Lines, reset};
@@ -220,6 +222,48 @@ impl Machine {
             keeps_numbers();
         }
         match self.run_stretch(most, out, board) {
+            Ok(stepped) => Ok(stepped.ticks),
+            Err(fault) => Err(fault),
+        }
+    }
+
+    /// Does at most `most` ticks of the current slot or gap, but only one where a slot begins, and stops after the first that prints
+    /// something or reaches beyond its partition. Returns how many it did, the one in which the hypervisor halts included. Before the last
+    /// of them, each partition received nothing but whether a slot of its own runs; `cue` returns what it received in the last. Their lines
+    /// are printed, and their console bytes are written to their UARTs. On `WriteFault` the current tick was done whole, its bytes were
+    /// written, and no later tick has begun.
+    pub fn span<O: Sink>(
+        &mut self,
+        most: u64,
+        out: &mut O,
+        board: &mut Board,
+    ) -> Result<u64, WriteFault>
+        // Called on a machine that has not halted, for at least one tick, and within the limit of ticks.
+        requires running { self.old.state.halted ≡ false }
+        requires some { 0 < most }
+        requires most { self.old.state.ticks + most ≤ TICKS }
+        // A span has at least one tick and at most this many; the state is that of as many defined steps, and their
+        // lines were printed. After `WriteFault` the last tick was done whole, and a prefix of the lines was printed.
+        ensures span { Spans result most self.old.state self.new.state (O.got out.old) (O.got out.new) }
+        // The script of each partition in these ticks is known from the last stimulus: in each tick before the last
+        // the partition received nothing but whether a slot of its own runs, which is as in the last.
+        ensures received { IfOk result (λ ticks. ReceiveSpan ticks self.old self.new) }
+        // What each partition received last can be written into a script: its lengths are in the ranges of a script's
+        // fields.
+        ensures ranges { IfOk result (λ ticks. ReceivesInRanges self.new) }
+        // Each UART got the console bytes of these ticks, the sink's count is the only cause of a fault, and no counter
+        // wraps.
+        ensures heard { IsRunHeard self.old.state self.new.state (⟦<Board as ViewBoard>⟧.board_view board.old) (⟦<Board as ViewBoard>⟧.board_view board.new) }
+        ensures cause { HasWriteCause result (O.faults out.old) (O.faults out.new) }
+        ensures counters { IsCounted self.new.state }
+    {
+        proof! {
+            keeps_facts();
+            keeps_numbers();
+            trades_few_bytes();
+        }
+        let left = span_left(self.kept.place_of(&self.sys));
+        match self.step(most.min(left), out, board) {
             Ok(stepped) => Ok(stepped.ticks),
             Err(fault) => Err(fault),
         }
@@ -417,6 +461,7 @@ impl Machine {
         requires most { self.old.state.ticks + most ≤ TICKS }
         ensures step { Steps result most self.old.state self.new.state (O.got out.old) (O.got out.new) }
         ensures kept { KeepsStepped result most self.old self.new }
+        ensures bare { IfOk result (λ stepped. AreBareTicks stepped.ticks self.old.state) }
         ensures few { IfOk result (λ stepped. stepped.lines ≤ 41) }
         ensures cause { HasWriteCause result (O.faults out.old) (O.faults out.new) }
         ensures heard { IsRunHeard self.old.state self.new.state (⟦<Board as ViewBoard>⟧.board_view board.old) (⟦<Board as ViewBoard>⟧.board_view board.new) }
@@ -530,6 +575,16 @@ impl Machine {
             clock: self.sys.now(),
             ticks: self.done(),
         }
+    }
+}
+
+// How many ticks of a slot or gap a span has at most: one where the slot begins.
+fn span_left(place: Place) -> u64
+    ensures { result ≡ span_left place }
+{
+    match place.slot {
+        Some(Here { first: true, .. }) => 1,
+        Some(Here { first: false, .. }) | None => place.left,
     }
 }
 

@@ -5,20 +5,22 @@ ghost use Rattle.xm_outside.specs.FileUart.{uart_file};
 
 use crate::store::Failed;
 use crate::uart::Uart;
-use crate::whole_file::synced;
+use crate::whole_file::{emptied, finish};
 use std::fs::OpenOptions;
-use std::io::Write;
+use std::io;
+use std::mem::ManuallyDrop;
 use std::rt::Files;
-use std::{fs, io};
 
 /// A file as a UART: `uart0.out` to `uart7.out` of the folder where the program runs. The first write makes the
-/// file, or empties one that was there, and later ones append to it. Without a write no file is touched. Between
-/// writes the file is not open: a value that held it could not be boxed as a UART.
+/// file, or empties one that was there, and later ones append to it. Without a write no file is touched. From its first
+/// write on the file stays open, and the system closes it when the program ends: a value that closes its file when it is
+/// dropped could not be boxed as a UART. The disk has the bytes of each write before the write ends.
 #[derive(Drop)]
-pub struct FileUart<R> {
+pub struct FileUart<R: Files> {
     rt: R,
     name: &'static str,
     made: bool,
+    file: Option<ManuallyDrop<R::File>>,
     faults: u64,
 }
 
@@ -37,6 +39,7 @@ impl<R: Files + Drop> FileUart<R> {
             rt,
             name: name_at(place),
             made: false,
+            file: None,
             faults: 0,
         }
     }
@@ -48,14 +51,23 @@ impl<R: Files + Drop> FileUart<R> {
         ensures made { OnOk result (self.new.made ≡ true) }
         ensures faults { self.new.faults ≡ self.old.faults }
     {
-        let mut file = if self.made {
-            OpenOptions::new().append(true).open(&self.rt, self.name)?
-        } else {
-            fs::create(&self.rt, self.name)?
+        let mut file = match self.file.take() {
+            Some(file) => file,
+            None => ManuallyDrop::new(self.open()?),
         };
         self.made = true;
-        file.write_all(bytes)?;
-        synced(&file)
+        let done = finish(&mut *file, bytes);
+        self.file = Some(file);
+        done
+    }
+
+    /// Opens the file to append to it: makes it, or empties one that was there.
+    fn open(&self) -> io::Result<R::File> {
+        let mut options = OpenOptions::new();
+        options.create(true).append(true);
+        let file = options.open(&self.rt, self.name)?;
+        emptied(&file)?;
+        Ok(file)
     }
 }
 

@@ -13,8 +13,8 @@ use crate::uart::Uart;
 use std::alloc::Global;
 use std::marker::Model;
 
-/// A sink that hands what it takes to a UART in memory, which keeps nothing of a call that fails. It takes at most so
-/// many bytes a call, and fails at the calls whose numbers it was given.
+/// A sink that hands what it takes to a UART in memory, which keeps nothing of a call that fails. It takes at most a
+/// given number of bytes a call, and fails at the calls whose numbers it was given.
 #[derive(Debug, Drop)]
 pub struct MemSink {
     uart: MemUart,

@@ -4,7 +4,8 @@ use crate::{
     Failed, FileStore, FileUart, MemSink, MemStore, MemUart, OutSink, Sink, Store, StoreFault,
     SureSink, SureUart, Uart, write_all,
 };
-use std::fs::{File, Permissions};
+use std::fs::{File, OpenOptions, Permissions};
+use std::io::Write;
 use std::os::unix::fs::{MetadataExt, PermissionsExt, symlink};
 use std::test::Fail;
 use std::{env, fs, io};
@@ -161,5 +162,30 @@ fn the_first_write_empties_a_file_of_before(rt: HostRuntime) -> Result<(), Fail>
     assert_eq!(rt; uart.write(b"a"), Err(Failed));
     assert_eq!(rt; uart.faulted(), 1);
     fs::remove_dir(&rt, "uart0.out")?;
+    Ok(())
+}
+
+#[test]
+fn what_others_do_with_an_open_file(rt: HostRuntime) -> Result<(), Fail> {
+    let dir = env::temp_dir(&rt)?;
+    env::set_current_dir(&rt, dir.as_str())?;
+    let mut uart = FileUart::new(rt, 6);
+    assert_eq!(rt; uart.write(b"first"), Ok(()));
+    let other = OpenOptions::new().append(true).open(&rt, "uart6.out")?;
+    other.set_len(2)?;
+    assert_eq!(rt; uart.write(b"-second"), Ok(()));
+    let shorter = fs::read_to_string(&rt, "uart6.out")?;
+    assert_eq!(rt; shorter.as_str(), "fi-second");
+    let mut other = OpenOptions::new().append(true).open(&rt, "uart6.out")?;
+    other.write_all(b"-other")?;
+    assert_eq!(rt; uart.write(b"-third"), Ok(()));
+    fs::rename(&rt, "uart6.out", "xm_outside_uart6")?;
+    assert_eq!(rt; uart.write(b"-fourth"), Ok(()));
+    let renamed = fs::read_to_string(&rt, "xm_outside_uart6")?;
+    fs::remove_file(&rt, "xm_outside_uart6")?;
+    assert_eq!(rt; renamed.as_str(), "fi-second-other-third-fourth");
+    assert_eq!(rt; uart.write(b"-fifth"), Ok(()));
+    assert_eq!(rt; uart.faulted(), 0);
+    assert!(rt; fs::metadata(&rt, "uart6.out").is_err());
     Ok(())
 }

@@ -39,17 +39,27 @@ pub(crate) fn store<R: Files + Alloc>(rt: &R, name: &str, bytes: &[u8]) -> io::R
 }
 
 /// Writes all of the bytes, and waits until they are on the disk.
-fn finish<F: Write + OpenFile>(file: &mut F, bytes: &[u8]) -> io::Result<()> {
+pub(crate) fn finish<F: Write + OpenFile>(file: &mut F, bytes: &[u8]) -> io::Result<()> {
     file.write_all(bytes)?;
     synced(file)
 }
 
 /// Waits until what was written is on the disk, so that a fault which only the end of writing shows is reported. A pipe
 /// or a device without a disk has no such wait, and answers `InvalidInput`.
-pub(crate) fn synced<F: OpenFile>(file: &F) -> io::Result<()> {
-    match file.sync_all() {
+fn synced<F: OpenFile>(file: &F) -> io::Result<()> {
+    unless_invalid(file.sync_all())
+}
+
+/// Takes all bytes away that a file has. A pipe or a device has none that stay, and answers `InvalidInput`.
+pub(crate) fn emptied<F: OpenFile>(file: &F) -> io::Result<()> {
+    unless_invalid(file.set_len(0))
+}
+
+/// An answer, or success where a file has no such operation.
+fn unless_invalid(answer: io::Result<()>) -> io::Result<()> {
+    match answer {
         Err(error) if error.kind() == ErrorKind::InvalidInput => Ok(()),
-        result => result,
+        answer => answer,
     }
 }
 

@@ -101,6 +101,18 @@ impl Channel {
         }
     }
 
+    /// Drops the message that waits longest in a queue, where one waits.
+    #[tactic(auto, unfolding(crate::specs::Channels::first_taken))]
+    pub(crate) fn drop_first(&mut self)
+        ensures shape { channel_shape self.new ≡ channel_shape self.old }
+        ensures content { channel_content self.new ≡ first_taken (channel_content self.old) }
+    {
+        match self {
+            Channel::Sampling(_) => {}
+            Channel::Queuing(state) => state.drop_first(),
+        }
+    }
+
     /// How many messages wait in a queue.
     pub(crate) fn count(&self) -> usize
         ensures value { result ≡ length (messages_of (channel_content self.now)) }

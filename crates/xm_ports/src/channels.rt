@@ -110,6 +110,16 @@ impl Channels {
         self.channels[usize::from(chan)].receive(into)
     }
 
+    /// Drops the message that waits longest in a queue, where one waits.
+    pub fn drop_first(&mut self, chan: u8)
+        // Called for a queue.
+        requires channel { HasQueue chan self.old }
+        // The queue is as before without its first message; an empty one stays as it is.
+        ensures dropped { self.new ≡ with_content first_taken chan self.old }
+    {
+        self.channels[usize::from(chan)].drop_first();
+    }
+
     /// How many messages wait in a queue.
     pub fn count(&self, chan: u8) -> usize
         // Called for a queue.

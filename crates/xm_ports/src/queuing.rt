@@ -84,13 +84,22 @@ impl QueuingChannel {
         ensures taken { self.new ≡ record { most = self.old.most; length = self.old.length; messages = drop 1 self.old.messages } }
         ensures unchanged { IfNone result (into.new ≡ into.old) }
     {
-        if self.waiting.is_empty() {
-            return None;
-        }
-        let room = self.waiting.remove(0);
-        let count = copy_to(room.bytes(), into);
-        self.free.push_reserved(room);
+        let count = match self.waiting.first() {
+            Some(room) => copy_to(room.bytes(), into),
+            None => return None,
+        };
+        self.drop_first();
         Some(count)
+    }
+
+    /// Drops the message that waits longest, where one waits.
+    pub(crate) fn drop_first(&mut self)
+        ensures value { self.new ≡ record { most = self.old.most; length = self.old.length; messages = drop 1 self.old.messages } }
+    {
+        if !self.waiting.is_empty() {
+            let room = self.waiting.remove(0);
+            self.free.push_reserved(room);
+        }
     }
 
     /// How many messages wait.

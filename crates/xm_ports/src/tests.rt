@@ -193,11 +193,13 @@ enum Call {
     Put(&'static [u8], u64),
     /// The message that the sampling channel holds, with its time.
     Hold(Option<(u64, &'static [u8])>),
+    /// The first message of the queue is dropped.
+    Drop,
     /// All messages are dropped.
     Clear,
 }
 
-const CALLS: [Call; 32] = [
+const CALLS: [Call; 40] = [
     Call::Receive(None, [0; 8]),
     Call::Wait(0, None),
     Call::Send(b"ab", Ok(())),
@@ -230,6 +232,14 @@ const CALLS: [Call; 32] = [
     Call::Send(b"f", Err(Full)),
     Call::Wait(2, Some(b"d")),
     Call::Hold(None),
+    Call::Drop,
+    Call::Wait(1, Some(b"e")),
+    Call::Send(b"f", Ok(())),
+    Call::Drop,
+    Call::Wait(1, Some(b"f")),
+    Call::Drop,
+    Call::Drop,
+    Call::Wait(0, None),
 ];
 
 /// Whether a message is sent to the queue, with this answer.
@@ -300,6 +310,10 @@ fn is_right(channels: &mut Channels, call: &Call, into: &mut [u8; 8]) -> bool
         Call::Wait(count, first) => wait(channels, *count, *first),
         Call::Put(bytes, now) => is_put(channels, bytes, *now),
         Call::Hold(held) => holds(channels, *held),
+        Call::Drop => {
+            channels.drop_first(QUEUE);
+            true
+        }
         Call::Clear => {
             channels.clear();
             true

@@ -1,8 +1,8 @@
 -- What the calls on messages test, and what they may rely on.
-use Rattle.std.specs.Prelude.{ℕ, ◌<◌, ⊤, List, [], ◌∷◌, length, nat_lt, Option, Some, None}
+use Rattle.std.specs.Prelude.{◌≡◌, ℕ, ◌<◌, ⊤, List, [], ◌∷◌, length, nat_lt, Option, Some, None}
 use Rattle.xm_conf.specs.declared.channel.ChanKind.{ChanKind}
 use Rattle.xm_conf.specs.declared.channel.ChanKind.TheVariants as chan_kind
-use Rattle.xm_ports.specs.Channels.{content_at, messages_of}
+use Rattle.xm_ports.specs.Channels.{HeldSample, content_at, messages_of}
 use Rattle.machine_model.specs.Caller.{Caller, Test, b_of, c_of, d_of, invalid_parameter, refused_if, room, text}
 use Rattle.machine_model.specs.PortEffects.{MadePort, size_fits, source_only}
 use Rattle.port_calls.specs.MadePorts.{table_in}
@@ -30,3 +30,10 @@ message_tests caller size = refused_if (nat_lt (c_of caller) size) invalid_param
 abbrev pub HasRoomFor : ChanKind → ℕ → SysState → Type 0
 HasRoomFor (chan_kind.Sampling refresh) chan sys = ⊤
 HasRoomFor (chan_kind.Queuing most) chan sys = length (messages_of (content_at chan (table_in sys))) < most
+
+-- a time and a size are those of the message that a sampling channel holds, where it holds one
+abbrev pub IsHeadOf : Option (ℕ × ℕ) → Option HeldSample → Type 0
+IsHeadOf None None = ⊤
+IsHeadOf None (Some sample) = ⊥
+IsHeadOf (Some head) None = ⊥
+IsHeadOf (Some head) (Some sample) = (head.0 ≡ sample.time) × (head.1 ≡ length sample.bytes)

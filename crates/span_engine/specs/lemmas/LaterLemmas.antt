@@ -10,7 +10,7 @@ use Rattle.xm_conf.specs.Configuration.{Conf}
 use Rattle.xm_conf.specs.declared.plan.Slot.{Slot}
 use Rattle.machine_model.specs.Facts.{RunsKeepNumbers}
 use Rattle.machine_model.specs.Machine as machine
-use Rattle.machine_model.specs.Machine.{Machine, after, clock_after, happened, happened_by, local, next_clock, run, step, step_unless}
+use Rattle.machine_model.specs.Machine.{Machine, after, clock_after, happened, happened_by, local, next_clock, run, step, step_unless, turn_here, turn_of}
 use Rattle.machine_model.specs.Emission as emission
 use Rattle.machine_model.specs.Emission.{Act}
 use Rattle.machine_model.specs.View.{System}
@@ -179,3 +179,8 @@ later_at keeps g mid place ticks at some less is runs quiet = record {
         subst (λ (s : System). P s mid.clock mid.time) (sym (ap (λ (m : Machine). m.system) is ∙ (keeps g ticks).system))
         (subst (λ (c : CyclicClock). P g.system c mid.time) (sym (ap (λ (m : Machine). m.clock) is ∙ inside.clock))
         (subst (λ (now : ℕ). P g.system g.clock now) (sym (ap (λ (m : Machine). m.time) is ∙ inside.time)) holds))
+
+-- whose slot a machine at a place is in
+pub turn_at : (place : Place) (g : Machine) → IsAt place g → turn_here place.slot ≡ turn_of g
+unfolding turn_of
+turn_at place g at = ap turn_here at.slot

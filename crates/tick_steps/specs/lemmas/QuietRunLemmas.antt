@@ -1,5 +1,5 @@
--- Ticks of which none has an act that ends a stretch, and more of them.
-use Rattle.std.proofs.Common.{◌≡◌, ⊎_elim, ℕ, zero, suc, ◌+◌, ◌-◌, ◌<◌, ◌≤◌, Bool, false, refl, sym, ap, ◌∙◌, arith}
+-- Ticks of which none has an act that ends a stretch, and more of them; and ticks in which partitions receive nothing but whose slot it is.
+use Rattle.std.proofs.Common.{◌≡◌, ⊎_elim, ℕ, zero, suc, ◌+◌, ◌-◌, ◌<◌, ◌≤◌, Bool, false, refl, sym, ap, subst, ◌∙◌, arith}
 use Rattle.std.proofs.lemmas.Bool.{cases_lt}
 use Rattle.machine_model.specs.Machine as machine
 use Rattle.machine_model.specs.Machine.{Machine, after, happened, happened_by, is_halt, local, run, step, step_unless}
@@ -7,6 +7,7 @@ use Rattle.machine_model.specs.Emission as emission
 use Rattle.machine_model.specs.Emission.{Act}
 use Rattle.machine_model.specs.Whole.{event_of}
 use Rattle.span_model.specs.lemmas.RunLemmas.{run_add, run_more}
+use Rattle.tick_steps.specs.Kept.{AreBareTicks, IsBareTick}
 use Rattle.tick_steps.specs.Quiet.{AreQuiet, ends_in, ends_stretch}
 
 -- an act that ends no stretch does not halt the hypervisor
@@ -51,3 +52,28 @@ quiet_on g mid done more is all quiet k below = ⊎_elim (λ less. all k less) l
   where
     later : done ≤ k → ends_in (run g k) ≡ false
     later from = run_from g mid done k is from ∙ quiet (k - done) (omega (arith, below, from))
+
+-- in none of this many ticks partitions receive anything but whose slot it is
+abbrev pub AllBare : ℕ → Machine → Type 0
+AllBare count g = (k : ℕ) → k < count → IsBareTick (run g k)
+
+-- bare ticks of which the last is so, too
+pub all_bare : (count : ℕ) (g : Machine) → AreBareTicks count g → (0 < count → IsBareTick (run g (count - 1))) → AllBare count g
+all_bare count g bare last k below =
+    ⊎_elim (λ less. bare k less) (λ from. subst (λ (n : ℕ). IsBareTick (run g n)) (sym (the_last from)) (last (omega (arith, below)))) (cases_lt (k + 1) count)
+  where
+    the_last : count ≤ k + 1 → k ≡ count - 1
+    the_last from = omega (arith, from, below)
+
+-- a bare tick after others
+bare_from : (g mid : Machine) (done k : ℕ) → mid ≡ run g done → done ≤ k → IsBareTick (run mid (k - done)) → IsBareTick (run g k)
+bare_from g mid done k is from bare =
+    let rest : k ≡ done + (k - done) = omega (arith, from) in
+    subst IsBareTick (sym (ap (run g) rest ∙ run_add g done (k - done) ∙ ap (λ (m : Machine). run m (k - done)) (sym is))) bare
+
+-- bare ticks, and more of them
+pub bare_on : (g mid : Machine) (done more : ℕ) → mid ≡ run g done → AllBare done g → AreBareTicks more mid → AreBareTicks (done + more) g
+bare_on g mid done more is all bare k below = ⊎_elim (λ less. all k less) later (cases_lt k done)
+  where
+    later : done ≤ k → IsBareTick (run g k)
+    later from = bare_from g mid done k is from (bare (k - done) (omega (arith, below, from)))

@@ -24,7 +24,7 @@ use Rattle.span_model.specs.Passes.{part_at, rest_but, with_part}
 use Rattle.span_model.specs.SpanLaws.{IsAwake, its_areas, met}
 use Rattle.span_model.specs.Spans.{IsSlotOf, IsStretch}
 use Rattle.span_model.specs.Undisturbed.{IsUndisturbed}
-use Rattle.tick_steps.specs.Kept.{kept_by, kept_tick}
+use Rattle.tick_steps.specs.Kept.{AreBareTicks, kept_by, kept_tick}
 use Rattle.tick_steps.specs.Quiet.{AreQuiet, ends_in}
 use Rattle.tick_steps.specs.declared.beyond.Beyond.TheVariants as beyond
 use Rattle.tick_steps.specs.declared.span.Span.{Span}
@@ -37,7 +37,8 @@ IsLastKept span old new =
     ≡ kept_by (turn_after (span.ticks - 1) (turn_of old)) span.worked span.note span.reach (memory_of span.part new)
 
 -- ticks of one slot or gap were done, from a machine that stands before the system's; in the last the hypervisor may have halted; only the
--- last has lines, which are these, but for one of bytes for the console, and only the last may have an act that ends a stretch
+-- last has lines, which are these, but for one of bytes for the console, only the last may have an act that ends a stretch, and only in the
+-- last partitions may receive more than whose slot it is
 pub record AreDoneFrom (span : Span) (most : ℕ) (g : Machine) (old new : SysState) (got : List ReportLine) : Type 0 where
   pub some : 0 < span.ticks
   pub within : span.ticks ≤ most
@@ -51,6 +52,7 @@ pub record AreDoneFrom (span : Span) (most : ℕ) (g : Machine) (old new : SysSt
   pub kept : IsLastKept span g new.machine
   pub quiet : AreQuiet span.ticks g
   pub ends : ends_in (run g (span.ticks - 1)) ≡ ends_so span.note span.reach
+  pub bare : AreBareTicks span.ticks g
 
 -- the last of the ticks of a span emits nothing, it has no lines, and it reaches beyond no partition
 pub record IsSilent (span : Span) (got : List ReportLine) : Type 0 where

@@ -4,4 +4,4 @@ use Rattle.port_calls.proofs.traffic.drop_first.Goals as goal
 
 pub returns : goal.returns
 returns c =
-    take_done c.args.sys.now _ c.channels_mut.result.now c.receive.new.self c.args.chan c.receive.result c.channels_mut.ensures.contents c.channels_mut.ensures.shapes c.receive.ensures.length c.requires.first c.receive.ensures.taken refl
+    take_done c.args.sys.now _ c.channels_mut.result.now c.drop_first.new.self c.args.chan c.channels_mut.ensures.contents c.channels_mut.ensures.shapes c.drop_first.ensures.dropped refl

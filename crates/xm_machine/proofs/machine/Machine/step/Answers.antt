@@ -1,6 +1,7 @@
 use Rattle.xm_machine.proofs.CuedLemmas.{keeps_so}
 use Rattle.xm_machine.proofs.GoingLemmas.{cause_so, few_so, step_so}
 use Rattle.xm_machine.proofs.HeardLemmas.{span_heard}
+use Rattle.xm_machine.proofs.SpanLemmas.{bare_so}
 use Rattle.tick_steps.specs.lemmas.KeptLemmas.{kept_ticks}
 use Rattle.xm_machine.proofs.machine.Machine.step.Goals as goal
 
@@ -41,3 +42,7 @@ pub returns-clause-kept : goal.returns-clause-kept
 returns-clause-kept g c =
     rw (c.stepped_by.ensures, ← c.self.view_is) (keeps_so c.print_tick.result c.ends_stretch-ends.result c.run-span.result c.args.most c.self.inside.sys c.run-span.new.sys c.run-span.new.lines c.self.inside.kept c.run-span.new.self c.run-span.ensures.done
     c.run-span.ensures.kept)
+
+pub returns-clause-bare : goal.returns-clause-bare
+returns-clause-bare g c =
+    rw (c.stepped_by.ensures, ← c.self.view_is) (bare_so c.print_tick.result c.run-span.result.ticks c.ends_stretch-ends.result c.self.inside.sys.machine c.run-span.ensures.bare)
