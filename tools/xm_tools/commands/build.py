@@ -1,0 +1,142 @@
+"""usage: xm build XML DIR
+
+Makes all that a run needs in the folder DIR: configuration, images and container of the description XML, by the names of its
+partitions. What a description has not stands beside it in a file of the same name that ends in .toml:
+
+  [programs]
+  control = "control.elf"                 a program file of a linker
+  payload = ["payload.c", "filter.c"]     or its sources: they are linked with examples/guests
+  [inputs]
+  payload = "readings.bin"                the words that the partition reads
+  [run]
+  frames = 12                             how long `xm run DIR` runs without an option
+
+For guests it writes areas.h (numbers, areas and names of ports), a linker script for each partition (NAME.ld), and
+partition.mk (areas and numbers for make), so that none of these is written twice. An area in which a program has nothing is
+warned of.
+"""
+
+import os
+import re
+import shutil
+import subprocess
+from pathlib import Path
+
+from xm_tools.building import BUILT, BuildFile, Built, Program, read_build_file, words_of_partitions
+from xm_tools.container import Image, read_image
+from xm_tools.description import read_description
+from xm_tools.failure import WELL, Unusable
+from xm_tools.files import content_of, make_folder, write
+from xm_tools.generated import header, linker_script, make_rules
+from xm_tools.program import needed
+from xm_tools.system import Partition, System
+from xm_tools.words import words_of
+
+USAGE = "xm build XML DIR"
+SPACED = re.compile(r"[\s$#:]")
+# Where the headers of guests are: in the checkout, or where a package has them.
+GUESTS = ["examples/guests", "share/xm_run/guests"]
+
+
+def guests_folder() -> str:
+    for above in Path(__file__).resolve().parents:
+        for below in GUESTS:
+            if (above / below / "guest.mk").is_file():
+                return str(above / below)
+    raise Unusable("the folder examples/guests is not found, which linking needs")
+
+
+class Build:
+    """A folder in which a system is made."""
+
+    def __init__(self, xml: str, folder: str) -> None:
+        self.xml, self.folder = xml, Path(folder)
+        self.system: System = read_description(xml)
+        self.given: BuildFile = read_build_file(str(Path(xml).with_suffix(".toml")), self.system)
+        self.words = words_of_partitions(self.system)
+
+    def path(self, name: str) -> str:
+        return str(self.folder / name)
+
+    def make(self) -> None:
+        make_folder(str(self.folder))
+        self.configure()
+        self.generate()
+        self.link()
+        images = []
+        for partition in self.system.partitions:
+            images.append(f"{partition.number}={self.image(partition)}")
+        packed = needed(["xmpack", "build", self.path("system.xmc"), self.path("system.xmp"), *images])
+        print(f"container {self.path('system.xmp')}: {packed.strip()}")
+        self.keep()
+
+    def configure(self) -> None:
+        hint = f": xm check-description {self.xml} shows where and why"
+        made = needed(["xmcparser", self.xml, self.path("system.xmc")], hint=hint)
+        print(f"configuration {made.strip()}")
+
+    def generate(self) -> None:
+        write(self.path("areas.h"), header(self.system).encode())
+        for partition in self.system.partitions:
+            write(self.path(f"{self.words[partition.number]}.ld"), linker_script(partition).encode())
+        folder, programs = str(self.folder.resolve()), self.given.programs
+        guests = guests_folder()
+        write(self.path("partition.mk"), make_rules(self.system, programs, folder, guests).encode())
+
+    def link(self) -> None:
+        """Links what is made of sources, by make."""
+        if not any(program.sources for program in self.given.programs.values()):
+            return
+        paths = [str(self.folder.resolve()), *(source for program in self.given.programs.values() for source in program.sources)]
+        spaced = next((path for path in paths if SPACED.search(path)), None)
+        if spaced:
+            raise Unusable(f"{spaced}: make takes no blanks, `$`, `#` or `:` in names")
+        if not shutil.which("make"):
+            raise Unusable("there is no make, which links programs of sources")
+        done = subprocess.run(
+            ["make", "-s", "-f", self.path("partition.mk")],
+            stdin=subprocess.DEVNULL,
+            capture_output=True,
+            text=True,
+            errors="replace",
+            check=False,
+        )
+        if done.returncode:
+            lines = done.stderr.splitlines()
+            errors = [line for line in lines if "error" in line.lower() or "***" in line] or lines
+            raise Unusable(f"not linked: {errors[0] if errors else f'make ended with {done.returncode}'}")
+
+    def image(self, partition: Partition) -> str:
+        """Makes the image of a partition's program, and gives its path."""
+        program: Program = self.given.programs[partition.number]
+        word = self.words[partition.number]
+        elf = self.path(f"{word}.elf") if program.sources else program.elf
+        path = self.path(f"{word}.xef")
+        made = needed(["xmeformat", "build", elf, path])
+        image = read_image(path, content_of(path))
+        print(f"{self.system.title(partition.number)}: {made.strip()} entry={image.entry:08x} of {os.path.relpath(elf)}")
+        self.warn(partition, image)
+        return path
+
+    def warn(self, partition: Partition, image: Image) -> None:
+        for area in partition.areas:
+            inside = [segment for segment in image.segments if area.start <= segment.address < area.end]
+            if not inside:
+                print(f"{self.system.title(partition.number)}: warning: its program has nothing in the area at {area.start:08x}")
+
+    def keep(self) -> None:
+        inputs = {}
+        for number, path in self.given.inputs.items():
+            word = self.words[number]
+            write(self.path(f"{word}.input"), content_of(path))
+            inputs[word] = f"{word}.input"
+        names = [partition.name for partition in self.system.partitions]
+        words = [self.words[partition.number] for partition in self.system.partitions]
+        built = Built("system.xmp", names, words, inputs, self.given.frames)
+        write(self.path(BUILT), built.text().encode())
+
+
+def run(given: list[str]) -> int:
+    words = words_of(USAGE, given, 2, 2)
+    Build(*words.plain).make()
+    return WELL
