@@ -8,6 +8,8 @@
 ! The trap has a window of its own, made free by the machine: locals 0 to 2 are the psr and both program counters, and its
 ! ins are the outs of what was interrupted, so that %fp is the stack pointer there. Window traps come only where a stack
 ! can't be used, and go to the health monitor: windows are spilled and filled without handlers.
+!
+! With XM_FLUSH_TRAP, the type of `ta 3`, that trap spills the windows to their stacks by call 37, and nothing else.
 #include <xm.h>
 
         .set    trap, 96                ! where struct xm_trap stands in the frame
@@ -17,8 +19,20 @@
         .set    type, 0
         .rept   256
         at_trap trap_entries, type
+#ifdef XM_FLUSH_TRAP
+        .if     type == XM_FLUSH_TRAP
+        mov     37, %o0                 ! all windows but the handler's
+        ta      0x70
+        ba      passed
+        mov     %l2, %l1
+        .else
         ba      enter
         mov     type, %l3
+        .endif
+#else
+        ba      enter
+        mov     type, %l3
+#endif
         .set    type, type + 1
         .endr
         .org    trap_entries + 4096
@@ -47,5 +61,10 @@ enter:  sub     %fp, frame, %sp
         return_from_trap
 1:      ba      1b                      ! a pc that is no multiple of 4
         nop
+
+#ifdef XM_FLUSH_TRAP
+passed: add     %l2, 4, %l2             ! on after the trap instruction
+        return_from_trap
+#endif
 
         .section .note.GNU-stack, "", @progbits

@@ -29,6 +29,17 @@
 
 #else
 
+#ifdef __cplusplus
+extern "C" {
+#endif
+
+/* For C of any year, and C++. */
+#define XM_INLINE static __inline__
+#define XM_HAS_SIZE(structure, size) typedef char structure##_has_its_size[sizeof(struct structure) == (size) ? 1 : -1]
+
+/* Of a call whose result a guest has to look at: the compiler warns where it does not. */
+#define XM_RESULT_MATTERS __attribute__((warn_unused_result))
+
 /* The numbers. */
 enum {
     XM_NR_get_self = 1,
@@ -68,7 +79,7 @@ enum {
     XM_NR_sparc_set_psr = 35,
     XM_NR_sparc_set_tbr = 36,
     XM_NR_sparc_flush_regwin = 37,
-    XM_NR_raise_ipvi = 38,
+    XM_NR_raise_ipvi = 38
 };
 
 /* Results; 0 or more is done. */
@@ -80,7 +91,7 @@ enum {
     XM_INVALID_CONFIGURATION = -5,
     XM_INVALID_MODE = -6,
     XM_NOT_AVAILABLE = -7,
-    XM_NOT_ALLOWED = -8,
+    XM_NOT_ALLOWED = -8
 };
 
 /* Arguments that have names. */
@@ -99,7 +110,7 @@ enum {
     XM_SAMPLING_PORT = 3,
     XM_QUEUING_PORT = 4,
     XM_SLOT_START = 5,
-    XM_LINK = 8, /* link n brings XM_LINK + n */
+    XM_LINK = 8 /* link n brings XM_LINK + n */
 };
 #define XM_INTERRUPT_TRAP(interrupt) (0xe0 + (interrupt))
 
@@ -119,7 +130,7 @@ enum {
     XM_HM_EV_SPARC_TAG_OVERFLOW = 8,
     XM_HM_EV_SPARC_DIVIDE_EXCEPTION = 9,
     XM_HM_EV_SPARC_INSTR_ACCESS = 10,
-    XM_HM_EV_SPARC_DATA_ACCESS = 11,
+    XM_HM_EV_SPARC_DATA_ACCESS = 11
 };
 enum {
     XM_HM_AC_IGNORE = 0,
@@ -132,11 +143,11 @@ enum {
     XM_HM_AC_HYPERVISOR_COLD_RESET = 7,
     XM_HM_AC_HYPERVISOR_WARM_RESET = 8,
     XM_HM_AC_HYPERVISOR_HALT = 9,
-    XM_HM_AC_SWITCH_TO_MAINTENANCE = 10,
+    XM_HM_AC_SWITCH_TO_MAINTENANCE = 10
 };
 
 typedef unsigned int xm_word;
-typedef long long xm_time; /* microseconds; a tick is one */
+__extension__ typedef long long xm_time; /* microseconds; a tick is one */
 
 /* What calls write. Numbers of 8 bytes stand at multiples of 4. */
 #define XM_WRITTEN __attribute__((packed, aligned(4)))
@@ -197,14 +208,14 @@ struct xm_counts {
     xm_word next;
 } XM_WRITTEN;
 
-_Static_assert(sizeof(struct xm_partition_status) == 20, "as it is written");
-_Static_assert(sizeof(struct xm_system_status) == 8, "as it is written");
-_Static_assert(sizeof(struct xm_plan_status) == 20, "as it is written");
-_Static_assert(sizeof(struct xm_sampling_status) == 16, "as it is written");
-_Static_assert(sizeof(struct xm_queuing_status) == 8, "as it is written");
-_Static_assert(sizeof(struct xm_trace_entry) == 24, "as it is written");
-_Static_assert(sizeof(struct xm_health_entry) == 20, "as it is written");
-_Static_assert(sizeof(struct xm_counts) == 8, "as it is written");
+XM_HAS_SIZE(xm_partition_status, 20);
+XM_HAS_SIZE(xm_system_status, 8);
+XM_HAS_SIZE(xm_plan_status, 20);
+XM_HAS_SIZE(xm_sampling_status, 16);
+XM_HAS_SIZE(xm_queuing_status, 8);
+XM_HAS_SIZE(xm_trace_entry, 24);
+XM_HAS_SIZE(xm_health_entry, 20);
+XM_HAS_SIZE(xm_counts, 8);
 
 /* The state that a trap interrupted, for handle_trap (traps.S). What the handler changes here the return takes. */
 struct xm_trap {
@@ -218,7 +229,7 @@ extern const char trap_entries[];
 void handle_trap(unsigned type, struct xm_trap *trap);
 
 /* A call changes %o0 and what it writes to memory, and no other register. */
-static inline int xm_call(xm_word number, xm_word a, xm_word b, xm_word c, xm_word d, xm_word e)
+XM_INLINE int xm_call(xm_word number, xm_word a, xm_word b, xm_word c, xm_word d, xm_word e)
 {
     register xm_word o0 __asm__("o0") = number;
     register xm_word o1 __asm__("o1") = a;
@@ -230,14 +241,14 @@ static inline int xm_call(xm_word number, xm_word a, xm_word b, xm_word c, xm_wo
     return (int)o0;
 }
 
-static inline int xm_call_0(xm_word number)
+XM_INLINE int xm_call_0(xm_word number)
 {
     register xm_word o0 __asm__("o0") = number;
     __asm__ volatile("ta 0x70" : "+r"(o0) : : "cc", "memory");
     return (int)o0;
 }
 
-static inline int xm_call_1(xm_word number, xm_word a)
+XM_INLINE int xm_call_1(xm_word number, xm_word a)
 {
     register xm_word o0 __asm__("o0") = number;
     register xm_word o1 __asm__("o1") = a;
@@ -245,7 +256,7 @@ static inline int xm_call_1(xm_word number, xm_word a)
     return (int)o0;
 }
 
-static inline int xm_call_2(xm_word number, xm_word a, xm_word b)
+XM_INLINE int xm_call_2(xm_word number, xm_word a, xm_word b)
 {
     register xm_word o0 __asm__("o0") = number;
     register xm_word o1 __asm__("o1") = a;
@@ -254,7 +265,7 @@ static inline int xm_call_2(xm_word number, xm_word a, xm_word b)
     return (int)o0;
 }
 
-static inline int xm_call_3(xm_word number, xm_word a, xm_word b, xm_word c)
+XM_INLINE int xm_call_3(xm_word number, xm_word a, xm_word b, xm_word c)
 {
     register xm_word o0 __asm__("o0") = number;
     register xm_word o1 __asm__("o1") = a;
@@ -264,7 +275,7 @@ static inline int xm_call_3(xm_word number, xm_word a, xm_word b, xm_word c)
     return (int)o0;
 }
 
-static inline int xm_call_4(xm_word number, xm_word a, xm_word b, xm_word c, xm_word d)
+XM_INLINE int xm_call_4(xm_word number, xm_word a, xm_word b, xm_word c, xm_word d)
 {
     register xm_word o0 __asm__("o0") = number;
     register xm_word o1 __asm__("o1") = a;
@@ -277,123 +288,123 @@ static inline int xm_call_4(xm_word number, xm_word a, xm_word b, xm_word c, xm_
 
 /* Partitions and the system. */
 
-static inline int XM_get_self(void)
+XM_INLINE int XM_get_self(void)
 {
     return xm_call_0(XM_NR_get_self);
 }
 
 /* Halts a partition. Of its own number it does not come back. */
-static inline int XM_halt_partition(unsigned partition)
+XM_INLINE int XM_halt_partition(unsigned partition)
 {
     return xm_call_1(XM_NR_halt_partition, partition);
 }
 
-static inline int XM_reset_partition(unsigned partition, unsigned mode, unsigned status)
+XM_INLINE int XM_reset_partition(unsigned partition, unsigned mode, unsigned status)
 {
     return xm_call_3(XM_NR_reset_partition, partition, mode, status);
 }
 
-static inline int XM_suspend_partition(unsigned partition)
+XM_INLINE int XM_suspend_partition(unsigned partition)
 {
     return xm_call_1(XM_NR_suspend_partition, partition);
 }
 
-static inline int XM_resume_partition(unsigned partition)
+XM_INLINE int XM_resume_partition(unsigned partition)
 {
     return xm_call_1(XM_NR_resume_partition, partition);
 }
 
-static inline int XM_shutdown_partition(unsigned partition)
+XM_INLINE int XM_shutdown_partition(unsigned partition)
 {
     return xm_call_1(XM_NR_shutdown_partition, partition);
 }
 
-static inline int XM_idle_self(void)
+XM_INLINE int XM_idle_self(void)
 {
     return xm_call_0(XM_NR_idle_self);
 }
 
-static inline int XM_get_partition_status(unsigned partition, struct xm_partition_status *status)
+XM_INLINE int XM_get_partition_status(unsigned partition, struct xm_partition_status *status)
 {
     return xm_call_2(XM_NR_get_partition_status, partition, (xm_word)status);
 }
 
-static inline int XM_halt_system(void)
+XM_INLINE int XM_halt_system(void)
 {
     return xm_call_0(XM_NR_halt_system);
 }
 
-static inline int XM_reset_system(unsigned mode)
+XM_INLINE int XM_reset_system(unsigned mode)
 {
     return xm_call_1(XM_NR_reset_system, mode);
 }
 
-static inline int XM_get_system_status(struct xm_system_status *status)
+XM_RESULT_MATTERS XM_INLINE int XM_get_system_status(struct xm_system_status *status)
 {
     return xm_call_1(XM_NR_get_system_status, (xm_word)status);
 }
 
 /* Clocks, timers and plans. */
 
-static inline int XM_get_time(unsigned clock, xm_time *time)
+XM_INLINE int XM_get_time(unsigned clock, xm_time *time)
 {
     return xm_call_2(XM_NR_get_time, clock, (xm_word)time);
 }
 
-static inline int XM_set_timer(unsigned clock, xm_time deadline, xm_time interval)
+XM_INLINE int XM_set_timer(unsigned clock, xm_time deadline, xm_time interval)
 {
     return xm_call(XM_NR_set_timer, clock, (xm_word)(deadline >> 32), (xm_word)deadline,
         (xm_word)(interval >> 32), (xm_word)interval);
 }
 
-static inline int XM_switch_sched_plan(unsigned plan, xm_word *current)
+XM_INLINE int XM_switch_sched_plan(unsigned plan, xm_word *current)
 {
     return xm_call_2(XM_NR_switch_sched_plan, plan, (xm_word)current);
 }
 
-static inline int XM_get_plan_status(struct xm_plan_status *status)
+XM_RESULT_MATTERS XM_INLINE int XM_get_plan_status(struct xm_plan_status *status)
 {
     return xm_call_1(XM_NR_get_plan_status, (xm_word)status);
 }
 
 /* Ports. A name ends with a zero byte, within 32 bytes. */
 
-static inline int XM_create_sampling_port(const char *name, unsigned length, unsigned way)
+XM_RESULT_MATTERS XM_INLINE int XM_create_sampling_port(const char *name, unsigned length, unsigned way)
 {
     return xm_call_3(XM_NR_create_sampling_port, (xm_word)name, length, way);
 }
 
-static inline int XM_write_sampling_message(unsigned port, const void *message, unsigned size)
+XM_INLINE int XM_write_sampling_message(unsigned port, const void *message, unsigned size)
 {
     return xm_call_3(XM_NR_write_sampling_message, port, (xm_word)message, size);
 }
 
-static inline int XM_read_sampling_message(unsigned port, void *message, unsigned size, xm_word *valid)
+XM_RESULT_MATTERS XM_INLINE int XM_read_sampling_message(unsigned port, void *message, unsigned size, xm_word *valid)
 {
     return xm_call_4(XM_NR_read_sampling_message, port, (xm_word)message, size, (xm_word)valid);
 }
 
-static inline int XM_get_sampling_port_status(unsigned port, struct xm_sampling_status *status)
+XM_RESULT_MATTERS XM_INLINE int XM_get_sampling_port_status(unsigned port, struct xm_sampling_status *status)
 {
     return xm_call_2(XM_NR_get_sampling_port_status, port, (xm_word)status);
 }
 
-static inline int XM_create_queuing_port(const char *name, unsigned messages, unsigned length, unsigned way)
+XM_RESULT_MATTERS XM_INLINE int XM_create_queuing_port(const char *name, unsigned messages, unsigned length, unsigned way)
 {
     return xm_call_4(XM_NR_create_queuing_port, (xm_word)name, messages, length, way);
 }
 
-static inline int XM_send_queuing_message(unsigned port, const void *message, unsigned size)
+XM_RESULT_MATTERS XM_INLINE int XM_send_queuing_message(unsigned port, const void *message, unsigned size)
 {
     return xm_call_3(XM_NR_send_queuing_message, port, (xm_word)message, size);
 }
 
-static inline int XM_receive_queuing_message(unsigned port, void *message, unsigned size)
+XM_RESULT_MATTERS XM_INLINE int XM_receive_queuing_message(unsigned port, void *message, unsigned size)
 {
     return xm_call_3(XM_NR_receive_queuing_message, port, (xm_word)message, size);
 }
 
-static inline int XM_get_queuing_port_status(unsigned port, struct xm_queuing_status *status)
+XM_RESULT_MATTERS XM_INLINE int XM_get_queuing_port_status(unsigned port, struct xm_queuing_status *status)
 {
     return xm_call_2(XM_NR_get_queuing_port_status, port, (xm_word)status);
 }
@@ -401,85 +412,89 @@ static inline int XM_get_queuing_port_status(unsigned port, struct xm_queuing_st
 /* Traces and the health log. */
 
 /* Reads 8 bytes. */
-static inline int XM_trace_event(unsigned bits, const void *bytes)
+XM_INLINE int XM_trace_event(unsigned bits, const void *bytes)
 {
     return xm_call_2(XM_NR_trace_event, bits, (xm_word)bytes);
 }
 
-static inline int XM_trace_read(unsigned partition, unsigned number, struct xm_trace_entry *entry)
+XM_RESULT_MATTERS XM_INLINE int XM_trace_read(unsigned partition, unsigned number, struct xm_trace_entry *entry)
 {
     return xm_call_3(XM_NR_trace_read, partition, number, (xm_word)entry);
 }
 
-static inline int XM_trace_status(unsigned partition, struct xm_counts *counts)
+XM_RESULT_MATTERS XM_INLINE int XM_trace_status(unsigned partition, struct xm_counts *counts)
 {
     return xm_call_2(XM_NR_trace_status, partition, (xm_word)counts);
 }
 
-static inline int XM_hm_raise_event(unsigned word)
+XM_INLINE int XM_hm_raise_event(unsigned word)
 {
     return xm_call_1(XM_NR_hm_raise_event, word);
 }
 
-static inline int XM_hm_read(unsigned partition, unsigned number, struct xm_health_entry *entry)
+XM_RESULT_MATTERS XM_INLINE int XM_hm_read(unsigned partition, unsigned number, struct xm_health_entry *entry)
 {
     return xm_call_3(XM_NR_hm_read, partition, number, (xm_word)entry);
 }
 
-static inline int XM_hm_status(unsigned partition, struct xm_counts *counts)
+XM_RESULT_MATTERS XM_INLINE int XM_hm_status(unsigned partition, struct xm_counts *counts)
 {
     return xm_call_2(XM_NR_hm_status, partition, (xm_word)counts);
 }
 
 /* Interrupts, the console, input and the processor. */
 
-static inline int XM_set_irqmask(unsigned interrupts)
+XM_INLINE int XM_set_irqmask(unsigned interrupts)
 {
     return xm_call_1(XM_NR_set_irqmask, interrupts);
 }
 
-static inline int XM_clear_irqmask(unsigned interrupts)
+XM_INLINE int XM_clear_irqmask(unsigned interrupts)
 {
     return xm_call_1(XM_NR_clear_irqmask, interrupts);
 }
 
 /* Writes bytes to the console, at most XM_CONSOLE_BYTES of them, and gives how many. */
-static inline int XM_write_console(const char *text, unsigned size)
+XM_INLINE int XM_write_console(const char *text, unsigned size)
 {
     return xm_call_2(XM_NR_write_console, (xm_word)text, size);
 }
 
-static inline int XM_read_input(xm_word *word)
+XM_RESULT_MATTERS XM_INLINE int XM_read_input(xm_word *word)
 {
     return xm_call_1(XM_NR_read_input, (xm_word)word);
 }
 
 /* Back from a trap, as the locals of this window say. Handlers in assembly end with return_from_trap. */
-static inline int sparc_iret(void)
+XM_INLINE int sparc_iret(void)
 {
     return xm_call_0(XM_NR_sparc_iret);
 }
 
-static inline int sparc_set_psr(unsigned psr)
+XM_INLINE int sparc_set_psr(unsigned psr)
 {
     return xm_call_1(XM_NR_sparc_set_psr, psr);
 }
 
-static inline int sparc_set_tbr(unsigned table)
+XM_INLINE int sparc_set_tbr(unsigned table)
 {
     return xm_call_1(XM_NR_sparc_set_tbr, table);
 }
 
 /* Spills all windows but this one to their stacks. */
-static inline int sparc_flush_regwin(void)
+XM_INLINE int sparc_flush_regwin(void)
 {
     return xm_call_0(XM_NR_sparc_flush_regwin);
 }
 
-static inline int XM_raise_ipvi(unsigned link)
+XM_INLINE int XM_raise_ipvi(unsigned link)
 {
     return xm_call_1(XM_NR_raise_ipvi, link);
 }
+
+#ifdef __cplusplus
+}
+#endif
 
 #endif /* __ASSEMBLER__ */
 

@@ -1,0 +1,8 @@
+/* The main of an application that has PartitionMain instead. */
+#include <xmcompat.h>
+
+int main(void)
+{
+    PartitionMain();
+    return 0;
+}

@@ -1,0 +1,3 @@
+/* For programs that are linked as one. */
+#define CMARK_EXPORT
+#define CMARK_NO_EXPORT

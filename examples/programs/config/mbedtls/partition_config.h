@@ -1,0 +1,23 @@
+/* The parts of mbedtls that need no system: neither network nor files, threads nor clocks. */
+#include "mbedtls/config.h"
+#undef MBEDTLS_NET_C
+#undef MBEDTLS_TIMING_C
+#undef MBEDTLS_FS_IO
+#undef MBEDTLS_HAVE_TIME_DATE
+#undef MBEDTLS_PSA_ITS_FILE_C
+#undef MBEDTLS_PSA_CRYPTO_STORAGE_C
+#define MBEDTLS_NO_PLATFORM_ENTROPY
+#define MBEDTLS_TEST_NULL_ENTROPY
+#undef MBEDTLS_ENTROPY_C
+#undef MBEDTLS_PSA_CRYPTO_C
+#undef MBEDTLS_USE_PSA_CRYPTO
+#undef MBEDTLS_AESNI_C
+#undef MBEDTLS_HAVE_ASM
+#undef MBEDTLS_PADLOCK_C
+#undef MBEDTLS_SSL_TLS_C
+#undef MBEDTLS_SSL_CLI_C
+#undef MBEDTLS_SSL_SRV_C
+#undef MBEDTLS_SSL_COOKIE_C
+#undef MBEDTLS_SSL_TICKET_C
+#undef MBEDTLS_SSL_CACHE_C
+#undef MBEDTLS_DEBUG_C

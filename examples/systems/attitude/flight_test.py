@@ -1,0 +1,54 @@
+"""Tries flight.py: the words of the gyro against words worked by hand, and reports that differ in one thing.
+
+usage: /usr/bin/python3 -m pytest examples/systems/attitude/flight_test.py
+"""
+
+import sys
+from pathlib import Path
+
+import pytest
+
+sys.dont_write_bytecode = True
+HERE = Path(__file__).resolve().parent
+sys.path.insert(0, str(HERE))
+
+import flight as tried  # noqa: E402
+
+REPORT = (HERE / "attitude.report").read_text(encoding="utf-8")
+
+
+@pytest.mark.parametrize(
+    ("number", "rate", "word"),
+    [
+        (0, 0.02, 0x00402710),  # 10000 counts; 0 ^ 0 ^ 4 ^ 2 ^ 7 ^ 1 ^ 0 = 0
+        (1, -0.00002, 0x014CFFF6),  # -10 counts; 0 ^ 1 ^ 4 ^ f ^ f ^ f ^ 6 = c
+        (6, 0.0, 0x06430000),  # 0 ^ 6 ^ 4 = 2, with the last bit wrong
+        (12, 0.0, 0x0C0C0000),  # the divider 0; 0 ^ c = c
+    ],
+)
+def test_a_word_has_its_number_divider_check_and_counts(number: int, rate: float, word: int) -> None:
+    assert tried.word_of(number, rate) == word
+
+
+def test_a_rate_is_read_back() -> None:
+    assert tried.rate_of(tried.word_of(3, -0.001)) == -0.001
+
+
+def test_the_report_is_as_expected() -> None:
+    assert tried.differences(REPORT, tried.Flight.of(tried.FRAMES)) == []
+
+
+@pytest.mark.parametrize(
+    ("old", "new", "fault"),
+    [
+        ("torque -18748", "torque -18747", "wheel: the console differs"),
+        ("XM_HM_AC_PARTITION_WARM_RESET", "XM_HM_AC_HALT", "health events"),
+        ("[599999] XM PLAN 1", "[619999] XM PLAN 1", "plans"),
+        ("END P2 idle", "END P2 halted", "control: it did not go on"),
+        ("[144448] P1 CON gyro: dropped word 6\\n\n", "", "gyro: the console differs"),
+    ],
+)
+def test_a_report_with_one_thing_wrong_differs(old: str, new: str, fault: str) -> None:
+    assert old in REPORT
+    faults = tried.differences(REPORT.replace(old, new, 1), tried.Flight.of(tried.FRAMES))
+    assert any(found.startswith(fault) for found in faults)
