@@ -1,4 +1,5 @@
-"""What the scripts of this folder share: the program that is measured, what callgrind counts, and rates."""
+"""What the scripts of this folder share: the program and the guests that are measured, what callgrind counts, and rates."""
+import math
 import os
 import re
 import resource
@@ -13,6 +14,13 @@ BENCH = f"{ROOT}/bench"
 COUNTED = (2_000_000, 8_000_000)
 TIMED = (50_000_000, 250_000_000)
 TURNS = 3
+# The guests over which rates are compared. Each is one C file, whose first lines say what it executes, and has no end.
+GUESTS = ["workload", "records", "lists", "copies", "filters", "wide_sums", "doubles", "recursion", "sorts"]
+
+
+def image_of(guest):
+    """The raw image of one of the guests, for `bare`; it is made of the file beside it."""
+    return f"{BENCH}/{'' if guest == 'workload' else 'guests/'}{guest}.bin"
 
 
 def stop(why):
@@ -40,6 +48,21 @@ def output_of(command, **more):
     if done.returncode:
         stop(f"{' '.join(command)}: status {done.returncode}\n{done.stdout[-500:]}{done.stderr[-500:]}")
     return done.stdout
+
+
+def container(binary, name, text, images, folder):
+    """The container of a description, with the image of each of its partitions."""
+    described, configuration, box = (f"{folder}/{name}.{ending}" for ending in ("xml", "xmc", "xmp"))
+    with open(described, "w") as file:
+        file.write(text)
+    output_of([binary, "xmcparser", described, configuration])
+    packed = []
+    for number, image in enumerate(images):
+        made = f"{folder}/{name}.{number}.xef"
+        output_of([binary, "xmeformat", "build", image, made])
+        packed.append(f"{number}={made}")
+    output_of([binary, "xmpack", "build", configuration, box, *packed])
+    return box
 
 
 def high_water(process):
@@ -135,3 +158,8 @@ def rates(measured):
     for name, ((short, _), (long, _)) in measured.items():
         found[name] = (long - short) / (best[name, long] - best[name, short]) / 1e6
     return found
+
+
+def mean(values):
+    """The geometric mean: that of ratios is the ratio of the means."""
+    return math.exp(sum(map(math.log, values)) / len(values))

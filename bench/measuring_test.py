@@ -1,0 +1,76 @@
+"""Tries what the scripts of this folder share, and what guest_speed prints, over figures and runs that are made up."""
+import importlib.machinery
+import importlib.util
+import os
+import sys
+
+import pytest
+
+sys.path.insert(0, os.path.dirname(os.path.realpath(__file__)))
+
+import measuring
+
+
+def script(name):
+    """A script of this folder as a module."""
+    loader = importlib.machinery.SourceFileLoader(name, f"{measuring.BENCH}/{name}")
+    module = importlib.util.module_from_spec(importlib.util.spec_from_loader(name, loader))
+    loader.exec_module(module)
+    return module
+
+
+@pytest.mark.parametrize("guest", measuring.GUESTS)
+def test_a_guest_has_an_image_and_its_file_says_what_it_does(guest):
+    image = measuring.image_of(guest)
+    assert 0 < os.path.getsize(image) < 4096
+    with open(image.replace(".bin", ".c")) as file:
+        said = file.read().split("*/")[0]
+    assert said.startswith("/*\n") and "without end" in said
+
+
+def test_the_mean_of_ratios_is_the_ratio_of_means():
+    assert measuring.mean([1, 4, 16]) == pytest.approx(4)
+    assert measuring.mean([2 / 1, 9 / 4]) == pytest.approx(measuring.mean([2, 9]) / measuring.mean([1, 4]))
+
+
+def test_a_rate_is_of_the_difference_of_the_best_runs(monkeypatch):
+    seconds = iter([5, 30, 1, 12, 2, 11])
+    monkeypatch.setattr(measuring, "seconds_of", lambda run: next(seconds))
+    assert measuring.rates({"a guest": [(50_000_000, None), (250_000_000, None)]}) == {"a guest": 20}
+
+
+def test_a_profile_has_what_callgrind_counted(tmp_path):
+    path = tmp_path / "out"
+    path.write_text(
+        "ob=/a/prog\nfn=first\n0x10 1 5\n0x14 2 7\ncalls=1 0x20\n0x14 2 100\nob=/a/libc\nfn=second\n0x10 3 11\ntotals: 23\n"
+    )
+    profile = measuring.Profile(path, "prog")
+    assert profile.total == 23
+    assert profile.by_function == {"first": 12, "second": 11}
+    assert profile.by_address == {0x10: 5, 0x14: 7}
+
+
+def table(capsys, rows):
+    speed = script("guest_speed")
+    speed.print_table("guest", [*rows, speed.mean_row(rows)])
+    return [line.split() for line in capsys.readouterr().out.splitlines()]
+
+
+def test_ratios_are_to_the_first_row(capsys):
+    head, *rows = table(capsys, [("one", [20], [100]), ("two", [45], [400])])
+    assert " ".join(head) == "guest host instructions ratio million a second ratio"
+    assert rows == [
+        ["one", "20.0", "1.00", "100", "1.00"],
+        ["two", "45.0", "2.25", "400", "4.00"],
+        ["mean", "30.0", "1.50", "200", "2.00"],
+    ]
+
+
+def test_ratios_are_to_the_previous_program(capsys):
+    head, *rows = table(capsys, [("one", [20, 40], [300, 100]), ("two", [45, 90], [300, 225])])
+    assert " ".join(head) == "guest host instructions previous ratio million a second previous ratio"
+    assert rows == [
+        ["one", "20.0", "40.0", "0.50", "300", "100", "3.00"],
+        ["two", "45.0", "90.0", "0.50", "300", "225", "1.33"],
+        ["mean", "30.0", "60.0", "0.50", "300", "150", "2.00"],
+    ]
