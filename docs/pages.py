@@ -4,7 +4,7 @@
 usage: pages.py PROGRAM [PAGE ..]    `./xm_run` is PROGRAM; all pages with commands, or those that are named
        pages.py                      the pages of the systems alone, and `./xm_run` is second.py, their commands by the second simulator
        pages.py --write              puts what second.py gives into the pages of the systems and their reports
-       pages.py --book               prints the runs of those pages, with the reports of second.py, as data of `case_suite`
+       pages.py --book               prints the runs of those pages but attitude's, with the reports of second.py, as data of `case_suite`
        pages.py --measure PROGRAM    all pages, their measurements and the gate too, which take hours
 
 Each page is done in a copy of the repository that is removed at the end:
@@ -36,6 +36,8 @@ from pathlib import Path
 ROOT = Path(__file__).resolve().parent.parent
 SYSTEMS = ROOT / "examples/systems"
 NAMES = ["queue", "control", "supervisor", "misdeeds", "filter", "alarm"]
+# A system with the C library, whose run is none of the data.
+LARGER = ["attitude"]
 AFTER = re.compile(r"^<!-- after (\S+) -->$", re.M)
 NAMED = re.compile(r"Put this in `([^`]+)`")
 # What is not copied: what git does not keep, and what is large.
@@ -143,8 +145,8 @@ def all_pages() -> list[Page]:
     return [page for page in map(Page, sorted(paths)) if any(isinstance(step, Command) for step in page.steps)]
 
 
-def system_pages() -> list[Page]:
-    return [Page(SYSTEMS / name / "README.md") for name in NAMES]
+def system_pages(names: list[str]) -> list[Page]:
+    return [Page(SYSTEMS / name / "README.md") for name in names]
 
 
 class Folder:
@@ -308,7 +310,7 @@ def book() -> str:
         "# hand or printed by the same C file as a program of another machine. `docs/pages.py --book` prints this file.",
         "",
     ]
-    for page in system_pages():
+    for page in system_pages(NAMES):
         folder = page.path.parent
         lines += book_group(page, lambda page, call: (folder / f"{Path(call[1]).stem}.report").read_text())
     return "\n".join(lines[:-1]) + "\n"
@@ -317,7 +319,7 @@ def book() -> str:
 def trial_of(words: list[str]) -> tuple[Trial, list[Page]]:
     second = SYSTEMS / "second.py"
     if not words or words == ["--write"]:
-        return Trial(second, writes=bool(words)), system_pages()
+        return Trial(second, writes=bool(words)), system_pages([*NAMES, *LARGER])
     measures = words[0] == "--measure"
     program, *names = words[measures:]
     pages = [Page((ROOT / name).resolve()) for name in names] or all_pages()
