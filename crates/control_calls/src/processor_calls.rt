@@ -7,11 +7,9 @@ ghost use Rattle.machine_model.specs.Caller.{a_of, answering, b_of, caller_bytes
 ghost use Rattle.machine_model.specs.ProcessorCalls.{clear_irqmask, flush_regwin, iret, read_input, set_irqmask, set_psr, set_tbr, write_console};
 ghost use Rattle.machine_model.specs.OwnEffects.{input_read, printed, undone};
 ghost use Rattle.machine_model.specs.Emission.{Unseen};
-ghost use Rattle.sparc_step.specs.Registers.{with_icc};
 ghost use Rattle.system_state.specs.Serving.{IsCaller, IsServed, MayRead, caller_of};
 ghost use Rattle.system_state.specs.State.{input_words_of};
 
-use sparc_step::{Core, Processor};
 use system_state::answering::{
     A, B, INVALID_PARAMETER, NOT_AVAILABLE, OUT_0, answer, argument, refused_if, room, text, write,
 };
@@ -172,29 +170,10 @@ pub fn set_psr(sys: &mut Sys, site: CallSite) -> Served
 {
     let psr = argument(sys, site, A);
     let own = sys.part_mut(site.part);
-    set_icc(&mut own.core, icc_of(psr));
+    own.core.set_icc(icc_of(psr));
     own.virt.enabled = enabled_of(psr);
     own.core.set(OUT_0, 0);
     DONE
-}
-
-// Sets the condition codes.
-fn set_icc(processor: &mut Processor, icc: u8)
-    requires { icc < 16 }
-    ensures { processor.new ≡ with_icc processor.old icc }
-{
-    let mut core = processor.core();
-    put_icc(&mut core, icc);
-    *processor = Processor::of(&core);
-}
-
-// The same on registers that are not cached.
-#[tactic(auto, unfolding(sparc_step::specs::Registers::with_icc))]
-fn put_icc(core: &mut Core, icc: u8)
-    requires { icc < 16 }
-    ensures { core.new ≡ with_icc core.old icc }
-{
-    core.icc = icc;
 }
 
 // The condition codes of a PSR.
@@ -242,29 +221,8 @@ pub fn flush_regwin(sys: &mut Sys, site: CallSite) -> Served
     }
 }
 
-// Goes to these program counters.
-fn go_to(processor: &mut Processor, pc: u32, npc: u32)
-    requires pc { pc % 4 ≡ 0 }
-    requires npc { npc % 4 ≡ 0 }
-    ensures { processor.new ≡ record processor.old { pc = pc; npc = npc } }
-{
-    let mut core = processor.core();
-    put_counters(&mut core, pc, npc);
-    *processor = Processor::of(&core);
-}
-
-// The same on registers that are not cached.
-fn put_counters(core: &mut Core, pc: u32, npc: u32)
-    requires pc { pc % 4 ≡ 0 }
-    requires npc { npc % 4 ≡ 0 }
-    ensures { core.new ≡ record core.old { pc = pc; npc = npc } }
-{
-    core.pc = pc;
-    core.npc = npc;
-}
-
 // Undoes a call that met a stack fault: the program is at it again.
-#[tactic(auto, unfolding(system_state::specs::Serving::caller_of))]
+#[tactic(auto, unfolding(system_state::specs::Serving::caller_of, sparc_step::specs::Registers::placed))]
 fn undo(sys: &mut Sys, site: CallSite) -> Served
     requires caller { IsCaller site sys.old }
     requires pc { site.pc % 4 ≡ 0 }
@@ -272,7 +230,7 @@ fn undo(sys: &mut Sys, site: CallSite) -> Served
     ensures { IsServed site.part Unseen (undone (caller_of site sys.old) (caller_of site sys.old).state) result sys.old sys.new }
 {
     let own = sys.part_mut(site.part);
-    go_to(&mut own.core, site.pc, site.npc);
+    own.core.place(site.pc, site.npc);
     Served {
         note: Note::Nothing,
         act: Act::Event {
