@@ -14,7 +14,7 @@ ghost use Rattle.tick_steps.specs.Work.{IsPartDone};
 use crate::lines::Lines;
 use crate::order::obey;
 use health_monitor::{Effect, HealthEntry, Own, Whole, action_of, effect, is_logged};
-use sparc_step::{Core, Processor};
+use sparc_step::Processor;
 use system_state::Sys;
 use system_state::interrupts::SHUTDOWN;
 use virt_traps::StackFault;
@@ -132,21 +132,12 @@ fn pass_over(sys: &mut Sys, p: PartId, event: Event, effect: Effect)
 }
 
 // Goes on to the next instruction.
+#[tactic(auto, unfolding(sparc_step::specs::Registers::placed, sparc_step::specs::Registers::advanced))]
 fn advance(processor: &mut Processor)
     ensures { processor.new ≡ advanced processor.old }
 {
-    let mut core = processor.core();
-    go_on(&mut core);
-    *processor = Processor::of(&core);
-}
-
-// The same on registers that are not cached.
-#[tactic(auto, unfolding(sparc_step::specs::Registers::advanced))]
-fn go_on(core: &mut Core)
-    ensures { core.new ≡ advanced core.old }
-{
-    core.pc = core.npc;
-    core.npc = core.npc.wrapping_add(4);
+    let next = processor.npc();
+    processor.place(next, next.wrapping_add(4));
 }
 
 // What an action does to the partition itself.
