@@ -11,7 +11,6 @@ use case_reader::entry_of;
 use command_line::{Command, PartFile, PartFiles, RunOptions, Span, Words, command};
 use std::alloc::Global;
 use toml::Value;
-use uart_board::Board;
 use xm_base::{FILE_BYTES, Mode, TICKS};
 use xm_container::{System, unpack};
 use xm_machine::{Inputs, Line, Machine, WriteFault, put_line};
@@ -112,17 +111,9 @@ fn booted(
 ) -> Result<Machine> {
     let bytes = files.get(container).context("there is no container")?;
     let system = unpack(alloc, bytes).ok().context("it is no container")?;
-    let inputs = inputs_in(alloc, count(&system), inputs, files)?;
+    let inputs = inputs_in(alloc, system.conf().part_count(), inputs, files)?;
     let machine = Machine::boot(alloc, system, inputs);
     machine.ok().context(NO_MEMORY)
-}
-
-// How many partitions a system has.
-#[tactic(auto, unfolding(xm_conf::specs::Description::described))]
-fn count(system: &System) -> u8
-    ensures { result ≡ length system.now.conf.parts }
-{
-    system.conf().raw().parts.len() as u8
 }
 
 // The input words of this many partitions.

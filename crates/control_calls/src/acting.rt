@@ -8,7 +8,6 @@ ghost use Rattle.system_state.specs.lemmas.Shown.{seen_when};
 
 use system_state::answering::{answer, answer_written, room, write};
 use system_state::{Act, CallSite, Note, Served, Sys, engine};
-use xm_base::PartId;
 
 /// A call that answers with a result and reaches beyond its caller.
 #[tactic(auto, unfolding(system_state::specs::Serving::caller_of, machine_model::specs::Caller::with_answer))]

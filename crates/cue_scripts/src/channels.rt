@@ -4,7 +4,6 @@ ghost use Rattle.std.specs.Prelude.{◌≡◌, ◌==◌, ◌&&◌, ◌<◌, ◌�
 ghost use Rattle.std.specs.List.{list_any};
 ghost use Rattle.machine_model.specs.Lists.{is_number};
 ghost use Rattle.machine_model.specs.View.{name_of, named, part_of};
-ghost use Rattle.xm_conf.specs.View.{channel_of};
 ghost use Rattle.cue_scripts.specs.Script.{chan_called, gives_queue, heard_in, is_queue, is_system_partition, most_heard, signals};
 
 use xm_base::PartId;

@@ -1,16 +1,16 @@
 //! The reading of a script.
 
-ghost use Rattle.std.specs.Prelude.{◌≡◌, ◌==◌, ◌<◌, ◌≤◌, IfOk, List, None, Ok, codes, length};
+ghost use Rattle.std.specs.Prelude.{◌≡◌, ◌<◌, ◌≤◌, IfOk, List, None, Ok, codes, length};
 ghost use Rattle.std.specs.Int.{w8};
 ghost use Rattle.machine_model.specs.Cue.{Cue};
-ghost use Rattle.cue_scripts.specs.Entries.{cue_count, plain_kind};
+ghost use Rattle.cue_scripts.specs.Entries.{cue_count};
 ghost use Rattle.file_headers.specs.Fields.{listed_at};
 ghost use Rattle.file_headers.specs.Gives.{Gives};
 ghost use Rattle.file_headers.specs.lemmas.GivesTerms.{GivesAt};
 ghost use Rattle.file_headers.specs.Heads.{magic_at, version_at};
 ghost use Rattle.cue_scripts.specs.Gives.{Fails};
 ghost use Rattle.cue_scripts.specs.Reading as reading;
-ghost use Rattle.cue_scripts.specs.Script.{is_length, is_shown, most_heard};
+ghost use Rattle.cue_scripts.specs.Script.{is_length, is_shown};
 ghost use Rattle.cue_scripts.specs.Spelling.{IsSpelledScript, alike_byte};
 ghost use Rattle.fault_messages.specs.declared.fault.ScriptFault.TheVariants as fault;
 ghost use Rattle.cue_scripts.specs.Values.{script_cue_value, entry_value, entry_values, event_value, script_sight_value, slot_value, script_traffic_value};

@@ -73,16 +73,8 @@ fn booted(rt: &impl Files, alloc: Global, name: &str) -> Result<Machine> {
 fn no_inputs(alloc: Global, system: &System) -> Result<Inputs>
     ensures { IfOk result (λ inputs. length inputs ≡ length system.now.conf.parts) }
 {
-    let inputs = Inputs::new(alloc, count(system));
+    let inputs = Inputs::new(alloc, system.conf().part_count());
     inputs.ok().context(NO_MEMORY)
-}
-
-// How many partitions a system has.
-#[tactic(auto, unfolding(xm_conf::specs::Description::described))]
-fn count(system: &System) -> u8
-    ensures { result ≡ length system.now.conf.parts }
-{
-    system.conf().raw().parts.len() as u8
 }
 
 // The bytes of a file of the data folder.

@@ -1,6 +1,5 @@
 -- What each call keeps: the health log and the execution clock; one that reports something does nothing else.
-use Rattle.std.proofs.Common.{◌++◌, ◌≡◌, ◌⊎◌, inl, inr, ℕ, true, false, List, [], ◌∷◌, Option, None, Some, Result, Ok, Err, refl, arith}
-use Rattle.std.specs.Prelude.{◌==◌, ◌||◌, if◌then◌else◌}
+use Rattle.std.proofs.Common.{◌++◌, ◌≡◌, ◌⊎◌, inl, inr, ℕ, List, [], ◌∷◌, Option, None, Some, Result, Ok, Err, refl, arith}
 use Rattle.health_monitor.specs.declared.entry.HealthEntry.{HealthEntry}
 use Rattle.virt_clocks.specs.Clocks.{with_timer}
 use Rattle.virt_clocks.specs.declared.timer.Clock.{Clock}

@@ -1,6 +1,6 @@
 //! An instruction of a partition that calls: the call is served, and reported.
 
-ghost use Rattle.std.specs.Prelude.{◌≡◌, ◌+◌, ◌%◌, ◌^◌, ◌<◌, ◌≤◌, ◌++◌, [], Some, length, map};
+ghost use Rattle.std.specs.Prelude.{◌≡◌, ◌+◌, ◌%◌, ◌^◌, ◌<◌, ◌≤◌, ◌++◌, [], length, map};
 ghost use Rattle.std.specs.Bool.{OnTrue};
 ghost use Rattle.cyclic_plans.specs.PlanClock.{AsksPlan, IsInFrame};
 ghost use Rattle.system_state.specs.Serving as serving;

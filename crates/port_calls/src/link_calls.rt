@@ -1,6 +1,6 @@
 //! The call on links: number 38.
 
-ghost use Rattle.std.specs.Prelude.{◌≡◌, ◌<◌, IfSome, None, Some};
+ghost use Rattle.std.specs.Prelude.{◌≡◌, IfSome, Some};
 ghost use Rattle.machine_model.specs.Caller.{a_of};
 ghost use Rattle.machine_model.specs.LinkCalls.{raise_ipvi};
 ghost use Rattle.machine_model.specs.Emission.{Unseen};

@@ -1,6 +1,6 @@
 -- Each call leaves a partition's numbers in their ranges.
 use Rattle.std.proofs.Common.{◌≡◌, ℕ, zero, suc, ◌<◌, ◌≤◌, ◌+◌, Bool, true, false, List, [], ◌∷◌, ◌++◌, length, Option, None, Some, Result, Ok, Err, refl, sym, arith, subst}
-use Rattle.std.specs.Prelude.{◌-◌, ◌/◌, ◌%◌, ◌^◌, ◌==◌, ◌&&◌, ◌||◌, cond, not, nat_lt, if◌then◌else◌, drop, slice_get, slice_index_or}
+use Rattle.std.specs.Prelude.{◌-◌, ◌%◌, ◌^◌, ◌==◌, ◌&&◌, cond, not, nat_lt, if◌then◌else◌, drop, slice_get, slice_index_or}
 use Rattle.std.specs.List.{AllByRecursion, position_from}
 use Rattle.std.specs.Int.{to_be_bytes, w16, w32, w64}
 use Rattle.std.proofs.lemmas.Bool.Decides.{nat_tests}
@@ -13,7 +13,6 @@ use Rattle.virt_traps.specs.declared.delivery.IretFault.{IretFault}
 use Rattle.virt_traps.specs.declared.delivery.IretFault.TheVariants.{Stack, Unaligned}
 use Rattle.virt_traps.specs.declared.windows.StackFault.{StackFault}
 use Rattle.xm_base.specs.Bytes.{AreBytes}
-use Rattle.xm_base.specs.declared.partition.Order.TheVariants as order
 use Rattle.xm_base.specs.declared.partition.State.TheVariants.{Idle}
 use Rattle.xm_conf.specs.Health.{action_row, event_row}
 use Rattle.xm_conf.specs.declared.channel.ChanKind.{ChanKind}

@@ -1,6 +1,6 @@
 //! A replay is made ready: the container is unpacked, the script is read and tried, and the partition boots.
 
-ghost use Rattle.std.specs.Prelude.{◌≡◌, ◌<◌, ◌^◌, Err, IfOk, IfSome, None, Ok, List, ℕ, length};
+ghost use Rattle.std.specs.Prelude.{◌≡◌, ◌<◌, ◌^◌, IfOk, IfSome, None, Ok, List, ℕ, length};
 ghost use Rattle.cue_scripts.specs.Script.{IsScript};
 ghost use Rattle.loaded_system.specs.System.{System as Loaded};
 ghost use Rattle.machine_model.specs.View.{view_of};
@@ -19,7 +19,6 @@ use cue_scripts::{Script, read_script};
 use std::alloc::Global;
 use xm_alone::Alone;
 use xm_base::{Memory, PartId};
-use xm_conf::Conf;
 use xm_container::{System, unpack};
 use xm_machine::Inputs;
 
@@ -68,7 +67,7 @@ fn of_system(
     requires same { unpacked container.now ≡ Ok system }
     ensures { Readies result (with_system p script.now input.now system) }
 {
-    if p >= part_count(system.conf()) {
+    if p >= system.conf().part_count() {
         return Err(Unready::NoPartition);
     }
     match read_script(alloc, system.conf(), p, script) {
@@ -89,7 +88,7 @@ fn by_script(
     requires { IsScripted container.now system p script input.now }
     ensures { Readies result (with_script system p input.now (Ok script)) }
 {
-    match inputs_given(alloc, part_count(system.conf()), p, input) {
+    match inputs_given(alloc, system.conf().part_count(), p, input) {
         Ok(inputs) => tried(alloc, container, system, inputs, p, script, input),
         Err(why) => Err(why),
     }
@@ -157,7 +156,7 @@ fn booted(alloc: Global, container: &[u8], p: PartId, input: &[u8]) -> Result<Al
     let Ok(system) = unpack(alloc, container) else {
         return Err(Memory);
     };
-    let parts = part_count(system.conf());
+    let parts = system.conf().part_count();
     if p >= parts {
         return Err(Memory);
     }
@@ -165,12 +164,4 @@ fn booted(alloc: Global, container: &[u8], p: PartId, input: &[u8]) -> Result<Al
         Ok(inputs) => Alone::new(alloc, system, inputs, p),
         Err(_) => Err(Memory),
     }
-}
-
-// How many partitions a configuration has.
-#[tactic(auto, unfolding(xm_conf::specs::Description::described))]
-fn part_count(conf: &Conf) -> u8
-    ensures { result ≡ length conf.now.parts }
-{
-    conf.raw().parts.len() as u8
 }

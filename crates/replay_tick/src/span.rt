@@ -1,6 +1,6 @@
 //! Many ticks of one partition in isolation, in each of which it receives nothing but whether the slot is its own.
 
-ghost use Rattle.std.specs.Prelude.{◌≡◌, ◌+◌, ◌-◌, ◌%◌, ◌^◌, ◌<◌, ◌≤◌, [], IfSome, IsTrue, None, Some, false, length, true};
+ghost use Rattle.std.specs.Prelude.{◌≡◌, ◌+◌, ◌-◌, ◌%◌, ◌^◌, ◌<◌, ◌≤◌, [], IfSome, IsTrue, Some, false, length, true};
 ghost use Rattle.cue_scripts.specs.Entries.{bare_cue};
 ghost use Rattle.cyclic_plans.specs.PlanClock.{IsInFrame};
 ghost use Rattle.cyclic_plans.specs.Slots.{frame_of};

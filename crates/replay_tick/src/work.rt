@@ -1,6 +1,6 @@
 //! What one partition does in a tick of its slot in isolation.
 
-ghost use Rattle.std.specs.Prelude.{◌≡◌, ◌<◌, if◌then◌else◌, None, Some, [], true};
+ghost use Rattle.std.specs.Prelude.{◌≡◌, if◌then◌else◌, None, Some, [], true};
 ghost use Rattle.health_monitor.specs.Monitor.{event_of_type};
 ghost use Rattle.machine_model.specs.Health.{event_handled, quiet};
 ghost use Rattle.machine_model.specs.LocalTick.{clocked, delivered_or_executed, executed_in_tick, worked};

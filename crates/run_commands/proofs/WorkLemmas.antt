@@ -12,7 +12,6 @@ use Rattle.xm_conf.specs.Description.{described}
 use Rattle.xm_conf.specs.Fits.{Fits}
 use Rattle.system_state.specs.State.{with_inputs}
 use Rattle.xm_machine.specs.Outcome.{IsRun}
-use Rattle.machine_model.specs.Lines.{report}
 use Rattle.machine_model.specs.Machine.{Machine, run, start}
 use Rattle.machine_model.specs.View.{System as Booted}
 use Rattle.loaded_system.specs.Bare.{IsImageLength, bare_system}

@@ -64,7 +64,7 @@ pub(crate) fn ready_run<'a>(
         (scripts_in (seen_options options.entry))) }
 {
     let (_, words) = split_contents(contents);
-    match inputs_for(alloc, part_count(system.conf()), options, words) {
+    match inputs_for(alloc, system.conf().part_count(), options, words) {
         Ok(inputs) => ready_with(alloc, container, options, contents, system, inputs),
         Err(ending) => Err(ending),
     }
@@ -112,14 +112,6 @@ fn ready_with<'a>(
         }),
         Err(ending) => Err(ending),
     }
-}
-
-/// How many partitions a configuration has.
-#[tactic(auto, unfolding(xm_conf::specs::Description::described))]
-pub(crate) fn part_count(conf: &Conf) -> u8
-    ensures { result ≡ length conf.now.parts }
-{
-    conf.raw().parts.len() as u8
 }
 
 // How many ticks a run asks for.

@@ -22,7 +22,6 @@ ghost use Rattle.command_line.specs.Seen.{seen_file, seen_files, seen_options};
 ghost use Rattle.command_line.specs.Words.{inputs_in, scripts_in};
 
 use crate::inputs::inputs_for;
-use crate::readiness::part_count;
 use crate::recording::{Recording, record};
 use builders::no_script;
 use command_line::{PartFile, PartFiles, RunOptions};
@@ -194,7 +193,7 @@ fn made_again(
     ensures count { IfOk result (λ again. length again.1 ≡ length system.now.conf.parts) }
 {
     let (bytes, words) = split_contents(contents);
-    let Ok(inputs) = inputs_for(alloc, part_count(system.conf()), options, words) else {
+    let Ok(inputs) = inputs_for(alloc, system.conf().part_count(), options, words) else {
         return Err(Memory);
     };
     match unpack(alloc, bytes) {

@@ -1,10 +1,9 @@
 //! Ticks of slots and gaps.
 
-ghost use Rattle.std.specs.Prelude.{◌≡◌, ℕ, ◌+◌, ◌-◌, ◌%◌, ◌^◌, ◌<◌, ◌≤◌, ◌++◌, Bool, true, false, [], None, Some, length};
+ghost use Rattle.std.specs.Prelude.{◌≡◌, ℕ, ◌+◌, ◌-◌, ◌%◌, ◌^◌, ◌<◌, ◌≤◌, ◌++◌, Bool, true, false, [], Some, length};
 ghost use Rattle.std.specs.Bool.{OnTrue};
 ghost use Rattle.cyclic_plans.specs.PlanClock.{IsInFrame};
 ghost use Rattle.system_state.specs.State.{with_machine};
-ghost use Rattle.machine_model.specs.LocalTick.{goes_on};
 ghost use Rattle.machine_model.specs.Machine.{Machine, run, turn_here, turn_of};
 ghost use Rattle.machine_model.specs.Partition.{PartitionState, takes_turns};
 ghost use Rattle.span_model.specs.Meeting.{NoDelivery};

@@ -47,11 +47,10 @@ pub(crate) fn boot_parts(alloc: Global, system: &System) -> Result<Vec<PartState
 }
 
 /// How many partitions a system has.
-#[tactic(auto, unfolding(xm_conf::specs::Description::described))]
 pub(crate) fn count(system: &System) -> u8
     ensures value { result ≡ length system.now.conf.parts }
     ensures few { result ≤ most_parts }
     ensures system { IsSystem system.now }
 {
-    system.conf().raw().parts.len() as u8
+    system.conf().part_count()
 }

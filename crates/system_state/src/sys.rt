@@ -1,6 +1,6 @@
 //! The whole system.
 
-ghost use Rattle.std.specs.Prelude.{◌≡◌, ◌+◌, ◌-◌, ◌%◌, ◌^◌, ◌<◌, ◌≤◌, true, false, IfOk, IfSome, OnErr, OnOk, length, map, slice_get};
+ghost use Rattle.std.specs.Prelude.{◌≡◌, ◌+◌, ◌-◌, ◌%◌, ◌^◌, ◌<◌, ◌≤◌, true, IfOk, IfSome, OnErr, OnOk, length, map, slice_get};
 ghost use Rattle.std.specs.Borrow.{sem};
 ghost use Rattle.cyclic_plans.specs.PlanClock.{AsksPlan, IsInFrame, ended, entered_plan};
 ghost use Rattle.guest_bus.specs.Memory.{all_from, is_readable, is_writable};

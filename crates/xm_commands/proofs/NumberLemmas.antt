@@ -1,5 +1,5 @@
 -- Calls that made their scripts.
-use Rattle.std.proofs.Common.{◌⊎◌, ⊎_elim}
+use Rattle.std.proofs.Common.{⊎_elim}
 use Rattle.file_commands.specs.Ending.{Ending, Done, Usage, ReadFault, Refused, WriteFaultReport, WriteFaultFile, UartFault, NoMemory, status_of}
 use Rattle.run_commands.specs.Numbers.{HasScripts}
 use Rattle.xm_commands.specs.Top.{IsCompleteStatus}

@@ -11,7 +11,6 @@ use Rattle.xm_report.specs.Report.{texts}
 use Rattle.replay_setup.specs.OfRun.{IsOfRun, RunIsReplayed}
 use Rattle.fault_messages.specs.declared.fault.BoxFault.{BoxFault}
 use Rattle.loaded_system.specs.System.{System as Loaded}
-use Rattle.machine_model.specs.Cue.{script}
 use Rattle.machine_model.specs.Lines.{report}
 use Rattle.machine_model.specs.Machine.{Machine, run, start}
 use Rattle.machine_model.specs.View.{System, view_of}

@@ -81,6 +81,17 @@ impl Conf {
         &self.raw
     }
 
+    /// How many partitions there are.
+    #[tactic(auto, unfolding(crate::specs::Description::described))]
+    pub fn part_count(&self) -> u8
+        // How many partitions there are.
+        ensures value { result ≡ length self.now.parts }
+        // They are no more than the limit.
+        ensures few { result ≤ most_parts }
+    {
+        self.raw.parts.len() as u8
+    }
+
     /// The channel that has a port of a partition as an end, or `None` where none has.
     #[tactic(auto, using(crate::proofs::ViewLemmas::channel_of_found, crate::proofs::ViewLemmas::channel_of_none), unfolding(crate::specs::View::channel_of, crate::specs::Description::described))]
     pub fn channel_of(&self, part: u8, port: u8) -> Option<u8>

@@ -92,12 +92,11 @@ fn put_images(alloc: Global, lines: &mut Vec<u8>, system: &System) -> Result<(),
 }
 
 /// How many partitions a system has.
-#[tactic(auto, unfolding(xm_conf::specs::Description::described))]
 fn parts(system: &System) -> u8
     ensures value { result ≡ length system.now.conf.parts }
     ensures images { result ≡ length system.now.images }
 {
-    system.conf().raw().parts.len() as u8
+    system.conf().part_count()
 }
 
 /// Writes the line of an image.

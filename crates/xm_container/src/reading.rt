@@ -233,12 +233,11 @@ fn assigned(conf: Conf, entries: Entries) -> Result<System, BoxFault>
 }
 
 /// How many partitions a configuration has.
-#[tactic(auto, unfolding(xm_conf::specs::Description::described))]
 fn count_of(conf: &Conf) -> usize
     ensures value { result ≡ length conf.now.parts }
     ensures few { result ≤ most_parts }
 {
-    conf.raw().parts.len()
+    usize::from(conf.part_count())
 }
 
 /// The number of the version of the bytes before the digest.

@@ -5,7 +5,7 @@ use Rattle.std.proofs.lemmas.Bool.{eqb-true}
 use Rattle.xm_conf.specs.Configuration.{Conf}
 use Rattle.machine_model.specs.Cue.{cue, cue_in, slot_of, unless_own}
 use Rattle.machine_model.specs.LocalTick.{LocalTick}
-use Rattle.machine_model.specs.Machine.{Happened, Machine, SlotTurn, happened, happened_by, if_its_turn, is_turn_of, local, order_upon, sight, sight_in, sight_of_state, tick_of, turn_of}
+use Rattle.machine_model.specs.Machine.{Happened, Machine, SlotTurn, happened, happened_by, if_its_turn, is_turn_of, order_upon, sight, sight_in, sight_of_state, tick_of, turn_of}
 use Rattle.machine_model.specs.Partition.{PartitionState}
 use Rattle.machine_model.specs.Emission.{Sight, Unseen}
 use Rattle.machine_model.specs.Traffic.{heard_as}

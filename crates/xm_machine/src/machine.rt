@@ -595,7 +595,7 @@ fn first_line(sys: &Sys, ticks: u64) -> Line<'static>
 {
     let conf = sys.conf().raw();
     Line::System {
-        parts: conf.parts.len() as u8,
+        parts: sys.conf().part_count(),
         plans: conf.plans.len() as u8,
         ticks,
     }

@@ -1,6 +1,6 @@
 //! The lines of a report go out, and bytes for consoles to their UARTs.
 
-ghost use Rattle.std.specs.Prelude.{◌≡◌, ◌+◌, ◌-◌, ◌<◌, ◌≤◌, ◌∷◌, ◌++◌, [], All, IfOk, IfSome, length, map, true};
+ghost use Rattle.std.specs.Prelude.{◌≡◌, ◌+◌, ◌<◌, ◌≤◌, ◌∷◌, ◌++◌, [], All, IfOk, IfSome, length, map, true};
 ghost use Rattle.guest_bus.specs.Memory.{all_from, bytes_at, is_readable};
 ghost use Rattle.system_state.specs.Serving.{CanBeEmitted};
 ghost use Rattle.system_state.specs.State.{areas_in, memory_of};

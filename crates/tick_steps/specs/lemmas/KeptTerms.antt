@@ -2,7 +2,6 @@
 use Rattle.std.specs.Prelude.{ℕ, zero, suc, Bool, true, false, List, []}
 use Rattle.guest_bus.specs.Memory.{Memory, bytes_at}
 use Rattle.machine_model.specs.Machine.{Machine, step}
-use Rattle.machine_model.specs.Emission.{NotKept}
 use Rattle.system_state.specs.declared.served.Note.{Note}
 use Rattle.system_state.specs.declared.served.Note.TheVariants as note
 use Rattle.tick_steps.specs.Kept.{KeptTick, kept_tick}

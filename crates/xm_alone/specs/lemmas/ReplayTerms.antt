@@ -1,6 +1,5 @@
 -- For proofs and private clauses: a partition that is replayed: which script fits it, what a replay says, and whether it was one of these cues.
 use Rattle.std.specs.Prelude.{Bool, false, true, Result, Ok, Err}
-use Rattle.machine_model.specs.Cue.{Cue}
 use Rattle.xm_machine.specs.declared.alone_span.AloneFault.{AloneFault}
 use Rattle.xm_machine.specs.declared.alone_span.AloneFault.TheVariants as alone
 

@@ -2,7 +2,6 @@
 use Rattle.std.specs.Prelude.{◌≡◌, ℕ, List, ◌++◌, map, Option, Some, None, Result, Ok, Err}
 use Rattle.xm_report.specs.Report.{ReportLine}
 use Rattle.xm_report.specs.declared.output.WriteFault.{WriteFault}
-use Rattle.machine_model.specs.Cue.{Cue}
 use Rattle.machine_model.specs.Machine.{Machine}
 use Rattle.machine_model.specs.Emission.{line_of}
 use Rattle.system_state.specs.State.{memory_of}

@@ -8,10 +8,10 @@ use Rattle.run_commands.proofs.readiness.ready_run.Goals as goal
 
 pub returns-in-Err-clause-value : goal.returns-in-Err-clause-value
 returns-in-Err-clause-value c =
-    let denied = rw (c.part_count.ensures, c.conf.ensures.value, c.split_contents.ensures.others) at c.in-Err.ensures.value in
+    let denied = rw (c.part_count.ensures.value, c.conf.ensures.value, c.split_contents.ensures.others) at c.in-Err.ensures.value in
     inputs_refuse (ending_of c.in-Err.ending) c.args.container.now (seen_options c.args.options) c.args.system.now _ denied
 
 pub returns-in-Ok-clause-numbers : goal.returns-in-Ok-clause-numbers
 returns-in-Ok-clause-numbers c = λ inputs given.
-    let words = rw (c.part_count.ensures, c.conf.ensures.value, c.split_contents.ensures.others) at c.in-Ok.ensures.value in
+    let words = rw (c.part_count.ensures.value, c.conf.ensures.value, c.split_contents.ensures.others) at c.in-Ok.ensures.value in
     received_ready c.ready_with.result c.args.system.now (ticks_asked (span_in (seen_options c.args.options)) c.args.system.now.conf) (scripts_in (seen_options c.args.options)) _ c.in-Ok.inputs inputs words c.ready_with.ensures.numbers given
