@@ -170,6 +170,8 @@ impl Processor {
         ensures value { result ≡ self.now.inv }
         // It is below 8.
         ensures below { result < 8 }
+        // It is not the current window.
+        ensures other { result ≢ self.now.cwp }
     {
         self.inv
     }
@@ -334,6 +336,31 @@ impl Processor {
         go_filled(&mut self.cached, &mut self.windows, self.cwp, above, words);
         self.inv = (above + 1) % 8;
         self.cwp = above;
+    }
+
+    /// Fills the invalid window with its locals and after them its ins, and stays in the current one. The window above it becomes the
+    /// invalid one.
+    #[tactic(auto, unfolding(crate::specs::Registers::with_inv, crate::specs::Registers::window_filled, crate::specs::Cached::gathered))]
+    pub fn fill_window(&mut self, words: &[u32; 16])
+        // Called where the window above the invalid one is not the current one.
+        requires { (self.old.inv + 1) % 8 ≢ self.old.cwp }
+        // The invalid window is filled with these registers, and no other window changes.
+        ensures filled { self.new ≡ window_filled self.old words.now }
+        // The number of the invalid window is below 8.
+        ensures window { self.old.inv < 8 }
+        // The eight windows have 128 registers.
+        ensures whole { length self.old.windows ≡ 128 }
+    {
+        let above = (self.inv + 1) % 8;
+        copy_words(
+            &mut self.windows,
+            16 * usize::from(self.inv) + 8,
+            words,
+            0,
+            8,
+        );
+        copy_words(&mut self.windows, 16 * usize::from(above), words, 8, 8);
+        self.inv = above;
     }
 
     /// Sets Y.

@@ -8,7 +8,7 @@ use Rattle.std.proofs.lemmas.List.{length-drop, take_all, same_lists, places, ge
 use Rattle.std.specs.Prelude.{ℕ, zero, suc, ◌+◌, ◌-◌, ◌*◌, ◌%◌, ◌<◌, ◌≤◌, Bool, true, false, nat_lt, ◌==◌, if◌then◌else◌, List, [], ◌∷◌, ◌++◌, length, take, drop, slice_index, slice_set, get_or}
 use Rattle.sparc_step.specs.Cached.{IsCached, gathered, lies_in, own_place, listed_below, windows_with, word_at}
 use Rattle.sparc_step.specs.lemmas.CachedTerms.{with_first}
-use Rattle.sparc_step.specs.Registers.{AreRegisters, Registers, ins_place, locals_and_ins, locals_place, place_in_windows, register_at, with_locals_and_ins, with_register, with_saved}
+use Rattle.sparc_step.specs.Registers.{AreRegisters, Registers, ins_place, locals_and_ins, locals_place, place_in_windows, register_at, window_filled, with_inv, with_locals_and_ins, with_register, with_saved}
 
 -- a table has as many numbers as were asked for
 pub length-table : (f : ℕ → ℕ) (n : ℕ) → length (listed_below f n) ≡ n
@@ -583,3 +583,24 @@ module _ (pc npc y icc cwp inv : ℕ) (cached windows : List ℕ) (now : Registe
 
       twice : List ℕ
       twice = put_mid (ins_place window) 8 once (take 8 (drop 8 words))
+
+-- the registers with the invalid window filled
+pub filled_seen : (pc npc y icc cwp inv : ℕ) (cached windows : List ℕ) (now : Registers) → gathered pc npc y icc cwp inv cached windows ≡ now → IsCached pc npc y icc cwp inv cached windows
+    → (locals ins : ℕ) (words once twice : List ℕ) → (now.inv + 1) % 8 ≢ now.cwp → locals ≡ locals_place inv → ins ≡ ins_place inv → length words ≡ 16
+    → once ≡ put_mid locals 8 windows (take 8 words) → twice ≡ put_mid ins 8 once (take 8 (drop 8 words)) → gathered pc npc y icc cwp ((inv + 1) % 8) cached twice ≡ window_filled now words
+unfolding gathered with_inv window_filled
+filled_seen pc npc y icc cwp inv cached windows now seen is locals ins words once twice other locals_is ins_are sixteen once_is twice_is =
+    ap (λ (r : Registers). with_inv r ((inv + 1) % 8)) (put_seen pc npc y icc cwp inv cached windows now seen is inv is.invalid_window locals ins words once twice differ below locals_is ins_are sixteen once_is twice_is)
+    ∙ ap (λ (n : ℕ). with_inv (with_saved now n words) ((n + 1) % 8)) inv_is
+  where
+    inv_is : inv ≡ now.inv
+    inv_is = ap (λ (r : Registers). r.inv) seen
+
+    cwp_is : cwp ≡ now.cwp
+    cwp_is = ap (λ (r : Registers). r.cwp) seen
+
+    differ : inv ≢ now.cwp
+    differ e = is.windows_differ (cwp_is ∙ sym e)
+
+    below : (inv + 1) % 8 ≢ now.cwp
+    below e = other (ap (λ (n : ℕ). (n + 1) % 8) (sym inv_is) ∙ e)
