@@ -1,2 +1,3 @@
 pub mod MovesTerms
 pub mod SaveAreaTerms
+pub mod SavedLemmas

@@ -7,7 +7,7 @@ mod save_area;
 mod step;
 mod windows;
 
-pub use delivery::{IretFault, deliver, iret};
+pub use delivery::{IretFault, deliver, deliver_cached, iret, iret_cached};
 pub use interrupts::Virt;
 pub use step::{settle, settle_cached};
-pub use windows::{StackFault, fill, spill};
+pub use windows::{StackFault, fill, fill_cached, spill, spill_cached};

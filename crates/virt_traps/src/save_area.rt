@@ -1,22 +1,17 @@
 //! The save area of a window: 64 bytes at its stack pointer.
 
-ghost use Rattle.std.specs.Prelude.{◌≡◌, ◌+◌, ◌*◌, ◌/◌, ◌%◌, ◌^◌, ◌<◌, ◌≤◌, ◌++◌, true, slice_set};
+ghost use Rattle.std.specs.Prelude.{◌≡◌, ◌+◌, ◌*◌, ◌/◌, ◌%◌, ◌^◌, ◌<◌, ◌≤◌, ◌++◌, true, length, slice_index, slice_set};
 ghost use Rattle.std.specs.Int.{to_be_bytes, w32, w64};
 ghost use Rattle.guest_bus.specs.Memory.{is_readable, is_writable, with_bytes};
-ghost use Rattle.sparc_step.specs.Registers.{place_in_windows};
 ghost use Rattle.guest_bus.specs.Words.{allows, bytes_of, words_at};
 ghost use Rattle.virt_traps.specs.lemmas.SaveAreaTerms.{allowed_for};
-ghost use Rattle.virt_traps.specs.SaveArea.{is_usable, register_of, registers_from, saved, with_registers};
+ghost use Rattle.virt_traps.specs.SaveArea.{is_usable};
 
 use crate::windows::WindowMove;
 use guest_bus::{Bus, Size};
-use sparc_step::place_in_windows;
 
 // How many double words a save area has.
 const DOUBLES: u8 = 8;
-
-// The first register of a window that its save area holds.
-const FIRST: u8 = 16;
 
 // The last address of a save area, which ends with the address space there.
 const LAST: u32 = 0xffff_ffc0;
@@ -66,63 +61,54 @@ fn may_be_used<B: Bus>(bus: &mut B, address: u32, which: WindowMove) -> bool
     }
 }
 
-/// Writes a window to its save area.
-#[tactic(auto, unfolding(crate::specs::SaveArea::saved))]
-pub(crate) fn store_window<B: Bus>(windows: &[u32; 128], bus: &mut B, window: u8, address: u32)
-    requires window { window < 8 }
+/// Writes the locals of a window, and after them its ins, to its save area.
+pub(crate) fn store_words<B: Bus>(words: &[u32; 16], bus: &mut B, address: u32)
     requires usable { is_usable (is_writable (B.areas bus.old)) address ≡ true }
-    ensures memory { B.memory bus.new ≡ with_bytes (B.memory bus.old) address (bytes_of (saved windows.now window)) }
+    ensures memory { B.memory bus.new ≡ with_bytes (B.memory bus.old) address (bytes_of words.now) }
     ensures areas { B.areas bus.new ≡ B.areas bus.old }
     ensures others { B.others bus.new ≡ B.others bus.old }
 {
-    store_registers(windows, bus, window, address, DOUBLES);
+    store_doubles(words, bus, address, DOUBLES);
 }
 
-// Writes the registers of a window, this many double words.
-fn store_registers<B: Bus>(windows: &[u32; 128], bus: &mut B, window: u8, address: u32, doubles: u8)
-    requires window { window < 8 }
-    requires doubles { doubles ≤ 8 }
+// Writes words, this many double words.
+fn store_doubles<B: Bus>(words: &[u32], bus: &mut B, address: u32, doubles: u8)
+    requires counted { length words.now ≡ 2 * doubles }
     requires aligned { address % 8 ≡ 0 }
     requires inside { address + 8 * doubles ≤ 2 ^ 32 }
     requires allowed { allows (is_writable (B.areas bus.old)) address (8 * doubles) ≡ true }
-    ensures memory { B.memory bus.new ≡ with_bytes (B.memory bus.old) address (bytes_of (registers_from windows.now window 16 (2 * doubles))) }
+    ensures memory { B.memory bus.new ≡ with_bytes (B.memory bus.old) address (bytes_of words.now) }
     ensures areas { B.areas bus.new ≡ B.areas bus.old }
     ensures others { B.others bus.new ≡ B.others bus.old }
 {
     for i in 0..doubles {
-        let value = double_of(windows, window, FIRST + 2 * i);
+        let value = double_of(words, 2 * usize::from(i));
         let Ok(()) = bus.store(address + 8 * u32::from(i), Size::Eight, value) else {
             unreachable!();
         };
     }
 }
 
-/// Reads a window from its save area.
-pub(crate) fn load_window<B: Bus>(windows: &mut [u32; 128], bus: &mut B, window: u8, address: u32)
-    requires window { window < 8 }
+/// Reads the locals of a window, and after them its ins, from its save area.
+pub(crate) fn load_words<B: Bus>(bus: &mut B, address: u32) -> [u32; 16]
     requires usable { is_usable (is_readable (B.areas bus.old)) address ≡ true }
-    ensures windows { windows.new ≡ with_registers windows.old window 16 (words_at (B.memory bus.old) address 16) }
+    ensures words { result ≡ words_at (B.memory bus.old) address 16 }
     ensures memory { B.memory bus.new ≡ B.memory bus.old }
     ensures areas { B.areas bus.new ≡ B.areas bus.old }
     ensures others { B.others bus.new ≡ B.others bus.old }
 {
-    load_registers(windows, bus, window, address, DOUBLES);
+    let mut words = [0; 16];
+    load_doubles(&mut words, bus, address, DOUBLES);
+    words
 }
 
-// Reads the registers of a window, this many double words.
-fn load_registers<B: Bus>(
-    windows: &mut [u32; 128],
-    bus: &mut B,
-    window: u8,
-    address: u32,
-    doubles: u8,
-)
-    requires window { window < 8 }
-    requires doubles { doubles ≤ 8 }
+// Reads words, this many double words.
+fn load_doubles<B: Bus>(words: &mut [u32], bus: &mut B, address: u32, doubles: u8)
+    requires counted { length words.old ≡ 2 * doubles }
     requires aligned { address % 8 ≡ 0 }
     requires inside { address + 8 * doubles ≤ 2 ^ 32 }
     requires allowed { allows (is_readable (B.areas bus.old)) address (8 * doubles) ≡ true }
-    ensures windows { windows.new ≡ with_registers windows.old window 16 (words_at (B.memory bus.old) address (2 * doubles)) }
+    ensures words { words.new ≡ words_at (B.memory bus.old) address (2 * doubles) }
     ensures memory { B.memory bus.new ≡ B.memory bus.old }
     ensures areas { B.areas bus.new ≡ B.areas bus.old }
     ensures others { B.others bus.new ≡ B.others bus.old }
@@ -131,21 +117,16 @@ fn load_registers<B: Bus>(
         let Ok(value) = bus.load(address + 8 * u32::from(i), Size::Eight) else {
             unreachable!();
         };
-        set_double(windows, window, FIRST + 2 * i, value);
+        set_double(words, 2 * usize::from(i), value);
     }
 }
 
-// Two registers of a window, the first of them high.
-fn double_of(windows: &[u32; 128], window: u8, n: u8) -> u64
-    requires window { window < 8 }
-    requires low { 8 ≤ n }
-    requires high { n < 31 }
-    ensures { to_be_bytes w64 result ≡ to_be_bytes w32 (register_of windows.now window n) ++ to_be_bytes w32 (register_of windows.now window (n + 1)) }
+// A double word of two words one after the other, the first of them high.
+fn double_of(words: &[u32], at: usize) -> u64
+    requires { at + 1 < length words.now }
+    ensures { to_be_bytes w64 result ≡ to_be_bytes w32 (slice_index words.now at) ++ to_be_bytes w32 (slice_index words.now (at + 1)) }
 {
-    joined(
-        register_of(windows, window, n),
-        register_of(windows, window, n + 1),
-    )
+    joined(words[at], words[at + 1])
 }
 
 // A double word of two words.
@@ -155,23 +136,11 @@ fn joined(high: u32, low: u32) -> u64
     u64::from(high) << 32 | u64::from(low)
 }
 
-// Sets two registers of a window to the words of a double word, the high one first.
-fn set_double(windows: &mut [u32; 128], window: u8, n: u8, value: u64)
-    requires window { window < 8 }
-    requires low { 8 ≤ n }
-    requires high { n < 31 }
-    ensures { windows.new ≡ slice_set (slice_set windows.old (place_in_windows window n) (value / 2 ^ 32)) (place_in_windows window (n + 1)) (value % 2 ^ 32) }
+// Sets two words one after the other to those of a double word, the high one first.
+fn set_double(words: &mut [u32], at: usize, value: u64)
+    requires { at + 1 < length words.old }
+    ensures { words.new ≡ slice_set (slice_set words.old at (value / 2 ^ 32)) (at + 1) (value % 2 ^ 32) }
 {
-    windows[place_in_windows(window, n)] = (value >> 32) as u32;
-    windows[place_in_windows(window, n + 1)] = (value & 0xffff_ffff) as u32;
-}
-
-/// The value of a register of a window.
-pub(crate) fn register_of(windows: &[u32; 128], window: u8, n: u8) -> u32
-    requires window { window < 8 }
-    requires low { 8 ≤ n }
-    requires high { n < 32 }
-    ensures { result ≡ register_of windows.now window n }
-{
-    windows[place_in_windows(window, n)]
+    words[at] = (value >> 32) as u32;
+    words[at + 1] = (value & 0xffff_ffff) as u32;
 }

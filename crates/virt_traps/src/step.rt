@@ -95,10 +95,7 @@ fn make_again<B: Bus>(
     ensures areas { B.areas bus.new ≡ B.areas bus.old }
     ensures others { B.others bus.new ≡ B.others bus.old }
 {
-    let mut core = processor.core();
-    let answer = move_window(&mut core, bus, which);
-    *processor = Processor::of(&core);
-    match answer {
+    match move_window(processor, bus, which) {
         Ok(()) => processor.turn(bus),
         Err(_) => Turn::Trap(trap_type),
     }
