@@ -19,7 +19,7 @@ use Rattle.machine_model.specs.Emission.{Emission, line_of}
 use Rattle.machine_model.specs.View.{view_of}
 use Rattle.machine_model.specs.Whole.{AllHalted, AllReset, NoEvent, WholeEvent, event_lines, whole_lines}
 use Rattle.machine_model.specs.lemmas.ListLemmas.{filter_append}
-use Rattle.machine_model.proofs.StepLemmas.{alone_local_is}
+use Rattle.machine_model.specs.lemmas.AloneLemmas.{alone_local_is}
 
 -- a line of what a partition emitted has its tag
 pub line_tag : (n p : ℕ) (t : Emission) → tag_of (line_of n p t) ≡ Some p
