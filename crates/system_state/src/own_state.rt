@@ -1,11 +1,11 @@
 //! The state of one partition.
 
-ghost use Rattle.std.specs.Prelude.{◌≡◌, ◌%◌, ◌||◌, IfOk};
+ghost use Rattle.std.specs.Prelude.{◌≡◌, ◌%◌, ◌<◌, ◌||◌, IfOk};
 ghost use Rattle.std.specs.List.{list_any};
 ghost use Rattle.virt_clocks.specs.Clocks.{looked_at};
 ghost use Rattle.system_state.specs.lemmas.StateTerms.{booted_own};
 ghost use Rattle.system_state.specs.State.{is_timed};
-ghost use Rattle.system_state.specs.lemmas.TurningTerms.{HasMet};
+ghost use Rattle.system_state.specs.lemmas.TurningTerms.{HasHeard, HasMet};
 
 use crate::interrupts::{EXECUTION_TIMER, HARDWARE_TIMER, SLOT_START};
 use health_monitor::HealthEntry;
@@ -92,6 +92,18 @@ impl PartState {
         }
         if self.clocks.exec_due() {
             self.virt.raise(EXECUTION_TIMER);
+        }
+    }
+
+    /// An interrupt becomes pending, unless the partition has halted.
+    pub(crate) fn raise(&mut self, interrupt: u8)
+        requires { interrupt < 32 }
+        ensures raised { HasHeard interrupt self.old self.new }
+        ensures clocks { self.new.clocks ≡ self.old.clocks }
+    {
+        match self.state {
+            State::Ready | State::Idle | State::Suspended => self.virt.raise(interrupt),
+            State::Halted => {}
         }
     }
 

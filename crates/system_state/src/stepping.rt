@@ -16,8 +16,10 @@ use fast_loop::run;
 use guest_bus::Bus;
 use predecode::HasRows;
 use predecoded_memory::PredecodedRam;
-use sparc_step::{Core, Processor, Turn};
-use virt_traps::{IretFault, StackFault, Virt, deliver, iret, settle_cached, spill};
+use sparc_step::{Processor, Turn};
+use virt_traps::{
+    IretFault, StackFault, Virt, deliver_cached, iret_cached, settle_cached, spill_cached,
+};
 use xm_base::{PartId, proof};
 
 // Selects a partition, unless it is selected already.
@@ -69,27 +71,6 @@ pub(crate) fn deliver_part(
     answer
 }
 
-// Delivers a trap of a type, to cached registers.
-fn deliver_cached<B: Bus>(
-    virt: &mut Virt,
-    processor: &mut Processor,
-    bus: &mut B,
-    tt: u8,
-) -> Result<(), StackFault>
-    ensures answer { result ≡ (delivered (B.areas bus.old) virt.old processor.old (B.memory bus.old) tt).answer }
-    ensures traps { virt.new ≡ (delivered (B.areas bus.old) virt.old processor.old (B.memory bus.old) tt).traps }
-    ensures core { processor.new ≡ (delivered (B.areas bus.old) virt.old processor.old (B.memory bus.old) tt).core }
-    ensures memory { B.memory bus.new ≡ (delivered (B.areas bus.old) virt.old processor.old (B.memory bus.old) tt).memory }
-    ensures unchanged { OnErr result ((virt.new ≡ virt.old) × (processor.new ≡ processor.old) × (B.memory bus.new ≡ B.memory bus.old)) }
-    ensures areas { B.areas bus.new ≡ B.areas bus.old }
-    ensures others { B.others bus.new ≡ B.others bus.old }
-{
-    let mut core = processor.core();
-    let answer = deliver(virt, &mut core, bus, tt);
-    *processor = Processor::of(&core);
-    answer
-}
-
 /// Returns from a trap of partition `p`.
 pub(crate) fn return_part(
     virt: &mut Virt,
@@ -107,28 +88,8 @@ pub(crate) fn return_part(
     select(ram, p);
     // It is selected before and after the return.
     proof! { let _before = ram.selected(); }
-    let answer = return_cached(virt, core, ram);
+    let answer = iret_cached(virt, core, ram);
     proof! { let _after = ram.selected(); }
-    answer
-}
-
-// Returns from a trap, with cached registers.
-fn return_cached<B: Bus>(
-    virt: &mut Virt,
-    processor: &mut Processor,
-    bus: &mut B,
-) -> Result<(), IretFault>
-    ensures answer { result ≡ (returned (B.areas bus.old) virt.old processor.old (B.memory bus.old)).answer }
-    ensures traps { virt.new ≡ (returned (B.areas bus.old) virt.old processor.old (B.memory bus.old)).traps }
-    ensures core { processor.new ≡ (returned (B.areas bus.old) virt.old processor.old (B.memory bus.old)).core }
-    ensures memory { B.memory bus.new ≡ B.memory bus.old }
-    ensures unchanged { OnErr result ((virt.new ≡ virt.old) × (processor.new ≡ processor.old)) }
-    ensures areas { B.areas bus.new ≡ B.areas bus.old }
-    ensures others { B.others bus.new ≡ B.others bus.old }
-{
-    let mut core = processor.core();
-    let answer = iret(virt, &mut core, bus);
-    *processor = Processor::of(&core);
     answer
 }
 
@@ -146,34 +107,23 @@ pub(crate) fn flush_part(
     select(ram, p);
     // It is selected before and after the spills.
     proof! { let _before = ram.selected(); }
-    let answer = flush_cached(core, ram);
+    let answer = flush(core, ram);
     proof! { let _after = ram.selected(); }
     answer
 }
 
-// Spills windows until all but the current one are, of cached registers.
-fn flush_cached<B: Bus>(processor: &mut Processor, bus: &mut B) -> Result<(), StackFault>
-    ensures moved { IsMoved result processor.new (B.memory bus.new) (flushed 8 (B.areas bus.old) (move_made processor.old (B.memory bus.old))) }
-    ensures areas { B.areas bus.new ≡ B.areas bus.old }
-    ensures others { B.others bus.new ≡ B.others bus.old }
-{
-    let mut core = processor.core();
-    let answer = flush(&mut core, bus);
-    *processor = Processor::of(&core);
-    answer
-}
-
 // Spills windows until all but the current one are.
-fn flush<B: Bus>(core: &mut Core, bus: &mut B) -> Result<(), StackFault>
-    ensures moved { IsMoved result core.new (B.memory bus.new) (flushed 8 (B.areas bus.old) (move_made core.old (B.memory bus.old))) }
+fn flush<B: Bus>(own: &mut Processor, bus: &mut B) -> Result<(), StackFault>
+    ensures moved { IsMoved result own.new (B.memory bus.new) (flushed 8 (B.areas bus.old) (move_made own.old (B.memory bus.old))) }
     ensures areas { B.areas bus.new ≡ B.areas bus.old }
     ensures others { B.others bus.new ≡ B.others bus.old }
 {
     for _ in 0..8u8 {
-        if (core.cwp + 1) % 8 == core.inv {
+        let above = (own.cwp() + 1) % 8;
+        if above == own.inv() {
             return Ok(());
         }
-        spill(core, bus)?;
+        spill_cached(own, bus)?;
     }
     Ok(())
 }

@@ -1,9 +1,10 @@
 //! What the engine of a tick does to a system: for the crates that do ticks and calls.
 
-ghost use Rattle.std.specs.Prelude.{◌≡◌, ◌+◌, ◌^◌, ◌<◌, false, length};
+ghost use Rattle.std.specs.Prelude.{◌≡◌, ◌+◌, ◌^◌, ◌<◌, Some, false, length};
 ghost use Rattle.std.specs.Bool.{OnTrue};
 ghost use Rattle.machine_model.specs.Caller.{with_answer};
 ghost use Rattle.machine_model.specs.LocalTick.{clocked, with_interrupts};
+ghost use Rattle.machine_model.specs.Traffic.{interrupted};
 ghost use Rattle.span_model.specs.Meeting.{awake};
 ghost use Rattle.system_state.specs.State.{any_timed, part_at, with_machine, with_part};
 ghost use Rattle.system_state.specs.Turning.{counted_on};
@@ -44,6 +45,17 @@ pub fn meet(sys: &mut Sys, p: PartId, first: bool)
     ensures value { sys.new ≡ with_machine (with_part p (with_interrupts sys.old.machine.time first (part_at p sys.old.machine)) sys.old.machine) sys.old }
 {
     sys.parts[usize::from(p)].meet(sys.time, first);
+}
+
+/// An interrupt becomes pending at a partition, unless the partition has halted.
+pub fn raise(sys: &mut Sys, p: PartId, interrupt: u8)
+    // Called for a partition that exists and for an interrupt below 32.
+    requires partition { p < length sys.old.machine.parts }
+    requires interrupt { interrupt < 32 }
+    // The interrupt is pending at the partition unless the partition has halted, and nothing else changes.
+    ensures value { sys.new ≡ with_machine (with_part p (interrupted (Some interrupt) (part_at p sys.old.machine)) sys.old.machine) sys.old }
+{
+    sys.parts[usize::from(p)].raise(interrupt);
 }
 
 /// A partition becomes ready.
