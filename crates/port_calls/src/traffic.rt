@@ -6,15 +6,15 @@ ghost use Rattle.guest_bus.specs.Memory.{all_from, bytes_at, is_readable};
 ghost use Rattle.xm_ports.specs.Channels.{FitsChannel, HasQueue, HasSampling, IsFull, content_at, first_message, shapes_of};
 ghost use Rattle.span_model.specs.Passes.{with_traffic};
 ghost use Rattle.machine_model.specs.Emission.{OwnSignals};
-ghost use Rattle.machine_model.specs.Traffic.{Puts, Takes, hearing, interrupted, is_destination};
+ghost use Rattle.machine_model.specs.Traffic.{Puts, Takes, hearing, is_destination};
 ghost use Rattle.machine_model.specs.View.{part_of, view_of};
 ghost use Rattle.port_calls.specs.MadePorts.{table_in};
 ghost use Rattle.system_state.specs.State.{areas_in, memory_of, part_at, with_machine, with_part};
 ghost use Rattle.port_calls.specs.lemmas.Traffic.{heard_at, hears_from, hears_in, is_end_of, is_in, is_on, notified};
 
 use system_state::interrupts::{LINK_SIGNAL, QUEUING_MESSAGE, SAMPLING_MESSAGE};
-use system_state::{Sys, messages};
-use xm_base::{PartId, State, proof};
+use system_state::{Sys, engine, messages};
+use xm_base::{PartId, proof};
 use xm_conf::{Conf, End, Port, Way};
 use xm_ports::Full;
 
@@ -115,7 +115,7 @@ pub fn signal(sys: &mut Sys, dest: PartId, number: u8)
     // The interrupt of a link's number is pending at the partition to which it goes.
     ensures { sys.new ≡ with_machine (with_part dest (hearing (view_of sys.old.machine.system dest) (OwnSignals number) (part_at dest sys.old.machine)) sys.old.machine) sys.old }
 {
-    raise_at(sys, dest, LINK_SIGNAL + number);
+    engine::raise(sys, dest, LINK_SIGNAL + number);
 }
 
 /// Makes an interrupt pending at each partition that hears what is put into a channel.
@@ -135,20 +135,7 @@ fn interrupt_hearer(sys: &mut Sys, q: PartId, chan: u8, interrupt: u8)
     ensures { sys.new ≡ with_machine (with_part q (heard_at sys.old.machine.system.conf chan interrupt q (part_at q sys.old.machine)) sys.old.machine) sys.old }
 {
     if hears(sys, q, chan) {
-        raise_at(sys, q, interrupt);
-    }
-}
-
-/// Makes an interrupt pending at a partition, unless it has halted.
-fn raise_at(sys: &mut Sys, q: PartId, interrupt: u8)
-    requires there { q < length sys.old.machine.parts }
-    requires interrupt { interrupt < 32 }
-    ensures { sys.new ≡ with_machine (with_part q (interrupted (Some interrupt) (part_at q sys.old.machine)) sys.old.machine) sys.old }
-{
-    let own = sys.part_mut(q);
-    match own.state {
-        State::Ready | State::Idle | State::Suspended => own.virt.raise(interrupt),
-        State::Halted => {}
+        engine::raise(sys, q, interrupt);
     }
 }
 
