@@ -49,9 +49,9 @@ kept_add (suc j) k g before = ap (λ n. kept_after g n before) (suc-add j k) ∙
     at false runs more = kept_runs (j + k) g before runs ∙ more ∙ ap (kept_after (run (step g) j) k) (sym (kept_runs j g before runs))
 
 -- the last tick of a span is kept
-pub keeps_span : (span : Span) (most : ℕ) (old new : SysState) (got : List ReportLine) (before kept : KeptTick) → IsSpanDone span most old new got
-    → kept ≡ kept_tick (run old.machine (span.ticks - 1)) → KeepsLastTick most (record { state = old.machine; kept = before }) (record { state = new.machine; kept = kept })
-keeps_span span most old new got before kept done kept_is =
+pub keeps_span : (span : Span) (most : ℕ) (old new : SysState) (got : List ReportLine) (before kept : KeptTick) (had said : List ℕ) → IsSpanDone span most old new got
+    → kept ≡ kept_tick (run old.machine (span.ticks - 1)) → KeepsLastTick most (record { state = old.machine; kept = before; said = had }) (record { state = new.machine; kept = kept; said = said })
+keeps_span span most old new got before kept had said done kept_is =
     let some : suc (span.ticks - 1) ≡ span.ticks = omega (arith, done.some) in
     record {
       done = span.ticks;
@@ -69,10 +69,11 @@ keeps_ticks span most old new got before kept done kept_is =
     kept_is ∙ sym (kept_last (span.ticks - 1) old.machine before done.running) ∙ ap (λ n. kept_after old.machine n before) some
 
 -- and so are those whose lines may have been cut off
-pub keeps_so : (printed : Result ℕ WriteFault) (ends : Bool) (span : Span) (most : ℕ) (old new : SysState) (got : List ReportLine) (before kept : KeptTick) → IsSpanDone span most old new got
-    → kept ≡ kept_tick (run old.machine (span.ticks - 1)) → KeepsStepped (stepped_by printed span.ticks ends) most (record { state = old.machine; kept = before }) (record { state = new.machine; kept = kept })
-keeps_so (Ok lines) ends span most old new got before kept done is = keeps_ticks span most old new got before kept done is
-keeps_so (Err fault) ends span most old new got before kept done is = keeps_span span most old new got before kept done is
+pub keeps_so : (printed : Result ℕ WriteFault) (ends : Bool) (span : Span) (most : ℕ) (old new : SysState) (got : List ReportLine) (before kept : KeptTick) (had said : List ℕ) → IsSpanDone span most old new got
+    → kept ≡ kept_tick (run old.machine (span.ticks - 1))
+    → KeepsStepped (stepped_by printed span.ticks ends) most (record { state = old.machine; kept = before; said = had }) (record { state = new.machine; kept = kept; said = said })
+keeps_so (Ok lines) ends span most old new got before kept had said done is = keeps_ticks span most old new got before kept done is
+keeps_so (Err fault) ends span most old new got before kept had said done is = keeps_span span most old new got before kept had said done is
 
 -- the last tick of those that were done is kept
 pub keeps_stepped : (stepped : Stepped) (most : ℕ) (old new : Meaning) (had got : Option (List ℕ)) → AreStepped stepped most old.state new.state had got

@@ -106,7 +106,7 @@ none_said f h (x ∷ xs) none =
     ∙ none_said f (λ k. h (suc k)) xs (λ k y. none (suc k) y)
 
 -- lines that say nothing, after others
-silent_after : (f : ReportLine → List ℕ) (a b : List ReportLine) → flat_map f b ≡ [] → flat_map f (a ++ b) ≡ flat_map f a
+pub silent_after : (f : ReportLine → List ℕ) (a b : List ReportLine) → flat_map f b ≡ [] → flat_map f (a ++ b) ≡ flat_map f a
 silent_after f a b none = flat_map-append f a b ∙ ap (λ (rest : List ℕ). flat_map f a ++ rest) none ∙ append-nil (flat_map f a)
 
 -- an order emits no console bytes
@@ -117,7 +117,7 @@ order_silent order.Resume = refl
 order_silent order.Shutdown = refl
 order_silent (order.Reset mode status) = refl
 
-obeyed_silent : (o : Option Order) (ps : PartitionState) → flat_map said_in (obeyed_emissions o ps) ≡ []
+pub obeyed_silent : (o : Option Order) (ps : PartitionState) → flat_map said_in (obeyed_emissions o ps) ≡ []
 unfolding ordered_emissions
 obeyed_silent None ps = refl
 obeyed_silent (Some an_order) ps = at (applies an_order ps.state)
@@ -151,10 +151,10 @@ plan_silent g uart n old new = at (old == new)
     at false = refl
 
 -- a local tick of partition q: its lines are those of a tale, and its console bytes are what that says
-record HasTale (g : Machine) (q : ℕ) (l : Option LocalTick) : Type 0 where
-  tale : List Emission
-  its_lines : local_lines l ≡ map (line_of g.ticks q) tale
-  its_bytes : local_said l ≡ flat_map said_in tale
+pub record HasTale (g : Machine) (q : ℕ) (l : Option LocalTick) : Type 0 where
+  pub tale : List Emission
+  pub its_lines : local_lines l ≡ map (line_of g.ticks q) tale
+  pub its_bytes : local_said l ≡ flat_map said_in tale
 
 taken_tale : (g : Machine) (q : ℕ) (first : Bool) (ps : PartitionState) → HasTale g q (taken_by g q first (Some ps))
 unfolding local_of local_tick view_of
@@ -410,7 +410,7 @@ console_below conf p part fits below is =
     at (Some place) within = omega (arith, within, few)
 
 -- the same of a tick of one partition in isolation
-alone_tale : (g : Machine) (p : ℕ) (cue : Cue) → HasTale g p (alone_local (view_of g.system p) (part_in g p) cue)
+pub alone_tale : (g : Machine) (p : ℕ) (cue : Cue) → HasTale g p (alone_local (view_of g.system p) (part_in g p) cue)
 unfolding alone_local local_tick part view_of
 alone_tale g p cue = by cue.mine
   where

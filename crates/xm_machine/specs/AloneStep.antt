@@ -3,7 +3,7 @@ use Rattle.std.specs.Prelude.{◌≡◌, ℕ, false, if◌then◌else◌, List, 
 use Rattle.xm_outside.specs.Causes.{Rose}
 use Rattle.xm_outside.specs.Growth.{GrewByPrefix, grown}
 use Rattle.xm_report.specs.Report.{texts}
-use Rattle.machine_model.specs.Alone.{alone_step_lines, alone_step_said}
+use Rattle.machine_model.specs.Alone.{alone_said, alone_step_lines, alone_step_said}
 use Rattle.machine_model.specs.Cue.{Cue}
 use Rattle.machine_model.specs.Lines.{has_console}
 use Rattle.machine_model.specs.Machine.{Machine}
@@ -41,3 +41,9 @@ abbrev pub IsSaidAlone : {T : Type 0} → Result T AloneFault → ℕ → Cue �
 IsSaidAlone (Ok done) p cue old before after = IsHeard (said_alone old p cue) before after
 IsSaidAlone (Err fault.Write) p cue old before after = IsHeard (said_alone old p cue) before after
 IsSaidAlone (Err fault.Cue) p cue old before after = after ≡ before
+
+-- the console bytes that are kept of ticks of a partition in isolation: those that it writes under these cues, where the last was done
+abbrev pub KeepsSaid : {T : Type 0} → Result T AloneFault → ℕ → List Cue → Machine → List ℕ → Type 0
+KeepsSaid (Ok done) p cues old said = said ≡ alone_said (view_of old.system p) (part_in old p) cues
+KeepsSaid (Err fault.Write) p cues old said = said ≡ alone_said (view_of old.system p) (part_in old p) cues
+KeepsSaid (Err fault.Cue) p cues old said = Unit {0}

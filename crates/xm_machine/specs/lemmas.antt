@@ -2,6 +2,7 @@ pub mod AloneStepTerms
 pub mod CuesTerms
 pub mod HeardTerms
 pub mod OutcomeTerms
+pub mod SaidTerms
 pub mod ScriptLemmas
 pub mod SpansTerms
 pub mod StepsTerms

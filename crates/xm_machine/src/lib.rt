@@ -8,6 +8,7 @@ mod law;
 mod machine;
 mod report;
 mod run;
+mod said;
 mod stretch;
 
 pub use alone_span::{AloneFault, AloneSpan};

@@ -1,6 +1,6 @@
 //! The machine: it boots, and does its ticks one by one.
 
-ghost use Rattle.std.specs.Prelude.{◌≡◌, ◌+◌, ◌*◌, ◌<◌, ◌≤◌, false, All, IfOk, length};
+ghost use Rattle.std.specs.Prelude.{◌≡◌, ◌+◌, ◌-◌, ◌*◌, ◌<◌, ◌≤◌, ◌∷◌, ◌++◌, [], false, All, IfOk, length, replicate};
 ghost use Rattle.cyclic_plans.specs.PlanClock.{started};
 ghost use Rattle.system_state.specs.State.{with_inputs};
 ghost use Rattle.core_files.specs.Length.{core_length_of};
@@ -13,9 +13,10 @@ ghost use Rattle.machine_model.specs.View.{view_of};
 ghost use Rattle.span_model.specs.Passes.{evented, part_at, with_part};
 ghost use Rattle.uart_board.specs.Heard.{IsHeard};
 ghost use Rattle.replay_model.specs.Step.{IsOfSystem};
+ghost use Rattle.cue_scripts.specs.Entries.{bare_cue};
 ghost use Rattle.cue_scripts.specs.Script.{IsCue};
 ghost use Rattle.xm_machine.specs.AloneSpan.{SpansAlone};
-ghost use Rattle.xm_machine.specs.AloneStep.{HasStepCause, IsSaidAlone, StepsAlone};
+ghost use Rattle.xm_machine.specs.AloneStep.{HasStepCause, IsSaidAlone, KeepsSaid, StepsAlone};
 ghost use Rattle.xm_machine.specs.Alone.{AreAlone, AreBootedAlone, RunsEachAlone};
 ghost use Rattle.tick_steps.specs.CueValues.{cue_value};
 ghost use Rattle.xm_machine.specs.Cues.{AreCued, RunsCued, last_received};
@@ -36,6 +37,7 @@ ghost use Rattle.xm_report.specs.Report.{line_value};
 use crate::alone_span::{AloneFault, AloneSpan};
 use crate::report::{end_parts, print_alone, print_tick};
 use crate::run::Ran;
+use crate::said::Said;
 use crate::stretch::{Stepped, ends_stretch, stepped_by};
 use core_files::{core_into, core_length};
 use cyclic_plans::{Here, PlanClock};
@@ -62,6 +64,7 @@ pub struct Machine {
     sys: Sys,
     lines: Lines,
     kept: Engine,
+    said: Said,
 }
 
 impl Model for Machine {
@@ -74,7 +77,7 @@ impl Model for Machine {
 
     ghost coded = { Prim.hlevel (codes, memory_code) };
 
-    ghost view = { λ a. record { state = a.sys.machine; kept = a.kept } };
+    ghost view = { λ a. record { state = a.sys.machine; kept = a.kept; said = a.said } };
 
     ghost invariant = { λ a. IsMachine a.sys };
 }
@@ -99,6 +102,7 @@ impl Machine {
             sys: Sys::new(alloc, system, inputs)?,
             lines: Lines::new(alloc)?,
             kept: Engine::new(alloc)?,
+            said: Said::nothing(),
         })
     }
 
@@ -352,10 +356,14 @@ impl Machine {
         ensures system { IsOfSystem self.old.state self.new.state }
         ensures kept { self.new.kept ≡ self.old.kept }
         ensures counters { IsCounted self.new.state }
+        // The console bytes of the tick are kept, unless the partition cannot take the cue.
+        ensures said { KeepsSaid result p (cue_value cue.now ∷ []) self.old.state self.new.said }
     {
         self.lines.clear();
         let n = self.sys.ticks();
         let done = tick_alone(&mut self.sys, &mut self.lines, p, cue);
+        self.said.keep(&self.sys, p, done);
+        proof! { let _ = self.lines.as_slice(); }
         print_alone(&self.sys, n, p, done, &self.lines, out, board)
     }
 
@@ -385,16 +393,28 @@ impl Machine {
         ensures system { IsOfSystem self.old.state self.new.state }
         ensures kept { self.new.kept ≡ self.old.kept }
         ensures counters { IsCounted self.new.state }
+        // The console bytes of the ticks are kept, unless the partition cannot take the cue of the last.
+        ensures said { KeepsSaid result.ended p (replicate (result.ticks - 1) (bare_cue own) ++ bare_cue own ∷ []) self.old.state self.new.said }
     {
         self.lines.clear();
         let begun = self.sys.ticks();
         let span = span_alone(&mut self.sys, &mut self.lines, p, own, most);
+        self.said.keep(&self.sys, p, span.emitted);
+        proof! { let _ = self.lines.as_slice(); }
         let last = begun + span.ticks - 1;
         let ended = print_alone(&self.sys, last, p, span.emitted, &self.lines, out, board);
         AloneSpan {
             ticks: span.ticks,
             ended,
         }
+    }
+
+    /// The bytes that the partition wrote to its console in the ticks in isolation that were done last.
+    pub fn said(&self) -> &[u8]
+        // The console bytes that are kept, as `Machine::step_alone` and `Machine::span_alone` left them.
+        ensures { result.now ≡ self.now.said }
+    {
+        self.said.bytes()
     }
 
     /// How many bytes the core file of a partition has. No tick and no reset changes it.

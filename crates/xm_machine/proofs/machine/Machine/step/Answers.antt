@@ -40,7 +40,7 @@ returns-clause-heard g c =
 
 pub returns-clause-kept : goal.returns-clause-kept
 returns-clause-kept g c =
-    rw (c.stepped_by.ensures, ← c.self.view_is) (keeps_so c.print_tick.result c.ends_stretch-ends.result c.run-span.result c.args.most c.self.inside.sys c.run-span.new.sys c.run-span.new.lines c.self.inside.kept c.run-span.new.self c.run-span.ensures.done
+    rw (c.stepped_by.ensures, ← c.self.view_is) (keeps_so c.print_tick.result c.ends_stretch-ends.result c.run-span.result c.args.most c.self.inside.sys c.run-span.new.sys c.run-span.new.lines c.self.inside.kept c.run-span.new.self c.self.inside.said c.self.inside.said c.run-span.ensures.done
     c.run-span.ensures.kept)
 
 pub returns-clause-bare : goal.returns-clause-bare
