@@ -46,18 +46,19 @@ fn run_container(alloc: Global, number: u32, container: &[u8]) -> Result<Vec<u8>
     let system = system_in(alloc, container)?;
     let inputs = Inputs::new(alloc, PARTS)?;
     let mut machine = Machine::boot(alloc, system, inputs)?;
-    let ran = run_frames(&mut machine);
+    let ran = run_frames(&mut machine, RUN_TICKS);
     lines_of(alloc, number, container, ran.lines, &machine)
 }
 
-// The run, over an output that takes all and a board without UARTs.
-fn run_frames(machine: &mut Machine) -> Ran
+// The run of this many ticks, over an output that takes all and a board without UARTs.
+fn run_frames(machine: &mut Machine, ticks: u64) -> Ran
+    requires length { ticks ≡ run_length }
     requires fresh { machine.old.state.ticks ≡ 0 }
     requires running { machine.old.state.halted ≡ false }
     ensures state { machine.new.state ≡ run machine.old.state run_length }
     ensures lines { result.lines ≡ length (report_of machine.old.state run_length) }
 {
-    let Ok(ran) = machine.run(RUN_TICKS, &mut SureSink::new(), &mut Board::new()) else {
+    let Ok(ran) = machine.run(ticks, &mut SureSink::new(), &mut Board::new()) else {
         unreachable!();
     };
     ran

@@ -1,4 +1,4 @@
-use Rattle.std.proofs.Common.{ℕ, List, length, ap, ◌∙◌, sym}
+use Rattle.std.proofs.Common.{ℕ, List, length, ap, ◌∙◌, refl, sym}
 use Rattle.machine_model.specs.Machine.{Machine, run}
 use Rattle.system_state.specs.State.{with_inputs}
 use Rattle.generated_system.specs.Generated.{generated}
@@ -13,6 +13,10 @@ pub boot-requires : goal.boot-requires
 boot-requires c =
     let is = one_system c.args.container.now (generated c.args.number) c.in_ok-system.system c.requires.read c.in_ok-system.ensures in
     rw (c.in_ok-inputs.ensures.value, is) (sym (sixteen c.args.number))
+
+pub run_frames-ran-requires-clause-length : goal.run_frames-ran-requires-clause-length
+unfolding run_length
+run_frames-ran-requires-clause-length c = refl
 
 pub run_frames-ran-requires-clause-fresh : goal.run_frames-ran-requires-clause-fresh
 run_frames-ran-requires-clause-fresh c = ap (λ (m : Machine). m.ticks) c.in_ok-machine.ensures.state ∙ starts_fresh (with_inputs c.in_ok-system.system c.in_ok-inputs.inputs)
