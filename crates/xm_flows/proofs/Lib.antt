@@ -1,4 +1,3 @@
-pub mod ActLemmas
 pub mod EndLemmas
 pub mod LinkLemmas
 pub mod PairLemmas
@@ -8,7 +7,6 @@ pub mod ClockLemmas
 pub mod TickLemmas
 pub mod AgreeLemmas
 pub mod RunLemmas
-pub mod CalmLemmas
 pub mod MaskLemmas
 pub mod ClosureLemmas
 pub mod RoundLemmas

@@ -26,11 +26,12 @@ use Rattle.xm_flows.specs.Groups.{HasItsPeers, Members}
 use Rattle.xm_flows.specs.Laws.{AreClosedAlike}
 use Rattle.xm_flows.specs.Rights.{ActsByRight, IsByRight}
 use Rattle.xm_flows.specs.Steering.{steered_plan, steering, steering_in, steering_unless, to_member}
-use Rattle.xm_flows.proofs.ActLemmas.{bounded_right}
+use Rattle.xm_flows.specs.lemmas.ActLemmas.{bounded_right}
 use Rattle.xm_flows.proofs.ClockLemmas.{RunTheSame, clocks_alike}
 use Rattle.xm_flows.proofs.HeardLemmas.{unheard}
 use Rattle.xm_flows.proofs.PairLemmas.{HaveSameChannels, heard_alike}
-use Rattle.xm_flows.proofs.TurnLemmas.{member_turn, same_frame, same_turn}
+use Rattle.xm_flows.proofs.TurnLemmas.{member_turn, same_turn}
+use Rattle.xm_flows.specs.lemmas.FrameLemmas.{same_frame}
 
 -- a partition has the same part of two machines
 pub record HasSamePart (g h : Machine) (p : ℕ) : Type 0 where

@@ -1,11 +1,11 @@
 -- Whose slot a tick is in, for a set of partitions: two systems with the same slots of members have the same turns of members.
-use Rattle.std.proofs.Common.{◌≡◌, ℕ, zero, suc, ◌<◌, ◌≤◌, ◌+◌, Bool, true, false, cond, List, [], ◌∷◌, length, map, Option, None, Some, refl, sym, ap, ◌∙◌, arith, subst}
+use Rattle.std.proofs.Common.{◌≡◌, ℕ, suc, ◌<◌, ◌≤◌, ◌+◌, Bool, true, false, cond, List, [], ◌∷◌, length, Option, None, Some, refl, sym, ap, ◌∙◌, arith, subst}
 use Rattle.std.specs.Prelude.{slice_get, slice_index_or, ◌==◌, ◌-◌, ◌&&◌, if◌then◌else◌, nat_le, nat_lt}
 use Rattle.std.proofs.lemmas.Bool.Decides.{nat_tests}
 use Rattle.std.proofs.lemmas.Option.{slice_get_past}
 use Rattle.cyclic_plans.specs.PlanClock.{here, moment, slot_at}
 use Rattle.cyclic_plans.specs.lemmas.PlanLemmas.{plan_fits}
-use Rattle.cyclic_plans.specs.Slots.{covers, frame_in, frame_of, here_in, slot_from, slots_in, slots_of}
+use Rattle.cyclic_plans.specs.Slots.{covers, here_in, slot_from, slots_in, slots_of}
 use Rattle.xm_base.specs.Options.{on}
 use Rattle.xm_conf.specs.Configuration.{Conf, Plan}
 use Rattle.xm_conf.specs.Description.{described}
@@ -101,23 +101,3 @@ same_turn members g h fits fits_too slots time plan frame_start =
     ∙ ap (λ n. found_turn (moment h.clock h.time) (slot_from (moment h.clock h.time) 0 (own_slots members (slots_of g.system.conf n)))) plan
     ∙ ap (λ own. found_turn (moment h.clock h.time) (slot_from (moment h.clock h.time) 0 own)) (slots h.clock.plan)
     ∙ sym (own_turn members h fits_too)
-
--- equal frames
-frame_at : (plans : List Plan) (n : ℕ) → slice_get (map (λ plan. plan.frame) plans) n ≡ on (λ plan. plan.frame) (slice_get plans n)
-frame_at [] n = refl
-frame_at (plan ∷ plans) zero = refl
-frame_at (plan ∷ plans) (suc n) = frame_at plans n
-
-abbrev frame_or_0 : Option ℕ → ℕ
-frame_or_0 None = 0
-frame_or_0 (Some frame) = frame
-
-frame_read : (o : Option Plan) → frame_in o ≡ frame_or_0 (on (λ plan. plan.frame) o)
-frame_read None = refl
-frame_read (Some plan) = refl
-
-pub same_frame : (one other : Conf) → map (λ plan. plan.frame) one.plans ≡ map (λ plan. plan.frame) other.plans → (n : ℕ) → frame_of one n ≡ frame_of other n
-unfolding frame_of
-same_frame one other same n =
-    frame_read (slice_get one.plans n) ∙ ap frame_or_0 (sym (frame_at one.plans n) ∙ ap (λ frames. slice_get frames n) same ∙ frame_at other.plans n)
-    ∙ sym (frame_read (slice_get other.plans n))

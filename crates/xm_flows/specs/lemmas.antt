@@ -1,2 +1,4 @@
+pub mod ActLemmas
+pub mod CalmLemmas
+pub mod FrameLemmas
 pub mod MasksTerms
-pub mod RightsTerms

@@ -1,4 +1,4 @@
-use Rattle.xm_flows.proofs.ActLemmas.{acts_by_right}
+use Rattle.xm_flows.specs.lemmas.ActLemmas.{acts_by_right}
 use Rattle.xm_flows.proofs.law.acts_by_right.Goals as goal
 
 pub returns : goal.returns

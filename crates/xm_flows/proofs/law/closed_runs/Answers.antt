@@ -1,5 +1,5 @@
 use Rattle.xm_flows.specs.Laws.{ClosedRunsAlike, NoneSteers}
-use Rattle.xm_flows.proofs.CalmLemmas.{none_steers}
+use Rattle.xm_flows.specs.lemmas.CalmLemmas.{none_steers}
 use Rattle.xm_flows.proofs.RunLemmas.{closed_runs, unsteered_runs}
 use Rattle.xm_flows.proofs.law.closed_runs.Goals as goal
 

@@ -17,15 +17,14 @@ use Rattle.machine_model.specs.Partition.{PartitionState, takes_turns}
 use Rattle.machine_model.specs.Emission as emission
 use Rattle.machine_model.specs.Emission.{Act, Asked, Directed, Maintenance, NoEvent, WholeEvent, reach_of}
 use Rattle.machine_model.specs.View.{PartitionView, System, no_part, part_of, view_of}
-use Rattle.xm_flows.proofs.ActLemmas.{does_reach}
+use Rattle.xm_flows.specs.lemmas.ActLemmas.{does_reach}
 use Rattle.xm_flows.specs.Groups.{Members}
 use Rattle.xm_flows.specs.Laws.{NoneSteers}
-use Rattle.xm_flows.specs.Rights.{ActsByRight, IsByRight, IsUnsteered, reaches_all}
-use Rattle.xm_flows.specs.lemmas.RightsTerms.{MaySteer}
+use Rattle.xm_flows.specs.Rights.{ActsByRight, IsByRight, IsUnsteered, MaySteer, reaches_all}
 use Rattle.xm_flows.specs.Steering.{Steering, no_steering, steered_plan, steering, steering_in, steering_unless, to_member}
 
 -- an act that reaches others by channels alone
-abbrev IsCalm : Act → Type 0
+abbrev pub IsCalm : Act → Type 0
 IsCalm emission.Nothing = Unit {0}
 IsCalm (emission.Trades traffic) = Unit {0}
 IsCalm (emission.Upon id order) = ⊥
@@ -90,25 +89,25 @@ turn_calm : ActsByRight → (g : Machine) → IsUnsteered g.system.conf → (o :
 turn_calm rights g plain None = tt
 turn_calm rights g plain (Some turn) = taken_calm rights g plain turn.part turn.first (slice_get g.parts turn.part)
 
-act_calm : ActsByRight → (g : Machine) → IsUnsteered g.system.conf → IsCalm (act_of (local g))
+pub act_calm : ActsByRight → (g : Machine) → IsUnsteered g.system.conf → IsCalm (act_of (local g))
 unfolding local
 act_calm rights g plain = turn_calm rights g plain (turn_of g)
 
-calm_reach : (act : Act) → IsCalm act → (reach_of act).plan ≡ None
+pub calm_reach : (act : Act) → IsCalm act → (reach_of act).plan ≡ None
 calm_reach emission.Nothing calm = refl
 calm_reach (emission.Trades traffic) calm = refl
 calm_reach (emission.Upon id order) calm = absurd calm
 calm_reach (emission.Plans change) calm = absurd calm
 calm_reach (emission.UponAll event) calm = absurd calm
 
-calm_event : (act : Act) → IsCalm act → (reach_of act).event ≡ NoEvent
+pub calm_event : (act : Act) → IsCalm act → (reach_of act).event ≡ NoEvent
 calm_event emission.Nothing calm = refl
 calm_event (emission.Trades traffic) calm = refl
 calm_event (emission.Upon id order) calm = absurd calm
 calm_event (emission.Plans change) calm = absurd calm
 calm_event (emission.UponAll event) calm = absurd calm
 
-calm_order : (act : Act) → IsCalm act → (reach_of act).directed ≡ None
+pub calm_order : (act : Act) → IsCalm act → (reach_of act).directed ≡ None
 calm_order emission.Nothing calm = refl
 calm_order (emission.Trades traffic) calm = refl
 calm_order (emission.Upon id order) calm = absurd calm
@@ -128,7 +127,7 @@ ended_on conf clock now none = by (ends_frame conf clock now)
     by true = record { plan = ap (λ o. unwrap_or o clock.plan) none; asked = refl }
     by false = record { plan = refl; asked = none }
 
-next_is : (g : Machine) → next_clock g (happened g) ≡ clock_after (reach_of (act_of (local g))).event g.system.conf (act_of (local g)) g.clock g.time
+pub next_is : (g : Machine) → next_clock g (happened g) ≡ clock_after (reach_of (act_of (local g))).event g.system.conf (act_of (local g)) g.clock g.time
 unfolding happened happened_by next_clock
 next_is g = refl
 
@@ -144,10 +143,10 @@ next_on rights g plain none =
 same_again : (plan : ℕ) → other_plan plan plan ≡ None
 same_again plan = let same : (plan == plan) ≡ true = grind (arith) in ap (λ b. if b then None else Some plan) same
 
-abbrev steering_of : Option ℕ → WholeEvent → Option Directed → Steering
+abbrev pub steering_of : Option ℕ → WholeEvent → Option Directed → Steering
 steering_of plan event order = record { plan = plan; event = event; order = order }
 
-in_parts : (members : Members) (g : Machine) → steering_in members g (happened g)
+pub in_parts : (members : Members) (g : Machine) → steering_in members g (happened g)
     ≡ steering_of (steered_plan (reach_of (act_of (local g))).plan g.clock.plan (next_clock g (happened g)).plan) (reach_of (act_of (local g))).event (to_member members (reach_of (act_of (local g))).directed)
 unfolding happened happened_by steering_in
 in_parts members g = refl
@@ -189,11 +188,11 @@ run_steers rights numbers members zero g plain none = tick_steers rights members
 run_steers rights numbers members (suc count) g plain none =
     run_steers rights numbers members count (step g) (subst (λ (system : System). IsUnsteered system.conf) (sym (numbers g).system) plain) (step_asks rights g plain none)
 
-start_plain : (system : System) → IsUnsteered system.conf → IsUnsteered (start system).system.conf
+pub start_plain : (system : System) → IsUnsteered system.conf → IsUnsteered (start system).system.conf
 unfolding start
 start_plain system plain = plain
 
-start_asks : (system : System) → (start system).clock.asked ≡ None
+pub start_asks : (system : System) → (start system).clock.asked ≡ None
 unfolding clock_started start
 start_asks system = refl
 

@@ -1,0 +1,3 @@
+pub mod PlannedLemmas
+pub mod RowLemmas
+pub mod SteererLemmas

@@ -1,0 +1,9 @@
+pub mod CallLemmas
+pub mod FewLemmas
+pub mod FromEqualLemmas
+pub mod PlannedLemmas
+pub mod PrintLemmas
+pub mod RowLemmas
+pub mod ServedLemmas
+pub mod SparedLemmas
+pub mod SumLemmas

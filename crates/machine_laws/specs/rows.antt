@@ -1,0 +1,4 @@
+pub mod BoundRows
+pub mod EqualRows
+pub mod SpareRows
+pub mod TurnRows
