@@ -12,10 +12,11 @@ use Rattle.machine_model.specs.Traffic.{content_if, copies_of}
 use Rattle.machine_model.specs.View.{name_of, named, part_of}
 use Rattle.xm_flows.specs.Groups.{Members, has_end_in}
 use Rattle.xm_flows.specs.Laws.{Agree, AreClosedAlike}
+use Rattle.xm_flows.specs.Together.{GoTogether}
 use Rattle.xm_flows.proofs.EndLemmas.{channel_is, its_port, name_there}
 use Rattle.xm_flows.proofs.HeardLemmas.{member_is_source, source_within}
 use Rattle.xm_flows.proofs.PairLemmas.{port_pair, same_name}
-use Rattle.xm_flows.proofs.TickLemmas.{GoTogether, same_channels}
+use Rattle.xm_flows.proofs.TickLemmas.{same_channels}
 
 -- a partition's copy of a channel that it calls q
 copy_at : (g : Machine) (p q : ℕ) → q < length (part_of g.system.conf p).ports → slice_get (copies g p) q ≡ Some (content_if g.channels (named g.system.conf p q))

@@ -8,11 +8,7 @@ use Rattle.xm_conf.specs.Configuration.{Conf}
 use Rattle.machine_model.specs.Machine.{clock_after, next_plan_clock}
 use Rattle.machine_model.specs.Emission.{Act, AllHalted, AllReset, Asked, Maintenance, NoEvent, PlanChange, WholeEvent, reach_of}
 use Rattle.xm_flows.specs.Steering.{steered_plan}
-
--- two clocks run the same plan, in a frame that began with the same tick
-pub record RunTheSame (one other : CyclicClock) : Type 0 where
-  pub plan : one.plan ≡ other.plan
-  pub frame_start : one.frame_start ≡ other.frame_start
+use Rattle.xm_flows.specs.Together.{RunTheSame}
 
 -- where steering has the same of a new plan, the new plan is the same
 same_plan : (old old' new new' : ℕ) → old ≡ old' → other_plan old new ≡ other_plan old' new' → new ≡ new'

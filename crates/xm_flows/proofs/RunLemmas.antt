@@ -12,8 +12,9 @@ use Rattle.xm_flows.specs.Groups.{Members}
 use Rattle.xm_flows.specs.Laws.{AreClosedAlike, ClosedRunsAlike, NoneSteers, UnsteeredRunsAlike}
 use Rattle.xm_flows.specs.Rights.{ActsByRight}
 use Rattle.xm_flows.specs.Steering.{steering}
+use Rattle.xm_flows.specs.Together.{GoTogether, ReceivesTheSame}
 use Rattle.xm_flows.proofs.AgreeLemmas.{agree_of}
-use Rattle.xm_flows.proofs.TickLemmas.{GoTogether, ReceivesTheSame, part_alike, same_part, steered, together_after, received_alike}
+use Rattle.xm_flows.proofs.TickLemmas.{part_alike, same_part, steered, together_after, received_alike}
 
 -- two machines after this many ticks, and what the members received in them
 record RunTogether (members : Members) (g h : Machine) (count : ℕ) : Type 0 where
@@ -73,7 +74,7 @@ start_alike : (members : Members) (one other : System) → AreClosedAlike member
 unfolding start
 start_alike members one other alike = alike
 
-start_together : BootsAlone → (members : Members) (one other : System) → AreClosedAlike members one other → GoTogether members (start one) (start other)
+pub start_together : BootsAlone → (members : Members) (one other : System) → AreClosedAlike members one other → GoTogether members (start one) (start other)
 unfolding start
 start_together boots members one other alike = record {
   parts = λ p member.

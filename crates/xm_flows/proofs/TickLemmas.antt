@@ -26,27 +26,13 @@ use Rattle.xm_flows.specs.Groups.{HasItsPeers, Members}
 use Rattle.xm_flows.specs.Laws.{AreClosedAlike}
 use Rattle.xm_flows.specs.Rights.{ActsByRight, IsByRight}
 use Rattle.xm_flows.specs.Steering.{steered_plan, steering, steering_in, steering_unless, to_member}
+use Rattle.xm_flows.specs.Together.{GoTogether, HasSamePart, ReceivesTheSame, RunTheSame, TicksTogether}
 use Rattle.xm_flows.specs.lemmas.ActLemmas.{bounded_right}
-use Rattle.xm_flows.proofs.ClockLemmas.{RunTheSame, clocks_alike}
+use Rattle.xm_flows.proofs.ClockLemmas.{clocks_alike}
 use Rattle.xm_flows.proofs.HeardLemmas.{unheard}
 use Rattle.xm_flows.proofs.PairLemmas.{HaveSameChannels, heard_alike}
 use Rattle.xm_flows.proofs.TurnLemmas.{member_turn, same_turn}
 use Rattle.xm_flows.specs.lemmas.FrameLemmas.{same_frame}
-
--- a partition has the same part of two machines
-pub record HasSamePart (g h : Machine) (p : ℕ) : Type 0 where
-  pub state : PartitionState
-  pub there : slice_get g.parts p ≡ Some state
-  pub there_too : slice_get h.parts p ≡ Some state
-  pub copies : copies g p ≡ copies h p
-
--- two machines go together for a set of partitions
-pub record GoTogether (members : Members) (g h : Machine) : Type 0 where
-  pub parts : (p : ℕ) → members p ≡ true → HasSamePart g h p
-  pub ticks : g.ticks ≡ h.ticks
-  pub time : g.time ≡ h.time
-  pub clock : RunTheSame g.clock h.clock
-  pub halted : g.halted ≡ h.halted
 
 -- the channels and links of the two systems
 pub same_channels : (members : Members) (one other : System) → AreClosedAlike members one other → HaveSameChannels members one.conf other.conf
@@ -220,10 +206,6 @@ nothing_received rights members g fits peers p member fails =
     (away members p member (turn_of g) fails)
     ∙ strange_traffic rights members g fits peers p member (turn_of g) fails
 
--- a member receives the same in both
-pub record ReceivesTheSame (members : Members) (g h : Machine) : Type 0 where
-  pub cues : (p : ℕ) → members p ≡ true → cue g p ≡ cue h p
-
 received_with : (members : Members) (g h : Machine) → SeesNothing → AreClosedAlike members g.system h.system → IsSteered members g h
     → ((p : ℕ) → members p ≡ true → slot_of (turn_of g) p ≡ slot_of (turn_of h) p)
     → ((p : ℕ) → members p ≡ true → traffic_cued g.system.conf p (turn_of g) (local g) ≡ traffic_cued h.system.conf p (turn_of h) (local h))
@@ -365,4 +347,14 @@ together_after tick rights sees members g h alike go runs runs_too steered_so =
                 ∙ sym (ap (λ (m : Machine). m.clock.frame_start) other ∙ ap (λ (c : CyclicClock). c.frame_start) (clock_is h));
           };
       halted = ap (λ (m : Machine). m.halted) one ∙ halted_is g ∙ ap is_halt steered_so.event ∙ sym (ap (λ (m : Machine). m.halted) other ∙ halted_is h);
+    }
+
+-- the law on one tick
+pub ticks_together : OneTick → ActsByRight → SeesNothing → TicksTogether
+ticks_together tick rights sees members g h alike go runs steers =
+    let runs_too : h.halted ≡ false = sym go.halted ∙ runs in
+    let steered_so = steered members g h runs runs_too steers in
+    record {
+      received = received_alike rights sees members g h alike go steered_so;
+      next = together_after tick rights sees members g h alike go runs runs_too steered_so;
     }

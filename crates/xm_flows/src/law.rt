@@ -2,6 +2,7 @@
 
 ghost use Rattle.xm_flows.specs.Laws.{ClosedRunsAlike, NoneSteers, RoundsFindGroups, UnsteeredRunsAlike};
 ghost use Rattle.xm_flows.specs.Rights.{ActsByRight};
+ghost use Rattle.xm_flows.specs.Together.{StartTogether, TicksTogether, TogetherAgree, UnsteeredTicks};
 
 use machine_model::{
     acts_within_bounds, all_ticks, boots_alone, keeps_numbers, one_tick, sees_nothing,
@@ -46,6 +47,24 @@ pub fn closed_runs()
     all_ticks();
     boots_alone();
     keeps_numbers();
+    one_tick();
+    sees_nothing();
+}
+
+/// For the proof: two machines of systems that are the same for a closed set of partitions go together for it, from any state of both.
+pub fn go_together()
+    // They boot together.
+    ensures start { StartTogether }
+    // Machines that go together for the set, and in which a tick steers it alike, are together after that tick, and
+    // each member receives the same in it.
+    ensures tick { TicksTogether }
+    // They agree on the set.
+    ensures agree { TogetherAgree }
+    // Where no partition may steer others, and no plan is asked for, a tick steers nothing and asks for no plan.
+    ensures unsteered { UnsteeredTicks }
+{
+    acts_by_right();
+    boots_alone();
     one_tick();
     sees_nothing();
 }

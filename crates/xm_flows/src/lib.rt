@@ -10,4 +10,4 @@ mod mask;
 
 pub use answer::Group;
 pub use closure::group;
-pub use law::{acts_by_right, closed_runs, rounds_find_groups};
+pub use law::{acts_by_right, closed_runs, go_together, rounds_find_groups};

@@ -22,6 +22,7 @@ use Rattle.xm_flows.specs.Groups.{Members}
 use Rattle.xm_flows.specs.Laws.{NoneSteers}
 use Rattle.xm_flows.specs.Rights.{ActsByRight, IsByRight, IsUnsteered, MaySteer, reaches_all}
 use Rattle.xm_flows.specs.Steering.{Steering, no_steering, steered_plan, steering, steering_in, steering_unless, to_member}
+use Rattle.xm_flows.specs.Together.{UnsteeredTicks}
 
 -- an act that reaches others by channels alone
 abbrev pub IsCalm : Act → Type 0
@@ -198,3 +199,7 @@ start_asks system = refl
 
 pub none_steers : ActsByRight → KeepsNumbers → NoneSteers
 none_steers rights numbers members system count plain = run_steers rights numbers members count (start system) (start_plain system plain) (start_asks system)
+
+-- the law on any tick
+pub unsteered_ticks : ActsByRight → UnsteeredTicks
+unsteered_ticks rights members g plain none = record { steers = tick_steers rights members g plain none; asked = step_asks rights g plain none }

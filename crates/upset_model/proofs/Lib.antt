@@ -1,0 +1,3 @@
+pub mod UpsetLemmas
+pub mod FlipLemmas
+pub mod GroupLemmas

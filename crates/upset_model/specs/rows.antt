@@ -1,0 +1,2 @@
+pub mod PlaceRows
+pub mod StrikeRows

@@ -1,0 +1,30 @@
+//! Rows worked by hand: bits that flip, and the tick before which they do.
+
+ghost use Rattle.upset_model.specs.rows.PlaceRows.{EdgeRows, GlobalRows, MemoryRows, RegisterRows, TimerRows, TrapRows, WindowRows};
+ghost use Rattle.upset_model.specs.rows.StrikeRows.{RunRows, ScheduleRows};
+
+/// The first and the last bit of each place.
+pub fn flips_at_edges()
+    // The global registers 1 and 7.
+    ensures globals { GlobalRows }
+    // The registers 0 and 127 of the windows.
+    ensures windows { WindowRows }
+    // The program counters, Y and the condition codes.
+    ensures registers { RegisterRows }
+    // The deadlines of the two timers, one that becomes 0 and one of a timer that is not armed.
+    ensures timers { TimerRows }
+    // The base of the table of traps, and the masked and the pending interrupts.
+    ensures traps { TrapRows }
+    // A byte of memory.
+    ensures memory { MemoryRows }
+    // The bits beside them are no places.
+    ensures edges { EdgeRows }
+{}
+
+/// Upsets strike before the tick of their line.
+pub fn strikes_before_its_tick()
+    // Of three lines, two strike before tick 3, in their order, and one before tick 7.
+    ensures schedule { ScheduleRows }
+    // The upsets of tick 0 strike before the first tick, and those of tick 1 after it.
+    ensures runs { RunRows }
+{}
