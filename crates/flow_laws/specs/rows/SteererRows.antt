@@ -1,5 +1,5 @@
 -- Rows on which partitions may steer others.
-use Rattle.std.specs.Prelude.{◌≡◌, true, [], ◌∷◌}
+use Rattle.std.specs.Prelude.{true, [], ◌∷◌}
 use Rattle.xm_conf.specs.Configuration.{Part}
 use Rattle.xm_conf.specs.declared.health.Action.{Action}
 use Rattle.xm_conf.specs.declared.health.Action.TheVariants as action
@@ -15,7 +15,7 @@ view_with part = view_of (record { conf = small_conf (halves ∷ []) (part ∷ [
 abbrev pub acting_part : Action → Part
 acting_part an_action = record (plain_part 0x40000000 8) { hm = actions_table (with_illegal an_action) }
 
--- a system partition may steer, and so may one whose health table resets or halts the hypervisor, or starts the maintenance plan; one that resets, suspends
+-- a system partition may steer, and so may one whose health table resets or halts the hypervisor, or starts the maintenance plan; one that resets
 -- or halts only itself may not
 pub record WhoMaySteer : Type 0 where
   pub system : MaySteer (view_with (record (plain_part 0x40000000 8) { system = true }))
