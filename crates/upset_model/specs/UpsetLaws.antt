@@ -72,20 +72,3 @@ pub record IsPlainRun (g : Machine) (count : ℕ) : Type 0 where
 
 abbrev pub RunsPlain : Type 0
 RunsPlain = (g : Machine) (count : ℕ) → IsPlainRun g count
-
--- two machines in which a partition is the same, has the same things of its own and receives the same
-pub record AreAlikeFrom (one other : Machine) (p count : ℕ) : Type 0 where
-  pub state : PartitionState
-  pub there : slice_get one.parts p ≡ Some state
-  pub part : alone_part_at one p ≡ alone_part_at other p
-  pub view : view_of one.system p ≡ view_of other.system p
-  pub script : script one p count ≡ script other p count
-
-pub record AreEqualFrom (one other : Machine) (p count : ℕ) : Type 0 where
-  pub state : alone_part_at (run one count) p ≡ alone_part_at (run other count) p
-  pub lines : own p (lines one count) ≡ own p (lines other count)
-  pub said : said one count p ≡ said other count p
-  pub core_file : core_file_of (run one count) p ≡ core_file_of (run other count) p
-
-abbrev pub TwoRunsFrom : Type 0
-TwoRunsFrom = (one other : Machine) (p count fewer : ℕ) → fewer ≤ count → AreAlikeFrom one other p count → AreEqualFrom one other p fewer
