@@ -1,4 +1,4 @@
 pub mod InputLemmas
 pub mod OfRunLemmas
 pub mod RangeLemmas
-pub mod SilentLemmas
+pub mod ShownLemmas

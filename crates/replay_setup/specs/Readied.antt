@@ -1,9 +1,10 @@
 -- What is answered where a replay is made ready.
-use Rattle.std.specs.Prelude.{◌≡◌, ◌<◌, ⊤, Bool, true, false, List, length, Option, Some, None, Result, Ok, Err}
+use Rattle.std.specs.Prelude.{◌≡◌, ◌<◌, ⊤, List, length, Option, Some, None, Result, Ok, Err}
 use Rattle.std.specs.String.{string_bytes}
 use Rattle.cue_scripts.specs.Script.{IsScript}
 use Rattle.machine_model.specs.Cue.{Cue}
-use Rattle.xm_alone.specs.Replay.{IsSilentReplay, TakesAll}
+use Rattle.xm_alone.specs.Replay.{IsReplayed, TakesAll}
+use Rattle.xm_alone.specs.Shown.{ShownTick, shown_by}
 use Rattle.recording_model.specs.Lone.{Lone, booted_alone, own_view}
 use Rattle.builders.specs.Ready.{NoContainer, NoPartition, NoScript, OddInput, Replay, Unready}
 use Rattle.replay_setup.specs.declared.ready.Replay as code
@@ -23,19 +24,24 @@ abbrev pub IsUnready : {X : Type 0} → Option Unready → Result X Unready → 
 IsUnready None made = ⊤
 IsUnready (Some why) made = made ≡ Err why
 
--- a partition as it boots; or, where its cues were seen to print nothing, as they left it
-abbrev pub IsBootedOrLeft : Bool → Lone → List Cue → Type 0
-IsBootedOrLeft false alone cues = alone ≡ booted_alone alone.system alone.p
-IsBootedOrLeft true alone cues = IsSilentReplay cues (booted_alone alone.system alone.p) alone
+-- a partition as its cues left it, with what they show
+pub record IsLeft (shown : List ShownTick) (alone : Lone) (cues : List Cue) : Type 0 where
+  pub left : IsReplayed cues (booted_alone alone.system alone.p) alone
+  pub shows : shown ≡ shown_by (own_view alone) cues
+
+-- a partition as it boots; or, where what its cues show was kept, as they left it
+abbrev pub IsBootedOrLeft : Option (List ShownTick) → Lone → List Cue → Type 0
+IsBootedOrLeft None alone cues = alone ≡ booted_alone alone.system alone.p
+IsBootedOrLeft (Some shown) alone cues = IsLeft shown alone cues
 
 -- a partition that stands so, with a script that fits it
-pub record IsReady (silent : Bool) (alone : Lone) (cues : List Cue) : Type 0 where
+pub record IsReady (shown : Option (List ShownTick)) (alone : Lone) (cues : List Cue) : Type 0 where
   pub there : alone.p < length alone.system.conf.parts
-  pub stands : IsBootedOrLeft silent alone cues
+  pub stands : IsBootedOrLeft shown alone cues
   pub received : IsScript alone.system.conf alone.p cues
   pub fits : TakesAll (own_view alone) cues
 
 -- the replay is that of the definition and may begin, or the reason is that of the definition
 abbrev pub Readies : Result code.Replay why.Unready → Result Replay Unready → Type 0
-Readies (Ok replay) made = (made ≡ Ok (record { system = replay.alone.system; p = replay.alone.p; cues = replay.script })) × IsReady replay.silent replay.alone replay.script
+Readies (Ok replay) made = (made ≡ Ok (record { system = replay.alone.system; p = replay.alone.p; cues = replay.script })) × IsReady replay.shown replay.alone replay.script
 Readies (Err reason) made = IsUnready (unready_of reason) made

@@ -5,7 +5,8 @@ ghost use Rattle.cue_scripts.specs.Script.{IsScript};
 ghost use Rattle.loaded_system.specs.System.{System as Loaded};
 ghost use Rattle.machine_model.specs.View.{view_of};
 ghost use Rattle.system_state.specs.State.{with_inputs};
-ghost use Rattle.xm_alone.specs.Replay.{IsSilentReplay, TakesAll};
+ghost use Rattle.xm_alone.specs.Replay.{IsReplayed, TakesAll};
+ghost use Rattle.xm_alone.specs.Shown.{shown_by};
 ghost use Rattle.recording_model.specs.Lone.{booted_alone};
 ghost use Rattle.xm_container.specs.Reading.{unpacked};
 ghost use Rattle.builders.specs.Ready.{fitting, inputs_given, replay_of, with_input, with_script, with_system};
@@ -17,18 +18,18 @@ use crate::unready::{Unready, bad_container, bad_script};
 use builders::{no_container, no_script};
 use cue_scripts::{Script, read_script};
 use std::alloc::Global;
-use xm_alone::Alone;
+use xm_alone::{Alone, Replayed, Shown};
 use xm_base::{Memory, PartId};
 use xm_container::{System, unpack};
 use xm_machine::Inputs;
 
-/// A replay that may begin: the partition as it boots, and a script that fits it. Where the script's cues were seen to print and say
-/// nothing, the partition stands as they left it, and the line of its end is all that is to be shown.
+/// A replay that may begin: the partition as it boots, and a script that fits it. Or the replay was done already: the partition stands as
+/// the script's cues left it, and what they show is kept, to be shown with the line of its end.
 #[derive(Debug, Drop)]
 pub struct Replay {
     pub alone: Alone,
     pub script: Script,
-    pub silent: bool,
+    pub shown: Option<Shown>,
 }
 
 /// The replay of partition `p` by a container, a script and input words, which are bytes of files; or the first reason why there is none.
@@ -43,7 +44,7 @@ pub fn make_ready(
     // Called with fewer than 2^34 bytes of input words.
     requires { length input.now < 2 ^ 34 }
     // The partition, with its input words, and a script that it can take to its end: it stands as it boots, or, where
-    // the answer says that the script's cues print nothing, as they left it; or the first of these: the text of the
+    // the answer has what the script's cues show, as they left it; or the first of these: the text of the
     // container's fault, that it does not have the partition, the text of the script's fault, the number of bytes of
     // the input words where it is no multiple of 4, the text of the first cue that cannot be taken.
     ensures { Readies result (replay_of container.now p script.now input.now) }
@@ -109,18 +110,18 @@ fn tried(
     requires count { length inputs ≡ length system.conf.parts }
     ensures { Readies result (with_input system p script (Ok inputs)) }
 {
-    match Alone::tried(alloc, system, inputs, p, &script) {
-        Ok(silent) => standing(alloc, container, silent, p, script, input),
+    match Alone::replayed(alloc, system, inputs, p, &script) {
+        Ok(done) => standing(alloc, container, done, p, script, input),
         Err(fault) => Err(bad_script(no_script(alloc, fault))),
     }
 }
 
-// The replay by a script that fits: of the partition as its cues left it, where they printed nothing, else as it boots.
-#[tactic(auto, using(crate::proofs::SilentLemmas::silent_ready))]
+// The replay by a script that fits: of the partition as its cues left it, where what they show is kept, else as it boots.
+#[tactic(auto, using(crate::proofs::ShownLemmas::shown_ready))]
 fn standing(
     alloc: Global,
     container: &[u8],
-    silent: Option<Alone>,
+    done: Option<Replayed>,
     p: PartId,
     script: Script,
     input: &[u8],
@@ -128,19 +129,21 @@ fn standing(
     requires few { length input.now < 2 ^ 34 }
     ensures { (system : Loaded) (inputs : List (List ℕ)) → unpacked container.now ≡ Ok system → inputs_given (length system.conf.parts) p input.now ≡ Ok inputs
         → p < length system.conf.parts → IsScript system.conf p script → TakesAll (view_of (with_inputs system inputs) p) script
-        → IfSome silent (IsSilentReplay script (booted_alone (with_inputs system inputs) p)) → Readies result (fitting (with_inputs system inputs) p script None) }
+        → IfSome done (λ replayed. IsReplayed script (booted_alone (with_inputs system inputs) p) replayed.alone)
+        → IfSome done (λ replayed. replayed.shown ≡ shown_by (view_of (with_inputs system inputs) p) script)
+        → Readies result (fitting (with_inputs system inputs) p script None) }
 {
-    match silent {
-        Some(alone) => Ok(Replay {
+    match done {
+        Some(Replayed { alone, shown }) => Ok(Replay {
             alone,
             script,
-            silent: true,
+            shown: Some(shown),
         }),
         None => match booted(alloc, container, p, input) {
             Ok(alone) => Ok(Replay {
                 alone,
                 script,
-                silent: false,
+                shown: None,
             }),
             Err(Memory) => Err(Unready::Memory),
         },

@@ -1,5 +1,7 @@
 mod BootLemmas
 mod FollowLemmas
+mod KeptLemmas
 mod NextLemmas
 mod PlayLemmas
+mod ShownLemmas
 mod SilentLemmas

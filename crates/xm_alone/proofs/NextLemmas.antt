@@ -11,28 +11,31 @@ use Rattle.machine_model.specs.Alone.{Alone, alone_from, alone_lines, alone_said
 use Rattle.machine_model.specs.Cue.{Cue}
 use Rattle.machine_model.specs.Lists.{is_number}
 use Rattle.machine_model.specs.Machine.{Machine}
-use Rattle.machine_model.specs.View.{PartitionView, part_of, view_of}
+use Rattle.machine_model.specs.View.{PartitionView, System, part_of, view_of}
 use Rattle.replay_model.specs.Passes.{part_in}
-use Rattle.replay_model.specs.Step.{IsOfSystem}
+use Rattle.replay_model.specs.Step.{IsLone, IsOfSystem}
 use Rattle.replay_model.specs.Taking.{first_untaken, takes_cue}
 use Rattle.replay_tick.specs.LoneSpan.{AreSilent, AreTaken}
 use Rattle.tick_steps.specs.CueValues.{cue_value}
 use Rattle.tick_steps.specs.declared.cue.Cue as code_cue
 use Rattle.xm_machine.specs.AloneSpan.{SpansAlone}
-use Rattle.xm_machine.specs.AloneStep.{HasStepCause, IsSaidAlone, StepsAlone}
+use Rattle.xm_machine.specs.AloneStep.{HasStepCause, IsSaidAlone, KeepsSaid, StepsAlone}
 use Rattle.xm_machine.specs.declared.alone_span.AloneFault.{AloneFault}
 use Rattle.xm_machine.specs.declared.alone_span.AloneFault.TheVariants as fault
-use Rattle.xm_alone.specs.lemmas.Cues.{ComesNext, Follows, IsNextCue, cues_left, next_cues, next_left}
+use Rattle.xm_alone.specs.lemmas.Cues.{ComesNext, Follows, FollowsSaid, IsNextCue, cues_left, next_cues, next_left}
 use Rattle.recording_model.specs.Replayed.{cue_lines, replayed}
 use Rattle.xm_alone.specs.Replay.{IsCutReplay, TakesAll, lone_in}
-use Rattle.xm_alone.specs.lemmas.ReplayTerms.{is_refused, still_silent}
+use Rattle.xm_alone.specs.Shown.{shown_by, shown_from}
+use Rattle.xm_alone.specs.lemmas.Kept.{KeepsShown}
+use Rattle.xm_alone.specs.lemmas.ReplayTerms.{is_refused}
 use Rattle.recording_model.specs.Lone.{replay_said}
 use Rattle.xm_alone.specs.declared.cues.Cues as code
 use Rattle.xm_alone.specs.declared.cues.Next as code_next
 use Rattle.xm_alone.specs.declared.cues.Next.TheVariants as next
-use Rattle.xm_alone.proofs.FollowLemmas.{IsFitting, IsFollowing, from_add, left_cue, left_runs, left_ticks, lines_add, said_add, still_runs}
+use Rattle.xm_alone.specs.declared.keeping.Kept.{Kept}
+use Rattle.xm_alone.proofs.FollowLemmas.{IsFitting, IsFollowing, from_add, left_cue, left_runs, left_ticks, lines_add, one_after, one_followed, said_add, still_runs}
+use Rattle.xm_alone.proofs.KeptLemmas.{AllKept, IsKeeping, keeps_on, shown_add}
 use Rattle.xm_alone.proofs.PlayLemmas.{IsPlaying, heard_as, one_cut, one_played}
-use Rattle.xm_alone.proofs.SilentLemmas.{IsTrying, none_taken, one_tried}
 
 -- this many of the same, one, and the others
 same_split : {X : Type 0} (x : X) (j k : ℕ) → replicate (j + suc k) x ≡ replicate j x ++ x ∷ replicate k x
@@ -55,31 +58,39 @@ pub alike_count : {X : Type 0} (x : X) (ticks : ℕ) → 0 < ticks → ticks ≡
 alike_count x ticks some = omega (arith, some, length-replicate (ticks - 1) x)
 
 -- the cues that come next are followed, where they are alike
-pub alike_follows : {T : Type 0} (ended : Result T AloneFault) (ticks p count : ℕ) (own : Bool) (old new : Machine) (had got : Option (List ℕ)) (begun board : BoardView)
-    → 0 < ticks → ticks ≤ count → SpansAlone ended ticks p own old new had got begun board → Follows ended ticks p (next.Alike own count) old new had got begun board
-alike_follows ended ticks p count own old new had got begun board some within span = record {
-  before = span.before;
-  quiet = replicate (ticks - 1) (bare_cue own);
-  cue = bare_cue own;
-  split = alike_split (bare_cue own) count ticks some within;
-  count = alike_count (bare_cue own) ticks some;
-  silent = span.silent;
-  step = span.step;
-  heard = span.heard;
+pub alike_follows : {T : Type 0} (ended : Result T AloneFault) (ticks p count : ℕ) (own : Bool) (old new : Machine) (had got : Option (List ℕ)) (begun board : BoardView) (said : List ℕ)
+    → 0 < ticks → ticks ≤ count → SpansAlone ended ticks p own old new had got begun board → KeepsSaid ended p (replicate (ticks - 1) (bare_cue own) ++ bare_cue own ∷ []) old said
+    → FollowsSaid ended ticks p (next.Alike own count) old new had got begun board said
+alike_follows ended ticks p count own old new had got begun board said some within span kept = record {
+  follows = record {
+    before = span.before;
+    quiet = replicate (ticks - 1) (bare_cue own);
+    cue = bare_cue own;
+    split = alike_split (bare_cue own) count ticks some within;
+    count = alike_count (bare_cue own) ticks some;
+    silent = span.silent;
+    step = span.step;
+    heard = span.heard;
+  };
+  kept = kept;
 }
 
 -- and where it is another one
-pub other_follows : {T : Type 0} (ended : Result T AloneFault) (p : ℕ) (cue : code_cue.Cue) (old new : Machine) (had got : Option (List ℕ)) (begun board : BoardView) → old.halted ≡ false
-    → StepsAlone ended p (cue_value cue) old new had got → IsSaidAlone ended p (cue_value cue) old begun board → Follows ended 1 p (next.Other cue) old new had got begun board
-other_follows ended p cue old new had got begun board runs step heard = record {
-  before = old;
-  quiet = [];
-  cue = cue_value cue;
-  split = refl;
-  count = refl;
-  silent = record { taken = tt; part = refl; lines = refl; said = refl; system = record { system = refl; parts = refl }; running = runs };
-  step = step;
-  heard = heard;
+pub other_follows : {T : Type 0} (ended : Result T AloneFault) (p : ℕ) (cue : code_cue.Cue) (old new : Machine) (had got : Option (List ℕ)) (begun board : BoardView) (said : List ℕ) → old.halted ≡ false
+    → StepsAlone ended p (cue_value cue) old new had got → IsSaidAlone ended p (cue_value cue) old begun board → KeepsSaid ended p (cue_value cue ∷ []) old said
+    → FollowsSaid ended 1 p (next.Other cue) old new had got begun board said
+other_follows ended p cue old new had got begun board said runs step heard kept = record {
+  follows = record {
+    before = old;
+    quiet = [];
+    cue = cue_value cue;
+    split = refl;
+    count = refl;
+    silent = record { taken = tt; part = refl; lines = refl; said = refl; system = record { system = refl; parts = refl }; running = runs };
+    step = step;
+    heard = heard;
+  };
+  kept = kept;
 }
 
 -- cues that the partition takes are none that it does not
@@ -144,25 +155,6 @@ many_fit p tick cues quiet cue later old now mid script is silent = record {
   count = omega (arith, is.count, length-append is.before quiet);
 }
 
-many_tried : (p tick : ℕ) (silent : Bool) (cues quiet : List Cue) (cue : Cue) (later : List Cue) (old now mid : Machine) → IsScript old.system.conf p cues
-    → IsTrying p tick silent cues (quiet ++ cue ∷ later) old now → AreSilent p quiet now mid → IsTrying p (tick + length quiet) silent cues (cue ∷ later) old mid
-many_tried p tick silent cues quiet cue later old now mid script is quiets =
-    let view = view_of old.system p in
-    let fit = is.fitting in
-    let seen : view_of now.system p ≡ view_of old.system p = ap (λ system. view_of system p) fit.following.system.system in
-    let none : alone_lines view (replayed view fit.before) quiet ≡ [] =
-    ap (λ (a : Alone). alone_lines view a quiet) (sym fit.following.part) ∙ ap (λ (v : PartitionView). alone_lines v (part_in now p) quiet) (sym seen) ∙ quiets.lines in
-    let same : cue_lines view (fit.before ++ quiet) ≡ cue_lines view fit.before =
-    lines_add view (alone_start view) fit.before quiet ∙ ap (λ more. cue_lines view fit.before ++ more) none ∙ append-nil (cue_lines view fit.before) in
-    record {
-      fitting = record {
-        before = fit.before ++ quiet;
-        following = many_followed p cues fit.before quiet cue later old now mid script fit.following quiets;
-        count = omega (arith, fit.count, length-append fit.before quiet);
-      };
-      quiet = λ says. ap texts same ∙ is.quiet says;
-    }
-
 -- what is left of the cues before and after those that come next
 rest_is : {T : Type 0} (ended : Result T AloneFault) (ticks p : ℕ) (all : List Cue) (first : code_next.Next) (others : code.Cues) (old new : Machine) (had got : Option (List ℕ)) (begun board : BoardView)
     → ComesNext all first others → (f : Follows ended ticks p first old new had got begun board) → all ≡ f.quiet ++ f.cue ∷ (next_left first ticks ++ cues_left others)
@@ -173,6 +165,15 @@ rest_is ended ticks p all first others old new had got begun board next f =
 pub rose_from : (T : Type 0) (why : AloneFault) (before between now : ℕ) → why ≡ fault.Write → HasStepCause {T = T} (Err why) between now → between ≡ before → Rose before now
 rose_from T why before between now write cause same =
     subst (λ n. Rose n now) same (subst (λ (w : AloneFault). HasStepCause {T = T} (Err w) between now) write cause)
+
+-- a tick that was not refused was done
+lone_of : {T : Type 0} (ended : Result T AloneFault) (p : ℕ) (cue : Cue) (old new : Machine) (had got : Option (List ℕ)) → is_refused ended ≡ false → StepsAlone ended p cue old new had got → IsLone p cue old new
+lone_of (Ok done) p cue old new had got right step = step.0
+lone_of (Err fault.Write) p cue old new had got right step = step.0
+lone_of (Err fault.Cue) p cue old new had got right step = absurd (not_so right)
+  where
+    not_so : true ≡ false → ⊥
+    not_so e = cc
 
 -- from the machine before the last tick on what runs is the same
 same_on : (a b c : Machine) → IsOfSystem a b → IsOfSystem a c → IsOfSystem b c
@@ -198,34 +199,28 @@ module _ (p ticks : ℕ) (cues all : List Cue) (first : code_next.Next) (others 
       (subst (λ left. IsPlaying p cues left old now had mid begun between) (rest_is {T = T} (Err fault.Write) ticks p all first others now new mid got between board next f) is) f.silent)
       f.step.0 (same_on now f.before new f.silent.system same) f.step.1 f.heard
 
-  -- the partition can take them
-  pub next_tried : {T : Type 0} (ended : Result T AloneFault) (tick : ℕ) (silent : Bool) (begun board : BoardView) → is_refused ended ≡ false → IsTrying p tick silent cues all old now
-      → Follows ended ticks p first now new (Some []) (Some []) begun board → IsTrying p (tick + ticks) (still_silent silent ended) cues (next_left first ticks ++ cues_left others) old new
-  next_tried (Ok done) tick silent begun board right is f =
-      subst (λ n. IsTrying p n silent cues (next_left first ticks ++ cues_left others) old new) (sum tick ticks (length f.quiet) f.count)
-      (one_tried p (tick + length f.quiet) silent silent cues f.cue (next_left first ticks ++ cues_left others) old f.before new
-      (many_tried p tick silent cues f.quiet f.cue (next_left first ticks ++ cues_left others) old now f.before script
-      (subst (λ left. IsTrying p tick silent cues left old now) (rest_is (Ok done) ticks p all first others now new (Some []) (Some []) begun board next f) is) f.silent)
-      f.step.0 (same_on now f.before new f.silent.system same) (λ says. says) (λ says. none_taken (texts (alone_step_lines (view_of f.before.system p) (part_in f.before p) f.cue)) f.step.1))
-    where
-      sum : (n j k : ℕ) → j ≡ k + 1 → (n + k) + 1 ≡ n + j
-      sum n j k is = omega (arith, is)
-  next_tried {T = T} (Err fault.Write) tick silent begun board right is f =
-      subst (λ n. IsTrying p n false cues (next_left first ticks ++ cues_left others) old new) (sum tick ticks (length f.quiet) f.count)
-      (one_tried p (tick + length f.quiet) silent false cues f.cue (next_left first ticks ++ cues_left others) old f.before new
-      (many_tried p tick silent cues f.quiet f.cue (next_left first ticks ++ cues_left others) old now f.before script
-      (subst (λ left. IsTrying p tick silent cues left old now) (rest_is {T = T} (Err fault.Write) ticks p all first others now new (Some []) (Some []) begun board next f) is) f.silent)
-      f.step.0 (same_on now f.before new f.silent.system same) (λ says. absurd (not_so says)) (λ says. absurd (not_so says)))
-    where
-      sum : (n j k : ℕ) → j ≡ k + 1 → (n + k) + 1 ≡ n + j
-      sum n j k is = omega (arith, is)
-
-      not_so : false ≡ true → ⊥
-      not_so e = cc
-  next_tried (Err fault.Cue) tick silent begun board right is f = absurd (not_so right)
-    where
-      not_so : true ≡ false → ⊥
-      not_so e = cc
+  -- the partition can take them, and what they show is kept
+  pub next_kept : {T : Type 0} (ended : Result T AloneFault) (tick : ℕ) (had got : Option (List ℕ)) (begun board : BoardView) (before after : Option Kept) → is_refused ended ≡ false
+      → IsKeeping p tick cues all old now before → (f : Follows ended ticks p first now new had got begun board)
+      → KeepsShown before after (shown_from (view_of now.system p) (part_in now p) (f.quiet ++ f.cue ∷ [])) → IsKeeping p (tick + ticks) cues (next_left first ticks ++ cues_left others) old new after
+  next_kept ended tick had got begun board before after right is f keeps =
+      let fit = is.fitting in
+      let view = view_of old.system p in
+      let later = next_left first ticks ++ cues_left others in
+      let follows : IsFollowing p cues (fit.before ++ f.quiet) (f.cue ∷ later) old f.before =
+      many_followed p cues fit.before f.quiet f.cue later old now f.before script (subst (λ left. IsFollowing p cues fit.before left old now) (rest_is ended ticks p all first others now new had got begun board next f) fit.following) f.silent in
+      record {
+        fitting = record {
+          before = (fit.before ++ f.quiet) ++ f.cue ∷ [];
+          following = one_followed p cues (fit.before ++ f.quiet) (f.cue ∷ later) f.cue later old f.before new refl follows (lone_of ended p f.cue f.before new had got right f.step) (same_on now f.before new f.silent.system same);
+          count = omega (arith, fit.count, f.count, one_after (fit.before ++ f.quiet) f.cue, length-append fit.before f.quiet);
+        };
+        shown = subst (AllKept after)
+            (ap (λ (system : System). shown_by view fit.before ++ shown_from (view_of system p) (part_in now p) (f.quiet ++ f.cue ∷ [])) fit.following.system.system
+            ∙ ap (λ (a : Alone). shown_by view fit.before ++ shown_from view a (f.quiet ++ f.cue ∷ [])) fit.following.part
+            ∙ sym (shown_add view (alone_start view) fit.before (f.quiet ++ f.cue ∷ [])) ∙ ap (shown_by view) (sym (append_assoc fit.before f.quiet (f.cue ∷ []))))
+            (keeps_on before after (shown_by view fit.before) (shown_from (view_of now.system p) (part_in now p) (f.quiet ++ f.cue ∷ [])) is.shown keeps);
+      }
 
   -- or the last of those that were followed is the first that it cannot
   pub next_untaken : {T : Type 0} (tick : ℕ) (had got : Option (List ℕ)) (begun board : BoardView) → IsFitting p tick cues all old now

@@ -1,5 +1,5 @@
 -- What a replay prints and says, cue by cue.
-use Rattle.std.proofs.Common.{◌≡◌, ℕ, ◌+◌, ◌<◌, ◌≤◌, Bool, true, false, if◌then◌else◌, List, [], ◌∷◌, ◌++◌, length, drop, take, Option, Result, Ok, Err, refl, sym, ap, subst, ◌∙◌, arith, length-append}
+use Rattle.std.proofs.Common.{◌≡◌, ℕ, ◌+◌, ◌<◌, ◌≤◌, Bool, true, false, if◌then◌else◌, List, [], ◌∷◌, ◌++◌, length, drop, take, Option, Result, Ok, Err, refl, sym, ap, subst, ◌∙◌, arith, append_assoc, length-append}
 use Rattle.std.proofs.Math.Seq.{take-append-add, take-append_seam, take-length}
 use Rattle.std.proofs.lemmas.List.{append-nil, take-append-drop, take-append-le}
 use Rattle.xm_outside.specs.Growth.{GrewByPrefix, Writes, grown}
@@ -23,6 +23,7 @@ use Rattle.replay_model.specs.Step.{IsLone, IsOfSystem}
 use Rattle.xm_machine.specs.AloneStep.{said_alone}
 use Rattle.recording_model.specs.Replayed.{cue_lines, replay_lines, replayed}
 use Rattle.xm_alone.specs.Replay.{IsCutReplay, IsReplay, IsReplayed, IsSilentReplay, IsWholeReplay, halted_by, lone_in}
+use Rattle.xm_alone.specs.Shown.{IsCutShowing}
 use Rattle.recording_model.specs.Lone.{Lone, own_view, replay_said}
 use Rattle.xm_alone.proofs.FollowLemmas.{IsFollowing, lines_add, lines_more, one_followed, said_more}
 
@@ -104,6 +105,48 @@ fewer_lines view k xs ys within =
     omega (arith, front, back, first_lines view (take k xs) (drop k xs))
 
 -- the lines of one more went out in part
+pub cut_showing : (old : Lone) (cues before : List Cue) (cue : Cue) (later : List Cue) (had mid got : Option (List ℕ)) (first board : BoardView) → (before ++ cue ∷ []) ++ later ≡ cues
+    → mid ≡ grown had (texts (cue_lines (own_view old) before)) → GrewByPrefix mid (texts (alone_step_lines (own_view old) (replayed (own_view old) before) cue)) got
+    → IsHeard (replay_said old (before ++ cue ∷ [])) first board → (showing : IsCutShowing cues (cue_lines (own_view old) cues) old had got first board) × (showing.done ≡ length (before ++ cue ∷ []))
+cut_showing old cues before cue later had mid got first board split report grew heard =
+    let view = own_view old in
+    let done = before ++ cue ∷ [] in
+    let front : take (length done) cues ≡ done = ap (take (length done)) (sym split) ∙ take-append_seam done later in
+    let lines = cue_lines view before in
+    let last = alone_step_lines view (replayed view before) cue in
+    let others = alone_lines view (replayed view done) later in
+    let all : (texts lines ++ texts last) ++ texts others ≡ texts (cue_lines view cues) =
+    ap (λ bytes. bytes ++ texts others) (sym (texts-append lines last)) ∙ sym (texts-append (lines ++ last) others)
+    ∙ ap (λ (front : List ReportLine). texts (front ++ others)) (sym (lines_more view (alone_start view) before cue))
+    ∙ ap texts (sym (lines_add view (alone_start view) done later)) ∙ ap (λ script. texts (cue_lines view script)) split in (
+      record {
+        done = length done;
+        within = omega (arith, length-append done later, ap (λ (xs : List Cue). length xs) split);
+        report = record {
+          count = length (texts lines) + grew.count;
+          short = omega (arith, grew.short, length-append (texts lines ++ texts last) (texts others), length-append (texts lines) (texts last), ap (λ (bytes : List ℕ). length bytes) all);
+          grew = beyond had mid got (texts lines) (texts last) (texts others) (texts (cue_lines view cues)) report grew all;
+        };
+        heard = subst (λ some. IsHeard (replay_said old some) first board) (sym front) heard;
+        whole = λ k earlier.
+            let within : k ≤ length before = omega (arith, earlier, length-append before (cue ∷ [])) in
+            let same : length (texts (cue_lines view (take k (before ++ (cue ∷ later))))) ≡ length (texts (cue_lines view (take k cues))) =
+            ap (λ script. length (texts (cue_lines view (take k script)))) (sym (append_assoc before (cue ∷ []) later) ∙ split) in
+            omega (arith, same, fewer_lines view k before (cue ∷ later) within);
+        cut = λ later_left.
+            let same : length (texts (cue_lines view (take (length done) cues))) ≡ length (texts (cue_lines view done)) = ap (λ some. length (texts (cue_lines view some))) front in
+            let here : length (texts (cue_lines view done)) ≡ length (texts (lines ++ last)) = ap (λ (all : List ReportLine). length (texts all)) (lines_more view (alone_start view) before cue) in
+            omega (arith, grew.short, same, here, ap (λ (bytes : List ℕ). length bytes) (texts-append lines last), length-append (texts lines) (texts last));
+      },
+      refl,
+    )
+
+-- and no more cues were done
+with_left : (cues : List Cue) (lines : List ReportLine) (old new : Lone) (had got : Option (List ℕ)) (first board : BoardView) (showing : IsCutShowing cues lines old had got first board)
+    → IsReplayed (take showing.done cues) old new → IsCutReplay cues lines old new had got first board
+with_left cues lines old new had got first board showing left =
+    record { done = showing.done; within = showing.within; left = left; report = showing.report; heard = showing.heard; whole = showing.whole; cut = showing.cut }
+
 pub one_cut : (p : ℕ) (cues left : List Cue) (cue : Cue) (later : List Cue) (old now next : Machine) (had mid got : Option (List ℕ)) (first between board : BoardView) → left ≡ cue ∷ later
     → IsPlaying p cues left old now had mid first between → IsLone p cue now next → IsOfSystem now next
     → GrewByPrefix mid (texts (alone_step_lines (view_of now.system p) (part_in now p) cue)) got → IsHeard (said_alone now p cue) between board
@@ -111,60 +154,42 @@ pub one_cut : (p : ℕ) (cues left : List Cue) (cue : Cue) (later : List Cue) (o
 one_cut p cues left cue later old now next had mid got first between board starts is one same grew heard =
     let view = view_of old.system p in
     let next_is = one_followed p cues is.before left cue later old now next starts is.following one same in
-    let before = is.before in
-    let done = before ++ cue ∷ [] in
-    let front : take (length done) cues ≡ done = ap (take (length done)) (sym next_is.split) ∙ take-append_seam done later in
-    let lines = cue_lines view before in
-    let last = alone_step_lines view (part_in now p) cue in
-    let others = alone_lines view (replayed view done) later in
-    let grew_here : GrewByPrefix mid (texts last) got = subst (λ (system : System). GrewByPrefix mid (texts (alone_step_lines (view_of system p) (part_in now p) cue)) got) is.following.system.system grew in
-    let all : (texts lines ++ texts last) ++ texts others ≡ texts (cue_lines view cues) =
-    ap (λ bytes. bytes ++ texts others) (sym (texts-append lines last)) ∙ sym (texts-append (lines ++ last) others)
-    ∙ ap (λ (a : Alone). texts ((lines ++ alone_step_lines view a cue) ++ others)) is.following.part
-    ∙ ap (λ (front : List ReportLine). texts (front ++ others)) (sym (lines_more view (alone_start view) before cue))
-    ∙ ap texts (sym (lines_add view (alone_start view) done later)) ∙ ap (λ script. texts (cue_lines view script)) next_is.split in
-    record {
-      done = length done;
-      within = omega (arith, length-append done later, ap (λ (xs : List Cue). length xs) next_is.split);
-      left = record { part = next_is.part ∙ ap (replayed view) (sym front); halted = next_is.halted ∙ ap (halted_by false) (sym front); system = next_is.system.system; p = refl };
-      report = record {
-        count = length (texts lines) + grew_here.count;
-        short = omega (arith, grew_here.short, length-append (texts lines ++ texts last) (texts others), length-append (texts lines) (texts last), ap (λ (bytes : List ℕ). length bytes) all);
-        grew = beyond had mid got (texts lines) (texts last) (texts others) (texts (cue_lines view cues)) is.report grew_here all;
-      };
-      heard = subst (λ some. IsHeard (replay_said (lone_in old p) some) first board) (sym front)
-          (said_then p old now before cue first between board is.following.system.system is.following.part is.heard heard);
-      whole = λ k earlier.
-          let within : k ≤ length before = omega (arith, earlier, length-append before (cue ∷ [])) in
-          let same : length (texts (cue_lines view (take k (before ++ left)))) ≡ length (texts (cue_lines view (take k cues))) = ap (λ script. length (texts (cue_lines view (take k script)))) is.following.split in
-          omega (arith, same, fewer_lines view k before left within);
-      cut = λ later_left.
-          let same : length (texts (cue_lines view (take (length done) cues))) ≡ length (texts (cue_lines view done)) = ap (λ some. length (texts (cue_lines view some))) front in
-          let here : length (texts (cue_lines view done)) ≡ length (texts (lines ++ last)) =
-          ap (λ (all : List ReportLine). length (texts all)) (lines_more view (alone_start view) before cue)
-          ∙ ap (λ (a : Alone). length (texts (lines ++ alone_step_lines view a cue))) (sym is.following.part) in
-          omega (arith, grew_here.short, same, here, ap (λ (bytes : List ℕ). length bytes) (texts-append lines last), length-append (texts lines) (texts last));
-    }
+    let done = is.before ++ cue ∷ [] in
+    let grew_here : GrewByPrefix mid (texts (alone_step_lines view (part_in now p) cue)) got =
+    subst (λ (system : System). GrewByPrefix mid (texts (alone_step_lines (view_of system p) (part_in now p) cue)) got) is.following.system.system grew in
+    let showing = cut_showing (lone_in old p) cues is.before cue later had mid got first board next_is.split is.report
+    (subst (λ (a : Alone). GrewByPrefix mid (texts (alone_step_lines view a cue)) got) is.following.part grew_here)
+    (said_then p old now is.before cue first between board is.following.system.system is.following.part is.heard heard) in
+    let front : take showing.0.done cues ≡ done = ap (λ n. take n cues) showing.1 ∙ ap (take (length done)) (sym next_is.split) ∙ take-append_seam done later in
+    with_left cues (cue_lines view cues) (lone_in old p) (lone_in next p) had got first board showing.0
+    (record { part = next_is.part ∙ ap (replayed view) (sym front); halted = next_is.halted ∙ ap (halted_by false) (sym front); system = next_is.system.system; p = refl })
 
 -- the cues are not played whole: no more goes out
+pub showing_short : (cues : List Cue) (old : Lone) (had got : Option (List ℕ)) (first board : BoardView) (cut : IsCutShowing cues (cue_lines (own_view old) cues) old had got first board)
+    → (showing : IsCutShowing cues (replay_lines (own_view old) cues) old had got first board) × (showing.done ≡ cut.done)
+showing_short cues old had got first board cut =
+    let view = own_view old in
+    let last = end_line view.id (replayed view cues).state ∷ [] in (
+      record {
+        done = cut.done;
+        within = cut.within;
+        report = record {
+          count = cut.report.count;
+          short = omega (arith, cut.report.short, ap (λ (bytes : List ℕ). length bytes) (texts-append (cue_lines view cues) last), length-append (texts (cue_lines view cues)) (texts last));
+          grew = front_of had got (texts (cue_lines view cues)) (texts last) (texts (replay_lines view cues)) cut.report (sym (texts-append (cue_lines view cues) last));
+        };
+        heard = cut.heard;
+        whole = cut.whole;
+        cut = cut.cut;
+      },
+      refl,
+    )
+
 pub cut_short : (cues : List Cue) (old new : Lone) (had got : Option (List ℕ)) (first board : BoardView) → IsCutReplay cues (cue_lines (own_view old) cues) old new had got first board
     → IsCutReplay cues (replay_lines (own_view old) cues) old new had got first board
 cut_short cues old new had got first board cut =
-    let view = own_view old in
-    let last = end_line view.id (replayed view cues).state ∷ [] in
-    record {
-      done = cut.done;
-      within = cut.within;
-      left = cut.left;
-      report = record {
-        count = cut.report.count;
-        short = omega (arith, cut.report.short, ap (λ (bytes : List ℕ). length bytes) (texts-append (cue_lines view cues) last), length-append (texts (cue_lines view cues)) (texts last));
-        grew = front_of had got (texts (cue_lines view cues)) (texts last) (texts (replay_lines view cues)) cut.report (sym (texts-append (cue_lines view cues) last));
-      };
-      heard = cut.heard;
-      whole = cut.whole;
-      cut = cut.cut;
-    }
+    let showing = showing_short cues old had got first board (record { done = cut.done; within = cut.within; report = cut.report; heard = cut.heard; whole = cut.whole; cut = cut.cut }) in
+    with_left cues (replay_lines (own_view old) cues) old new had got first board showing.0 (subst (λ n. IsReplayed (take n cues) old new) (sym showing.1) cut.left)
 
 -- the line of the end is that of what the cues left
 end_is : (p : ℕ) (old now : Machine) (cues : List Cue) → part_in now p ≡ replayed (view_of old.system p) cues
@@ -176,7 +201,7 @@ none_more : (n : ℕ) → n < n → ⊥
 none_more n more = omega (arith, more)
 
 -- and then the line of the end, by what the replay leaves of the partition by itself
-end_shown : {T : Type 0} (result : Result T WriteFault) (cues : List Cue) (old now : Lone) (had mid got : Option (List ℕ)) (first board : BoardView)
+pub end_shown : {T : Type 0} (result : Result T WriteFault) (cues : List Cue) (old now : Lone) (had mid got : Option (List ℕ)) (first board : BoardView)
     → IsWholeReplay cues (cue_lines (own_view old) cues) old now had mid first board → Writes result mid (texts (end_line (own_view old).id (replayed (own_view old) cues).state ∷ [])) got
     → IsReplay result cues (replay_lines (own_view old) cues) old now had got first board
 end_shown (Ok done) cues old now had mid got first board is wrote =
@@ -227,17 +252,17 @@ unsaid : (is : Bool) → ◌≡◌ {A = List ℕ} [] (if is then [] else [])
 unsaid true = refl
 unsaid false = refl
 
--- and the line of its end
-silent_end : (cues : List Cue) (old now : Lone) → IsReplayed cues old now → end_line now.p now.part.state ≡ end_line (own_view old).id (replayed (own_view old) cues).state
+-- the line of the end of a partition that was replayed
+pub lone_end : (cues : List Cue) (old now : Lone) → IsReplayed cues old now → text_of (end_line now.p now.part.state) ≡ texts (end_line (own_view old).id (replayed (own_view old) cues).state ∷ [])
 unfolding view_of
-silent_end cues old now is = ap (λ p. end_line p now.part.state) is.p ∙ ap (λ (a : Alone). end_line old.p a.state) is.part
+lone_end cues old now is =
+    ap (λ p. text_of (end_line p now.part.state)) is.p ∙ ap (λ (a : Alone). text_of (end_line old.p a.state)) is.part
+    ∙ sym (append-nil (text_of (end_line old.p (replayed (own_view old) cues).state)))
 
 -- the line of the end is all that a silent replay prints
 pub silent_shown : {T : Type 0} (result : Result T WriteFault) (cues : List Cue) (old now : Lone) (had got : Option (List ℕ)) (board : BoardView) → IsSilentReplay cues old now
     → Writes result had (text_of (end_line now.p now.part.state)) got → IsReplay result cues (replay_lines (own_view old) cues) old now had got board board
 silent_shown result cues old now had got board is writes =
-    let last = end_line (own_view old).id (replayed (own_view old) cues).state in
-    let one : text_of (end_line now.p now.part.state) ≡ texts (last ∷ []) = ap text_of (silent_end cues old now is.left) ∙ sym (append-nil (text_of last)) in
     end_shown result cues old now had had got board board
     (record {
       left = is.left;
@@ -245,4 +270,4 @@ silent_shown result cues old now had got board is writes =
       heard = heard_as (λ uart. []) (replay_said old cues) board board
           (λ uart. unsaid (is_number (part_of old.system.conf old.p).console uart) ∙ ap (λ bytes. if is_number (part_of old.system.conf old.p).console uart then bytes else []) (sym is.said)) (heard_nothing board);
     })
-    (subst (λ bytes. Writes result had bytes got) one writes)
+    (subst (λ bytes. Writes result had bytes got) (lone_end cues old now is.left) writes)

@@ -1,2 +1,4 @@
 pub mod Cues
+pub mod Kept
 pub mod ReplayTerms
+pub mod ShownTerms

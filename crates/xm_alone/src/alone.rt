@@ -1,17 +1,19 @@
 //! One partition of a system, replayed in isolation.
 
-ghost use Rattle.std.specs.Prelude.{◌≡◌, ◌<◌, IfOk, IfSome, List, length};
+ghost use Rattle.std.specs.Prelude.{◌≡◌, ◌<◌, [], IfOk, IfSome, IsSome, IsTrue, List, length};
 ghost use Rattle.core_files.specs.Length.{core_length_of};
 ghost use Rattle.cue_scripts.specs.Script.{IsScript};
 ghost use Rattle.machine_model.specs.CoreFile.{core_file};
 ghost use Rattle.machine_model.specs.Cue.{Cue};
 ghost use Rattle.machine_model.specs.Lines.{end_line};
-ghost use Rattle.machine_model.specs.View.{view_of};
+ghost use Rattle.machine_model.specs.View.{part_of, view_of};
 ghost use Rattle.span_model.specs.Passes.{part_at};
 ghost use Rattle.uart_board.specs.Views.{BoardView};
 ghost use Rattle.system_state.specs.State.{with_inputs};
 ghost use Rattle.recording_model.specs.Replayed.{cue_lines, replay_lines};
-ghost use Rattle.xm_alone.specs.Replay.{IsReplay, IsSilentReplay, TakesAll, AnswersFit, lone_in};
+ghost use Rattle.xm_alone.specs.Replay.{IsReplay, IsReplayed, IsSilentReplay, TakesAll, AnswersFit, lone_in};
+ghost use Rattle.xm_alone.specs.Shown.{IsShown, shown_by};
+ghost use Rattle.xm_alone.specs.lemmas.Kept.{kept_ticks};
 ghost use Rattle.recording_model.specs.Lone.{Lone, booted_alone, own_view};
 ghost use Rattle.xm_machine.specs.Outcome.{HasWriteCause};
 ghost use Rattle.xm_report.specs.Report.{line_value};
@@ -19,6 +21,8 @@ ghost use Rattle.xm_report.specs.Report.{line_value};
 use crate::cues::Cues;
 use crate::fitting::takes_all;
 use crate::following::follow;
+use crate::keeping::Kept;
+use crate::shown::Shown;
 use cue_scripts::{Script, ScriptFault};
 use loaded_system::System;
 use machine_model::{boots_alone, keeps_numbers};
@@ -36,6 +40,16 @@ pub struct Alone {
     machine: Machine,
     p: PartId,
 }
+
+/// A partition as a replay left it, and what the replay shows.
+#[derive(Debug, Drop)]
+pub struct Replayed {
+    pub alone: Alone,
+    pub shown: Shown,
+}
+
+/// How many bytes of text of a replay are kept at most.
+const KEPT_BYTES: usize = 67_108_864;
 
 impl Model for Alone {
     ghost use Rattle.std.specs.Coded.{codes};
@@ -98,9 +112,9 @@ impl Alone {
             keeps_numbers();
         }
         let mut machine = Machine::boot(alloc, system, inputs)?;
-        match takes_all(&mut machine, p, script) {
-            Ok(silent) => {
-                if silent {
+        match takes_all(&mut machine, p, script, Kept::new(alloc, 0)) {
+            Ok(kept) => {
+                if is_silent(&kept) {
                     Ok(Some(Alone { machine, p }))
                 } else {
                     Ok(None)
@@ -108,6 +122,64 @@ impl Alone {
             }
             Err(fault) => Err(fault),
         }
+    }
+
+    /// Replays partition `p` of a system with these input words under each cue of a script, where it can take them; else the number of the
+    /// first that it cannot, counted from 0. Nothing goes out: what the cues print and write to the console is kept, to be shown after
+    /// the replay. There is no answer to be shown where that is too long, or memory for it runs out; `Alone::play` shows it then.
+    pub fn replayed(
+        alloc: Global,
+        system: System,
+        inputs: Inputs,
+        p: PartId,
+        script: &Script,
+    ) -> Result<Option<Replayed>, ScriptFault>
+        // Called for a partition that exists, with inputs for each partition, and with a script that the partition may
+        // receive.
+        requires partition { p < length system.conf.parts }
+        requires inputs { length inputs ≡ length system.conf.parts }
+        requires script { IsScript system.conf p script.now }
+        // As `fits`; and where it can take each cue, and the answer has the partition, then it stands as the cues left
+        // it, with all that they print and write to the console. It may answer without the partition at any time, by
+        // which a replay is slower and no other: only its measured time shows that it does not.
+        ensures fits { AnswersFit (view_of (with_inputs system inputs) p) script.now result }
+        ensures left { IfOk result (λ done. IfSome done (λ replayed. IsReplayed script.now (booted_alone (with_inputs system inputs) p) replayed.alone)) }
+        ensures shown { IfOk result (λ done. IfSome done (λ replayed. replayed.shown ≡ shown_by (view_of (with_inputs system inputs) p) script.now)) }
+    {
+        proof! {
+            boots_alone();
+            keeps_numbers();
+        }
+        let mut machine = Machine::boot(alloc, system, inputs)?;
+        let kept = match takes_all(&mut machine, p, script, Kept::new(alloc, KEPT_BYTES)) {
+            Ok(kept) => kept,
+            Err(fault) => return Err(fault),
+        };
+        let Some(kept) = kept else {
+            return Ok(None);
+        };
+        Ok(Some(Replayed {
+            alone: Alone { machine, p },
+            shown: Shown::of(kept),
+        }))
+    }
+
+    /// Shows a replay that was done: the partition's lines and the line of its end go out, and its console bytes go to their UART. After
+    /// `WriteFault` the console bytes of the tick in hand were written, and nothing of a later one.
+    pub fn show<O: Sink>(
+        &self,
+        shown: &Shown,
+        out: &mut O,
+        board: &mut Board,
+    ) -> Result<(), WriteFault>
+        // Where the partition stands as cues left it that show this, its lines and that of its end go out, and its
+        // console bytes are written, as `Alone::play` answers it; after `WriteFault`, too, but that all cues were done.
+        ensures replay { (old : Lone) (cues : List Cue) → IsReplayed cues old self.now → shown.now ≡ shown_by (own_view old) cues
+            → IsShown result cues (replay_lines (own_view old) cues) old self.now (O.got out.old) (O.got out.new) (⟦<Board as ViewBoard>⟧.board_view board.old) (⟦<Board as ViewBoard>⟧.board_view board.new) }
+        ensures cause { HasWriteCause result (O.faults out.old) (O.faults out.new) }
+    {
+        shown.play(console_of(&self.machine, self.p), out, board)?;
+        put_line(out, &end_line(&self.machine, self.p))
     }
 
     /// The line of the partition's end goes out. It is the whole report of a replay whose cues printed and said nothing.
@@ -203,6 +275,30 @@ fn unwritten(fault: AloneFault) -> WriteFault
         AloneFault::Write => WriteFault,
         AloneFault::Cue => unreachable!(),
     }
+}
+
+/// Whether ticks whose text was kept printed nothing.
+fn is_silent(kept: &Option<Kept>) -> bool
+    ensures { IsTrue result → IsSome kept.now × IfSome kept.now (λ kept. kept_ticks kept ≡ []) }
+{
+    match kept {
+        Some(kept) => kept.ticks.is_empty(),
+        None => false,
+    }
+}
+
+/// The place of the UART that is the partition's console, where it has one.
+#[tactic(auto, unfolding(machine_model::specs::View::part_of))]
+fn console_of(machine: &Machine, p: PartId) -> Option<u8>
+    requires partition { p < length machine.now.state.parts }
+    ensures value { result ≡ (part_of machine.now.state.system.conf p).console }
+    ensures below { IfSome result (λ place. place < 8) }
+{
+    let sys = machine.sys();
+    let conf = sys.conf().raw();
+    let count = sys.count();
+    prove!(p < count);
+    conf.parts[usize::from(p)].console
 }
 
 /// The line that answers how partition `p` stands at the end.

@@ -1,17 +1,18 @@
 //! Whether a script fits a partition.
 
-ghost use Rattle.std.specs.Prelude.{◌≡◌, ◌<◌, IfOk, length, true};
+ghost use Rattle.std.specs.Prelude.{◌≡◌, ◌<◌, [], IfOk, IfSome, length};
 ghost use Rattle.cue_scripts.specs.Script.{IsScript};
 ghost use Rattle.machine_model.specs.View.{view_of};
 ghost use Rattle.system_state.specs.State.{with_inputs};
-ghost use Rattle.xm_alone.specs.Replay.{IsSilentReplay, AnswersFit, lone_in};
-ghost use Rattle.xm_alone.specs.lemmas.ReplayTerms.{is_refused, still_silent};
+ghost use Rattle.xm_alone.specs.Replay.{AnswersFit, IsReplayed, lone_in};
+ghost use Rattle.xm_alone.specs.Shown.{shown_by};
+ghost use Rattle.xm_alone.specs.lemmas.Kept.{IsKept, kept_ticks};
+ghost use Rattle.xm_alone.specs.lemmas.ReplayTerms.{is_refused};
 ghost use Rattle.recording_model.specs.Lone.{booted_alone};
 
 use crate::alone::Alone;
 use crate::cues::Cues;
-use crate::following::follow;
-use crate::unprinted::NoSink;
+use crate::keeping::{Kept, follow_kept};
 use cue_scripts::{Script, ScriptFault};
 use loaded_system::System;
 use std::alloc::Global;
@@ -44,36 +45,39 @@ pub fn fits(
 }
 
 /// Whether partition `p` of a machine that was only booted can take each cue of a script; else the number of the first that it cannot.
-/// Where it can, all of them were done, and the answer is whether nothing was printed under them.
+/// Where it can, all of them were done, and what they showed is kept, unless there was no room for it.
 pub(crate) fn takes_all(
     machine: &mut Machine,
     p: PartId,
     script: &Script,
-) -> Result<bool, ScriptFault>
+    kept: Kept,
+) -> Result<Option<Kept>, ScriptFault>
     requires partition { p < length machine.old.state.parts }
     requires fresh { lone_in machine.old.state p ≡ booted_alone machine.old.state.system p }
     requires script { IsScript machine.old.state.system.conf p script.now }
+    requires kept { IsKept kept }
+    requires empty { kept_ticks kept ≡ [] }
     ensures fits { AnswersFit (view_of machine.old.state.system p) script.now result }
-    ensures silent { IfOk result (λ silent. silent ≡ true → IsSilentReplay script.now (lone_in machine.old.state p) (lone_in machine.new.state p)) }
+    ensures left { IfOk result (λ _. IsReplayed script.now (lone_in machine.old.state p) (lone_in machine.new.state p)) }
+    ensures shown { IfOk result (λ shown. IfSome shown (λ kept. IsKept kept × (kept_ticks kept ≡ shown_by (view_of machine.old.state.system p) script.now))) }
     ensures parts { IfOk result (λ _. length machine.new.state.parts ≡ length machine.old.state.parts) }
 {
-    let mut sink = NoSink::new();
     let mut board = Board::new();
     let mut rest = Cues::of(script);
     let mut tick = 0;
-    let mut silent = true;
+    let mut kept = Some(kept);
     while let Some((next, later)) = rest.next() {
-        let done = follow(machine, p, next, &mut sink, &mut board);
+        let (done, keeping) = follow_kept(machine, p, next, kept, &mut board);
         if is_refused(done.ended) {
             return Err(ScriptFault::Cue {
                 tick: tick + done.ticks - 1,
             });
         }
-        silent = still_silent(silent, done.ended);
         tick += done.ticks;
+        kept = keeping;
         rest = later.after(next, done.ticks);
     }
-    Ok(silent)
+    Ok(kept)
 }
 
 /// Whether the partition could not take the cue of a tick.
@@ -83,15 +87,5 @@ fn is_refused(ended: Result<(), AloneFault>) -> bool
     match ended {
         Ok(()) | Err(AloneFault::Write) => false,
         Err(AloneFault::Cue) => true,
-    }
-}
-
-/// Whether nothing was printed, after ticks that a sink that takes no byte ended so.
-fn still_silent(silent: bool, ended: Result<(), AloneFault>) -> bool
-    ensures { result ≡ still_silent silent ended }
-{
-    match ended {
-        Ok(()) => silent,
-        Err(_) => false,
     }
 }

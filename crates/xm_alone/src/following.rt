@@ -2,7 +2,7 @@
 
 ghost use Rattle.std.specs.Prelude.{◌≡◌, ◌+◌, ◌<◌, ◌≤◌, false, length};
 ghost use Rattle.replay_model.specs.Step.{IsOfSystem};
-ghost use Rattle.xm_alone.specs.lemmas.Cues.{Follows, HasNext, IsNextCue, next_cues};
+ghost use Rattle.xm_alone.specs.lemmas.Cues.{FollowsSaid, HasNext, IsNextCue, next_cues};
 ghost use Rattle.xm_machine.specs.AloneStep.{HasStepCause};
 
 use crate::cues::Next;
@@ -24,7 +24,7 @@ pub(crate) fn follow<O: Sink>(
     requires running { machine.old.state.halted ≡ false }
     requires more { machine.old.state.ticks + length (next_cues next) ≤ TICKS }
     requires next { IsNextCue machine.old.state.system.conf p next }
-    ensures follows { Follows result.ended result.ticks p next.entry machine.old.state machine.new.state (O.got out.old) (O.got out.new) (⟦<Board as ViewBoard>⟧.board_view board.old) (⟦<Board as ViewBoard>⟧.board_view board.new) }
+    ensures follows { FollowsSaid result.ended result.ticks p next.entry machine.old.state machine.new.state (O.got out.old) (O.got out.new) (⟦<Board as ViewBoard>⟧.board_view board.old) (⟦<Board as ViewBoard>⟧.board_view board.new) machine.new.said }
     ensures within { HasNext next.entry result.ticks }
     ensures cause { HasStepCause result.ended (O.faults out.old) (O.faults out.new) }
     ensures system { IsOfSystem machine.old.state machine.new.state }

@@ -1,5 +1,5 @@
 -- A replay that is played, and what it leaves of the outside and of the board.
-use Rattle.std.proofs.Common.{◌≡◌, ℕ, suc, ◌≤◌, ◌∙◌, Bool, true, false, nat_lt, if◌then◌else◌, List, [], ◌∷◌, length, map, drop, take, Option, Some, None, Result, refl, sym, ap, subst, arith}
+use Rattle.std.proofs.Common.{◌≡◌, ℕ, suc, ◌≤◌, ◌∙◌, Bool, true, false, nat_lt, if◌then◌else◌, List, [], ◌∷◌, length, map, drop, take, Option, Some, None, Result, Ok, Err, refl, sym, ap, subst, arith}
 use Rattle.std.specs.Prelude.{IsSome}
 use Rattle.std.proofs.lemmas.List.{take_all}
 use Rattle.xm_outside.specs.Causes.{Rose}
@@ -13,7 +13,8 @@ use Rattle.builders.specs.Ready.{Replay as Readied, Unready}
 use Rattle.machine_model.specs.Cue.{Cue}
 use Rattle.machine_model.specs.View.{view_of}
 use Rattle.recording_model.specs.Replayed.{replay_lines}
-use Rattle.xm_alone.specs.Replay.{IsCutReplay, IsReplay, IsReplayed, IsWholeReplay}
+use Rattle.xm_alone.specs.Replay.{IsReplay, IsReplayed, IsWholeReplay}
+use Rattle.xm_alone.specs.Shown.{IsCutShowing, IsShown}
 use Rattle.recording_model.specs.Lone.{Lone, booted_alone, own_view, replay_said}
 use Rattle.command_line.specs.Words.{ReplayFiles}
 use Rattle.run_commands.specs.EndsAfter.{EndsAfter}
@@ -68,16 +69,24 @@ after_replay e board lone new cues core had got before now files reads writes ca
     (subst (λ (os : List Output). EndsAfter e os board (outside files reads writes calls got now) after) (cores_are lone new cues core is.left) ends)
 
 -- its report was cut
-pub cut_outcome : (lone new : Lone) (cues : List Cue) (core : Option (List ℕ)) (had got : Option (List ℕ)) (before now : ℕ) (files : Option Files) (reads writes calls : ℕ) (mid after : BoardView)
-    → IsCutReplay cues (replay_lines (own_view lone) cues) lone new had got mid after → Rose before now
+pub cut_outcome : (lone : Lone) (cues : List Cue) (core : Option (List ℕ)) (had got : Option (List ℕ)) (before now : ℕ) (files : Option Files) (reads writes calls : ℕ) (mid after : BoardView)
+    → IsCutShowing cues (replay_lines (own_view lone) cues) lone had got mid after → Rose before now
     → HasOutcome WriteFaultReport (played core (ready_of lone cues)) (outside files reads writes calls had before) (outside files reads writes calls got now)
 unfolding played
-cut_outcome lone new cues core had got before now files reads writes calls mid after is rose = (rose, is.report, refl)
+cut_outcome lone cues core had got before now files reads writes calls mid after is rose = (rose, is.report, refl)
 
--- one that was played from a state is one from the state that is the same
+-- one that was played shows its lines
+replay_shows : {T : Type 0} (result : Result T WriteFault) (cues : List Cue) (lines : List ReportLine) (lone new : Lone) (had got : Option (List ℕ)) (mid after : BoardView)
+    → IsReplay result cues lines lone new had got mid after → IsShown result cues lines lone new had got mid after
+replay_shows (Ok done) cues lines lone new had got mid after is = is
+replay_shows (Err unwritten) cues lines lone new had got mid after is =
+    record { done = is.done; within = is.within; report = is.report; heard = is.heard; whole = is.whole; cut = is.cut }
+
+-- and one that was played from a state shows those from the state that is the same
 pub played_from : {T : Type 0} (result : Result T WriteFault) (cues : List Cue) (lines : List ReportLine) (lone from new : Lone) (had got : Option (List ℕ)) (mid after : BoardView) → lone ≡ from
-    → IsReplay result cues lines lone new had got mid after → IsReplay result cues lines from new had got mid after
-played_from result cues lines lone from new had got mid after same is = subst (λ (old : Lone). IsReplay result cues lines old new had got mid after) same is
+    → IsReplay result cues lines lone new had got mid after → IsShown result cues lines from new had got mid after
+played_from result cues lines lone from new had got mid after same is =
+    subst (λ (old : Lone). IsShown result cues lines old new had got mid after) same (replay_shows result cues lines lone new had got mid after is)
 
 -- What it leaves of the board.
 
@@ -100,10 +109,10 @@ unfolding played
 lone_after e outputs from to lone new cues core had got before mid after ends is begins =
     leaves_and_after e outputs (Apart lone.system lone.p cues) had got from to before after (whole_heard lone new cues had got before mid after is begins) ends
 
-pub lone_cut : (lone new : Lone) (cues : List Cue) (core : Option (List ℕ)) (had got : Option (List ℕ)) (before mid after : BoardView) → IsCutReplay cues (replay_lines (own_view lone) cues) lone new had got mid after → mid ≡ without_marks before
+pub lone_cut : (lone : Lone) (cues : List Cue) (core : Option (List ℕ)) (had got : Option (List ℕ)) (before mid after : BoardView) → IsCutShowing cues (replay_lines (own_view lone) cues) lone had got mid after → mid ≡ without_marks before
     → LeavesBoard WriteFaultReport (played core (ready_of lone cues)).run had got before after
 unfolding played
-lone_cut lone new cues core had got before mid after is begins = record {
+lone_cut lone cues core had got before mid after is begins = record {
   front = is.report;
   ticks = is.done;
   within = is.within;

@@ -9,7 +9,7 @@ ghost use Rattle.run_commands.specs.Boards.{LeavesBoard};
 ghost use Rattle.file_commands.specs.Outcome.{content, first_long, input_bytes, input_name, name_if_any, outcome_of, played, replay_outcome};
 ghost use Rattle.core_files.specs.Length.{core_length_of};
 ghost use Rattle.recording_model.specs.Replayed.{replay_lines};
-ghost use Rattle.xm_alone.specs.Replay.{IsReplay};
+ghost use Rattle.xm_alone.specs.Shown.{IsShown};
 ghost use Rattle.recording_model.specs.Lone.{booted_alone, own_view};
 ghost use Rattle.xm_machine.specs.Outcome.{HasWriteCause};
 ghost use Rattle.xm_commands.specs.lemmas.Replaying.{HasCoreRoom, ready_of, unready_ending};
@@ -27,7 +27,7 @@ use replay_setup::{Replay, Unready, make_ready};
 use run_commands::ended;
 use std::alloc::Global;
 use uart_board::{Board, ViewBoard};
-use xm_alone::Alone;
+use xm_alone::{Alone, Shown};
 use xm_base::{Memory, PartId};
 use xm_machine::WriteFault;
 use xm_outside::{Sink, Store};
@@ -169,7 +169,7 @@ fn play_owned<'a, S: Store, O: Sink>(
     out: &mut O,
     board: &mut Board,
 ) -> Ending<'a>
-    requires { IsReady replay.silent replay.alone replay.script }
+    requires { IsReady replay.shown replay.alone replay.script }
     ensures outcome { HasOutcome (ending_of result) (played (option_copied core.entry) (ready_of replay.alone replay.script))
         (outside (S.files files.old) (S.read_faults files.old) (S.write_faults files.old) (S.calls files.old)
         (O.got out.old) (O.faults out.old))
@@ -182,9 +182,9 @@ fn play_owned<'a, S: Store, O: Sink>(
     let Replay {
         mut alone,
         script,
-        silent,
+        shown,
     } = replay;
-    play_ready(alloc, &mut alone, &script, silent, core, files, out, board)
+    play_ready(alloc, &mut alone, &script, &shown, core, files, out, board)
 }
 
 // Plays a replay that is ready, where there is memory for its core file.
@@ -192,13 +192,13 @@ fn play_ready<'a, S: Store, O: Sink>(
     alloc: Global,
     alone: &mut Alone,
     script: &Script,
-    silent: bool,
+    shown: &Option<Shown>,
     core: Option<&'a str>,
     files: &mut S,
     out: &mut O,
     board: &mut Board,
 ) -> Ending<'a>
-    requires { IsReady silent alone.old script.now }
+    requires { IsReady shown.now alone.old script.now }
     ensures outcome { HasOutcome (ending_of result) (played (option_copied core.entry) (ready_of alone.old script.now))
         (outside (S.files files.old) (S.read_faults files.old) (S.write_faults files.old) (S.calls files.old)
         (O.got out.old) (O.faults out.old))
@@ -209,7 +209,7 @@ fn play_ready<'a, S: Store, O: Sink>(
         (⟦<Board as ViewBoard>⟧.board_view board.old) (⟦<Board as ViewBoard>⟧.board_view board.new) }
 {
     match lone_room(alloc, alone, core) {
-        Ok(mut room) => play_into(alone, script, silent, core, &mut room, files, out, board),
+        Ok(mut room) => play_into(alone, script, shown, core, &mut room, files, out, board),
         Err(Memory) => Ending::NoMemory,
     }
 }
@@ -218,14 +218,14 @@ fn play_ready<'a, S: Store, O: Sink>(
 fn play_into<'a, S: Store, O: Sink>(
     alone: &mut Alone,
     script: &Script,
-    silent: bool,
+    shown: &Option<Shown>,
     core: Option<&'a str>,
     room: &mut [u8],
     files: &mut S,
     out: &mut O,
     board: &mut Board,
 ) -> Ending<'a>
-    requires ready { IsReady silent alone.old script.now }
+    requires ready { IsReady shown.now alone.old script.now }
     requires room { HasCoreRoom (option_copied core) (core_length_of (own_view alone.old)) (length room.old) }
     ensures outcome { HasOutcome (ending_of result) (played (option_copied core.entry) (ready_of alone.old script.now))
         (outside (S.files files.old) (S.read_faults files.old) (S.write_faults files.old) (S.calls files.old)
@@ -237,30 +237,29 @@ fn play_into<'a, S: Store, O: Sink>(
         (⟦<Board as ViewBoard>⟧.board_view board.old) (⟦<Board as ViewBoard>⟧.board_view board.new) }
 {
     board.begin();
-    match show(alone, script, silent, out, board) {
+    match show(alone, script, shown, out, board) {
         Ok(()) => ended(write_lone_core(alone, core, room, files), board),
         Err(WriteFault) => Ending::WriteFaultReport,
     }
 }
 
-// Shows a replay that is ready: the line of the end is all that is left where its cues were seen to print nothing.
+// Shows a replay that is ready: what is kept of it, where it was done already.
 fn show<O: Sink>(
     alone: &mut Alone,
     script: &Script,
-    silent: bool,
+    shown: &Option<Shown>,
     out: &mut O,
     board: &mut Board,
 ) -> Result<(), WriteFault>
-    requires { IsReady silent alone.old script.now }
-    ensures replay { IsReplay result script.now (replay_lines (own_view alone.old) script.now)
+    requires { IsReady shown.now alone.old script.now }
+    ensures replay { IsShown result script.now (replay_lines (own_view alone.old) script.now)
         (booted_alone alone.old.system alone.old.p) alone.new (O.got out.old) (O.got out.new)
         (⟦<Board as ViewBoard>⟧.board_view board.old) (⟦<Board as ViewBoard>⟧.board_view board.new) }
     ensures cause { HasWriteCause result (O.faults out.old) (O.faults out.new) }
 {
-    if silent {
-        alone.end(out)
-    } else {
-        alone.play(script, out, board)
+    match shown {
+        Some(shown) => alone.show(shown, out, board),
+        None => alone.play(script, out, board),
     }
 }
 

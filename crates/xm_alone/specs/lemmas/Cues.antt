@@ -9,7 +9,7 @@ use Rattle.cue_scripts.specs.Values.{entry_values}
 use Rattle.replay_tick.specs.LoneSpan.{AreSilent}
 use Rattle.tick_steps.specs.CueValues.{cue_value}
 use Rattle.uart_board.specs.Views.{BoardView}
-use Rattle.xm_machine.specs.AloneStep.{IsSaidAlone, StepsAlone}
+use Rattle.xm_machine.specs.AloneStep.{IsSaidAlone, KeepsSaid, StepsAlone}
 use Rattle.xm_machine.specs.declared.alone_span.AloneFault.{AloneFault}
 use Rattle.xm_alone.specs.declared.cues.Cues as code
 use Rattle.xm_alone.specs.declared.cues.Next as code_next
@@ -55,3 +55,8 @@ pub record Follows {T : Type 0} (ended : Result T AloneFault) (ticks p : ℕ) (f
   pub silent : AreSilent p quiet old before
   pub step : StepsAlone ended p cue before new had got
   pub heard : IsSaidAlone ended p cue before begun board
+
+-- and their console bytes are kept, unless it could not take the last
+pub record FollowsSaid {T : Type 0} (ended : Result T AloneFault) (ticks p : ℕ) (first : code_next.Next) (old new : Machine) (had got : Option (List ℕ)) (begun board : BoardView) (said : List ℕ) : Type 0 where
+  pub follows : Follows ended ticks p first old new had got begun board
+  pub kept : KeepsSaid ended p (follows.quiet ++ follows.cue ∷ []) old said

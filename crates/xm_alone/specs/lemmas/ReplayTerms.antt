@@ -8,8 +8,3 @@ abbrev pub is_refused : {T : Type 0} → Result T AloneFault → Bool
 is_refused (Ok done) = false
 is_refused (Err alone.Write) = false
 is_refused (Err alone.Cue) = true
-
--- whether nothing was printed, after ticks that a sink that takes no byte ended so
-abbrev pub still_silent : {T : Type 0} → Bool → Result T AloneFault → Bool
-still_silent silent (Ok done) = silent
-still_silent silent (Err why) = false

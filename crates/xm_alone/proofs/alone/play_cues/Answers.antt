@@ -17,13 +17,13 @@ follow-done-requires-clause-next g c =
 
 pub unwritten-requires : goal.unwritten-requires
 unwritten-requires g c =
-    let failed = rw c.in-Err.is at c.follow-done.ensures.follows in
+    let failed = rw c.in-Err.is at c.follow-done.ensures.follows.follows in
     next_unwritten c.args.p c.follow-done.result.ticks c.args.script.now (cues_left c.loop-next.rest) c.in-Some.next c.in-Some.later c.args.machine.now.state c.loop-next.machine.state c.follow-done.new.machine.state c.requires.script c.in-Some.ensures c.follow-done.ensures.system
     (g.O.Sink.got c.args.out.now) (g.O.Sink.got c.loop-next.out) (g.O.Sink.got c.follow-done.new.out) (record { places = _; marks = _ }) (record { places = _; marks = _ }) (record { places = _; marks = _ }) c.in-Err.fault c.loop-next.invariant.playing failed c.requires.fits
 
 pub returns-in-Err-clause-replay : goal.returns-in-Err-clause-replay
 returns-in-Err-clause-replay g c =
-    let failed = rw c.in-Err.is at c.follow-done.ensures.follows in
+    let failed = rw c.in-Err.is at c.follow-done.ensures.follows.follows in
     next_cut c.args.p c.follow-done.result.ticks c.args.script.now (cues_left c.loop-next.rest) c.in-Some.next c.in-Some.later c.args.machine.now.state c.loop-next.machine.state c.follow-done.new.machine.state c.requires.script c.in-Some.ensures c.follow-done.ensures.system
     (g.O.Sink.got c.args.out.now) (g.O.Sink.got c.loop-next.out) (g.O.Sink.got c.follow-done.new.out) (record { places = _; marks = _ }) (record { places = _; marks = _ }) (record { places = _; marks = _ }) _ c.in-Err.fault
     (next_unwritten c.args.p c.follow-done.result.ticks c.args.script.now (cues_left c.loop-next.rest) c.in-Some.next c.in-Some.later c.args.machine.now.state c.loop-next.machine.state c.follow-done.new.machine.state c.requires.script c.in-Some.ensures c.follow-done.ensures.system
@@ -31,7 +31,7 @@ returns-in-Err-clause-replay g c =
 
 pub returns-in-Err-clause-cause : goal.returns-in-Err-clause-cause
 returns-in-Err-clause-cause g c =
-    let failed = rw c.in-Err.is at c.follow-done.ensures.follows in
+    let failed = rw c.in-Err.is at c.follow-done.ensures.follows.follows in
     let cause = rw c.in-Err.is at c.follow-done.ensures.cause in
     rose_from (Unit {0}) c.in-Err.fault (g.O.Sink.faults c.args.out.now) (g.O.Sink.faults c.loop-next.out) (g.O.Sink.faults c.follow-done.new.out)
     (next_unwritten c.args.p c.follow-done.result.ticks c.args.script.now (cues_left c.loop-next.rest) c.in-Some.next c.in-Some.later c.args.machine.now.state c.loop-next.machine.state c.follow-done.new.machine.state c.requires.script c.in-Some.ensures c.follow-done.ensures.system
@@ -39,7 +39,7 @@ returns-in-Err-clause-cause g c =
 
 pub loop-next-preserved : goal.loop-next-preserved
 loop-next-preserved g c =
-    let done = rw c.in-Ok.is at c.follow-done.ensures.follows in
+    let done = rw c.in-Ok.is at c.follow-done.ensures.follows.follows in
     let cause = rw c.in-Ok.is at c.follow-done.ensures.cause in
     record {
       playing = rw c.after-rest.ensures (next_played c.args.p c.follow-done.result.ticks c.args.script.now (cues_left c.loop-next.rest) c.in-Some.next c.in-Some.later c.args.machine.now.state c.loop-next.machine.state c.follow-done.new.machine.state c.requires.script c.in-Some.ensures c.follow-done.ensures.system

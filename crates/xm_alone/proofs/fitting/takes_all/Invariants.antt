@@ -1,10 +1,10 @@
 use Rattle.std.proofs.Common.{length}
 use Rattle.xm_alone.specs.lemmas.Cues.{cues_left}
-use Rattle.xm_alone.proofs.SilentLemmas.{IsTrying}
+use Rattle.xm_alone.proofs.KeptLemmas.{IsKeeping}
 use Rattle.xm_alone.proofs.fitting.takes_all.Given as goal
 
 abbrev pub invariant-loop-next : goal.invariant-loop-next
-invariant-loop-next l = IsTrying l.p l.tick l.silent l.script (cues_left l.rest) l.fn.machine.state l.machine.state
+invariant-loop-next l = IsKeeping l.p l.tick l.script (cues_left l.rest) l.fn.machine.state l.machine.state l.kept
 
 abbrev pub decreases-loop-next : goal.decreases-loop-next
 decreases-loop-next l = length (cues_left l.rest)

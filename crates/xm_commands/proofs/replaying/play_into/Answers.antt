@@ -19,7 +19,7 @@ returns-in-Ok-clause-board g c =
     (c.ended.ensures (map (lone_output c.show.new.alone) (name_if_any (option_copied c.args.core))) _ _ saved) c.in-Ok.ensures.replay c.begin.ensures.view
 
 pub returns-in-Err-clause-outcome : goal.returns-in-Err-clause-outcome
-returns-in-Err-clause-outcome g c = cut_outcome (booted_alone c.args.alone.now.system c.args.alone.now.p) c.show.new.alone c.args.script.now (option_copied c.args.core) _ _ _ _ _ _ _ _ (record { places = _; marks = _ }) (record { places = _; marks = _ }) c.in-Err.ensures.replay c.in-Err.ensures.cause
+returns-in-Err-clause-outcome g c = cut_outcome (booted_alone c.args.alone.now.system c.args.alone.now.p) c.args.script.now (option_copied c.args.core) _ _ _ _ _ _ _ _ (record { places = _; marks = _ }) (record { places = _; marks = _ }) c.in-Err.ensures.replay c.in-Err.ensures.cause
 
 pub returns-in-Err-clause-board : goal.returns-in-Err-clause-board
-returns-in-Err-clause-board g c = lone_cut (booted_alone c.args.alone.now.system c.args.alone.now.p) c.show.new.alone c.args.script.now (option_copied c.args.core) _ _ (record { places = _; marks = _ }) (record { places = _; marks = _ }) (record { places = _; marks = _ }) c.in-Err.ensures.replay c.begin.ensures.view
+returns-in-Err-clause-board g c = lone_cut (booted_alone c.args.alone.now.system c.args.alone.now.p) c.args.script.now (option_copied c.args.core) _ _ (record { places = _; marks = _ }) (record { places = _; marks = _ }) (record { places = _; marks = _ }) c.in-Err.ensures.replay c.begin.ensures.view

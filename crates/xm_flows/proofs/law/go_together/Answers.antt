@@ -1,5 +1,5 @@
 use Rattle.xm_flows.proofs.AgreeLemmas.{agree_of}
-use Rattle.xm_flows.proofs.CalmLemmas.{unsteered_ticks}
+use Rattle.xm_flows.specs.lemmas.CalmLemmas.{unsteered_ticks}
 use Rattle.xm_flows.proofs.RunLemmas.{start_together}
 use Rattle.xm_flows.proofs.TickLemmas.{ticks_together}
 use Rattle.xm_flows.proofs.law.go_together.Goals as goal

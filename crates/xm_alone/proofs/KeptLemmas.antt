@@ -1,0 +1,235 @@
+-- What ticks of a replay show, and that it is kept.
+use Rattle.std.proofs.Common.{◌≡◌, ℕ, ◌+◌, ◌≤◌, false, List, [], ◌∷◌, ◌++◌, drop, length, take, Option, Some, None, Result, Ok, Err, refl, sym, ap, subst, ◌∙◌, arith, append_assoc, length-append}
+use Rattle.std.proofs.Math.Seq.{drop-append_seam, take-append_seam, take-length}
+use Rattle.std.proofs.lemmas.List.{append-nil, drop-append-le, drop_all, length-drop, take-append-drop, take-append-le, take_all}
+use Rattle.std.specs.Prelude.{IfSome}
+use Rattle.xm_outside.specs.Growth.{grown}
+use Rattle.xm_report.specs.Report.{ReportLine, texts}
+use Rattle.machine_model.specs.Alone.{Alone, alone_from, alone_lines, alone_said, alone_start, alone_step, alone_step_lines, alone_step_said}
+use Rattle.machine_model.specs.Cue.{Cue}
+use Rattle.machine_model.specs.Machine.{Machine}
+use Rattle.machine_model.specs.View.{PartitionView, System, view_of}
+use Rattle.replay_model.specs.Passes.{part_in}
+use Rattle.replay_tick.specs.LoneSpan.{AreSilent}
+use Rattle.recording_model.specs.Lone.{Lone, booted_alone}
+use Rattle.recording_model.specs.Replayed.{replayed}
+use Rattle.replay_model.specs.Taking.{first_untaken}
+use Rattle.xm_machine.specs.AloneStep.{KeepsSaid, StepsAlone}
+use Rattle.xm_machine.specs.declared.alone_span.AloneFault.{AloneFault}
+use Rattle.xm_machine.specs.declared.alone_span.AloneFault.TheVariants as fault
+use Rattle.xm_alone.specs.Replay.{IsReplayed, halted_by, lone_in}
+use Rattle.xm_alone.specs.Shown.{ShownTick, shown_by, shown_from, shown_tick}
+use Rattle.xm_alone.specs.lemmas.Kept.{AreSized, IsKept, KeepsShown, KeepsTick, KeepsTicks, kept_ticks, said_size, text_size, ticks_in}
+use Rattle.xm_alone.specs.declared.keeping.Extent.{Extent}
+use Rattle.xm_alone.specs.declared.keeping.Kept.{Kept}
+use Rattle.xm_alone.proofs.FollowLemmas.{IsFitting, said_more}
+use Rattle.xm_alone.proofs.SilentLemmas.{first_none, second_none}
+
+-- what a tick shows that has this text and these console bytes
+abbrev pub tick_of : List ℕ → List ℕ → ShownTick
+tick_of text said = record { text = text; said = said }
+
+-- cues of two parts
+pub shown_add : (view : PartitionView) (a : Alone) (xs ys : List Cue) → shown_from view a (xs ++ ys) ≡ shown_from view a xs ++ shown_from view (alone_from view a xs) ys
+shown_add view a [] ys = refl
+shown_add view a (x ∷ xs) ys =
+    let first = shown_tick (texts (alone_step_lines view a x)) (alone_step_said view a x) in
+    ap (λ later. first ++ later) (shown_add view (alone_step view a x) xs ys)
+    ∙ sym (append_assoc first (shown_from view (alone_step view a x) xs) (shown_from view (alone_from view (alone_step view a x) xs) ys))
+
+-- cues that print nothing show nothing
+pub silent_shows : (view : PartitionView) (a : Alone) (cues : List Cue) → alone_lines view a cues ≡ [] → shown_from view a cues ≡ []
+silent_shows view a [] none = refl
+silent_shows view a (cue ∷ later) none =
+    ap (λ (lines : List ReportLine). shown_tick (texts lines) (alone_step_said view a cue) ++ shown_from view (alone_step view a cue) later)
+    (first_none (alone_step_lines view a cue) (alone_lines view (alone_step view a cue) later) none)
+    ∙ silent_shows view (alone_step view a cue) later (second_none (alone_step_lines view a cue) (alone_lines view (alone_step view a cue) later) none)
+
+-- what silent cues and one more show is what that one shows
+last_shown : (p : ℕ) (quiet : List Cue) (cue : Cue) (old before : Machine) → AreSilent p quiet old before
+    → shown_from (view_of old.system p) (part_in old p) (quiet ++ cue ∷ []) ≡ shown_tick (texts (alone_step_lines (view_of before.system p) (part_in before p) cue)) (alone_step_said (view_of before.system p) (part_in before p) cue)
+last_shown p quiet cue old before silent =
+    let view = view_of old.system p in
+    let last = shown_tick (texts (alone_step_lines view (alone_from view (part_in old p) quiet) cue)) (alone_step_said view (alone_from view (part_in old p) quiet) cue) in
+    shown_add view (part_in old p) quiet (cue ∷ [])
+    ∙ ap (λ (first : List ShownTick). first ++ (last ++ [])) (silent_shows view (part_in old p) quiet silent.lines)
+    ∙ append-nil last
+    ∙ ap (λ (a : Alone). shown_tick (texts (alone_step_lines view a cue)) (alone_step_said view a cue)) (sym silent.part)
+    ∙ ap (λ (system : System). shown_tick (texts (alone_step_lines (view_of system p) (part_in before p) cue)) (alone_step_said (view_of system p) (part_in before p) cue)) (sym silent.system.system)
+
+-- and so are the console bytes
+last_said : (p : ℕ) (quiet : List Cue) (cue : Cue) (old before : Machine) → AreSilent p quiet old before
+    → alone_said (view_of old.system p) (part_in old p) (quiet ++ cue ∷ []) ≡ alone_step_said (view_of before.system p) (part_in before p) cue
+last_said p quiet cue old before silent =
+    let view = view_of old.system p in
+    said_more view (part_in old p) quiet cue
+    ∙ ap (λ (first : List ℕ). first ++ alone_step_said view (alone_from view (part_in old p) quiet) cue) silent.said
+    ∙ ap (λ (a : Alone). alone_step_said view a cue) (sym silent.part)
+    ∙ ap (λ (system : System). alone_step_said (view_of system p) (part_in before p) cue) (sym silent.system.system)
+
+-- what there is is one thing
+some_is : (a b : List ℕ) → Some a ≡ Some b → a ≡ b
+some_is a b same = cc
+
+-- a sink that keeps a text has what it had before
+pub first_kept : {T : Type 0} (ended : Result T AloneFault) (p : ℕ) (cue : Cue) (before new : Machine) (had got : List ℕ) → StepsAlone ended p cue before new (Some had) (Some got)
+    → (rest : List ℕ) × (got ≡ had ++ rest)
+first_kept (Ok done) p cue before new had got step =
+    (texts (alone_step_lines (view_of before.system p) (part_in before p) cue), some_is got (had ++ texts (alone_step_lines (view_of before.system p) (part_in before p) cue)) step.1)
+first_kept (Err fault.Write) p cue before new had got step =
+    let bytes = texts (alone_step_lines (view_of before.system p) (part_in before p) cue) in
+    (take step.1.count bytes, some_is got (had ++ take step.1.count bytes) step.1.grew)
+first_kept (Err fault.Cue) p cue before new had got step = ([], some_is got had step.1 ∙ sym (append-nil had))
+
+-- so its first bytes are those before
+module _ {T : Type 0} (ended : Result T AloneFault) (p : ℕ) (cue : Cue) (before new : Machine) (had got : List ℕ) (step : StepsAlone ended p cue before new (Some had) (Some got)) where
+  pub first_within : length had ≤ length got
+  first_within =
+      let more = first_kept ended p cue before new had got step in
+      omega (arith, ap (λ (bytes : List ℕ). length bytes) more.1, length-append had more.0)
+
+  pub first_same : take (length had) got ≡ had
+  first_same =
+      let more = first_kept ended p cue before new had got step in
+      ap (take (length had)) more.1 ∙ take-append_seam had more.0
+
+-- what ticks that were followed show is kept
+pub ticks_kept : {T : Type 0} (ended : Result T AloneFault) (p : ℕ) (quiet : List Cue) (cue : Cue) (old before new : Machine) (had got said emitted : List ℕ) (begun : ℕ) (kept mid : Kept) (after : Option Kept)
+    → AreSilent p quiet old before → StepsAlone ended p cue before new (Some had) (Some got) → KeepsSaid ended p (quiet ++ cue ∷ []) old said
+    → kept.text.bytes.items ≡ had → mid.text.bytes.items ≡ got → mid.ticks.items ≡ kept.ticks.items → mid.said.items ≡ kept.said.items → begun ≡ length had → emitted ≡ said
+    → KeepsTicks ended begun emitted mid after → KeepsShown (Some kept) after (shown_from (view_of old.system p) (part_in old p) (quiet ++ cue ∷ []))
+ticks_kept ended p quiet cue old before new had got said emitted begun kept mid None silent step bytes had_is got_is ticks_are said_is begun_is emitted_is keeps = tt
+ticks_kept (Err why) p quiet cue old before new had got said emitted begun kept mid (Some after) silent step bytes had_is got_is ticks_are said_is begun_is emitted_is keeps = absurd keeps
+ticks_kept (Ok done) p quiet cue old before new had got said emitted begun kept mid (Some after) silent step bytes had_is got_is ticks_are said_is begun_is emitted_is keeps =
+    let printed = texts (alone_step_lines (view_of before.system p) (part_in before p) cue) in
+    let got_more : got ≡ had ++ printed = some_is got (had ++ printed) step.1 in
+    let first : take begun mid.text.bytes.items ≡ kept.text.bytes.items = ap (λ n. take n mid.text.bytes.items) begun_is ∙ ap (take (length had)) (got_is ∙ got_more) ∙ take-append_seam had printed ∙ sym had_is in
+    let last : drop begun mid.text.bytes.items ≡ printed = ap (λ n. drop n mid.text.bytes.items) begun_is ∙ ap (drop (length had)) (got_is ∙ got_more) ∙ drop-append_seam had printed in
+    let says : emitted ≡ alone_step_said (view_of before.system p) (part_in before p) cue = emitted_is ∙ bytes ∙ last_said p quiet cue old before silent in (
+      keeps.sized,
+      keeps.ticks
+          ∙ ap (λ (es : List Extent). ticks_in es (take begun mid.text.bytes.items) mid.said.items ++ shown_tick (drop begun mid.text.bytes.items) emitted) ticks_are
+          ∙ ap (λ (ss : List ℕ). ticks_in kept.ticks.items (take begun mid.text.bytes.items) ss ++ shown_tick (drop begun mid.text.bytes.items) emitted) said_is
+          ∙ ap (λ (ts : List ℕ). ticks_in kept.ticks.items ts kept.said.items ++ shown_tick (drop begun mid.text.bytes.items) emitted) first
+          ∙ ap (λ (ts : List ℕ). kept_ticks kept ++ shown_tick ts emitted) last
+          ∙ ap (λ (ss : List ℕ). kept_ticks kept ++ shown_tick printed ss) says
+          ∙ ap (λ (more : List ShownTick). kept_ticks kept ++ more) (sym (last_shown p quiet cue old before silent)),
+    )
+
+-- what is kept, if anything, is this
+abbrev pub AllKept : Option Kept → List ShownTick → Type 0
+AllKept kept ticks = IfSome kept (λ k. IsKept k × (kept_ticks k ≡ ticks))
+
+pub keeps_on : (before after : Option Kept) (all shows : List ShownTick) → AllKept before all → KeepsShown before after shows → AllKept after (all ++ shows)
+keeps_on before None all shows had keeps = tt
+keeps_on None (Some after) all shows had keeps = absurd keeps
+keeps_on (Some before) (Some after) all shows had keeps = (keeps.0, keeps.1 ∙ ap (λ (first : List ShownTick). first ++ shows) had.1)
+
+-- partition p can take the first cues of a script, these are left, the next has this number, and what was shown is kept, if anything
+pub record IsKeeping (p tick : ℕ) (cues left : List Cue) (old now : Machine) (kept : Option Kept) : Type 0 where
+  pub fitting : IsFitting p tick cues left old now
+  pub shown : AllKept kept (shown_by (view_of old.system p) fitting.before)
+
+-- none was done yet
+pub none_kept : (p : ℕ) (cues left : List Cue) (g : Machine) (kept : Kept) → left ≡ cues → lone_in g p ≡ booted_alone g.system p → IsKept kept → kept_ticks kept ≡ [] → IsKeeping p 0 cues left g g (Some kept)
+none_kept p cues left g kept all fresh sized empty =
+    let view = view_of g.system p in
+    let part : part_in g p ≡ alone_start view = ap (λ (lone : Lone). lone.part) fresh in
+    record {
+      fitting = record {
+        before = [];
+        following = record {
+          split = all;
+          system = record { system = refl; parts = refl };
+          part = part;
+          halted = ap (λ (lone : Lone). lone.halted) fresh;
+          untaken = ap (first_untaken view (alone_start view) 0) (sym all) ∙ ap (λ (a : Alone). first_untaken view a 0 left) (sym part);
+        };
+        count = refl;
+      };
+      shown = (sized, empty);
+    }
+
+-- all were done
+module _ (p tick : ℕ) (cues left : List Cue) (old now : Machine) (kept : Option Kept) (none : left ≡ []) (is : IsKeeping p tick cues left old now kept) where
+  before_all : is.fitting.before ≡ cues
+  before_all = sym (append-nil is.fitting.before) ∙ ap (λ (rest : List Cue). is.fitting.before ++ rest) (sym none) ∙ is.fitting.following.split
+
+  pub all_left : IsReplayed cues (lone_in old p) (lone_in now p)
+  all_left =
+      let follows = is.fitting.following in
+      record {
+        part = follows.part ∙ ap (replayed (view_of old.system p)) before_all;
+        halted = follows.halted ∙ ap (halted_by false) before_all;
+        system = follows.system.system;
+        p = refl;
+      }
+
+  pub all_shown : AllKept kept (shown_by (view_of old.system p) cues)
+  all_shown = subst (λ (done : List Cue). AllKept kept (shown_by (view_of old.system p) done)) before_all is.shown
+
+-- ticks of which one more is kept
+more_ticks : (ticks : List Extent) (last : Extent) (text said rest bytes : List ℕ) → AreSized ticks text said → last.text ≡ length rest → last.said ≡ length bytes
+    → ticks_in (ticks ++ last ∷ []) (text ++ rest) (said ++ bytes) ≡ ticks_in ticks text said ++ tick_of rest bytes ∷ []
+more_ticks [] last [] [] rest bytes sized text_is said_is =
+    ap (λ n. tick_of (take n rest) (take last.said bytes) ∷ []) text_is ∙ ap (λ n. tick_of (take (length rest) rest) (take n bytes) ∷ []) said_is
+    ∙ ap (λ (r : List ℕ). tick_of r (take (length bytes) bytes) ∷ []) (take-length rest) ∙ ap (λ (b : List ℕ). tick_of rest b ∷ []) (take-length bytes)
+more_ticks [] last (byte ∷ text) said rest bytes sized text_is said_is = absurd (omega (arith, sized.texts))
+more_ticks [] last [] (byte ∷ said) rest bytes sized text_is said_is = absurd (omega (arith, sized.bytes))
+more_ticks (tick ∷ ticks) last text said rest bytes sized text_is said_is =
+    let text_in : tick.text ≤ length text = omega (arith, sized.texts) in
+    let said_in : tick.said ≤ length said = omega (arith, sized.bytes) in
+    let later : AreSized ticks (drop tick.text text) (drop tick.said said) = record { texts = omega (arith, sized.texts, length-drop tick.text text); bytes = omega (arith, sized.bytes, length-drop tick.said said) } in
+    ap (λ (t : List ℕ). tick_of t (take tick.said (said ++ bytes)) ∷ ticks_in (ticks ++ last ∷ []) (drop tick.text (text ++ rest)) (drop tick.said (said ++ bytes))) (take-append-le tick.text text rest text_in)
+    ∙ ap (λ (s : List ℕ). tick_of (take tick.text text) s ∷ ticks_in (ticks ++ last ∷ []) (drop tick.text (text ++ rest)) (drop tick.said (said ++ bytes))) (take-append-le tick.said said bytes said_in)
+    ∙ ap (λ (t : List ℕ). tick_of (take tick.text text) (take tick.said said) ∷ ticks_in (ticks ++ last ∷ []) t (drop tick.said (said ++ bytes))) (drop-append-le tick.text text rest text_in)
+    ∙ ap (λ (s : List ℕ). tick_of (take tick.text text) (take tick.said said) ∷ ticks_in (ticks ++ last ∷ []) (drop tick.text text ++ rest) s) (drop-append-le tick.said said bytes said_in)
+    ∙ ap (λ (ts : List ShownTick). tick_of (take tick.text text) (take tick.said said) ∷ ts) (more_ticks ticks last (drop tick.text text) (drop tick.said said) rest bytes later text_is said_is)
+
+more_text : (ticks : List Extent) (last : Extent) → text_size (ticks ++ last ∷ []) ≡ text_size ticks + last.text
+more_text [] last = omega arith
+more_text (tick ∷ ticks) last = omega (arith, more_text ticks last)
+
+more_said : (ticks : List Extent) (last : Extent) → said_size (ticks ++ last ∷ []) ≡ said_size ticks + last.said
+more_said [] last = omega arith
+more_said (tick ∷ ticks) last = omega (arith, more_said ticks last)
+
+some_shown : (text said : List ℕ) (n : ℕ) → length text ≡ n → (n ≡ 0 → ⊥) → shown_tick text said ≡ tick_of text said ∷ []
+some_shown [] said n is some = absurd (some (sym is))
+some_shown (byte ∷ text) said n is some = refl
+
+-- a text that has nothing new is kept as it is
+pub same_kept : (begun : ℕ) (said : List ℕ) (kept : Kept) → begun ≤ length kept.text.bytes.items → length kept.text.bytes.items ≤ begun
+    → AreSized kept.ticks.items (take begun kept.text.bytes.items) kept.said.items → KeepsTick begun said kept kept
+same_kept begun said kept within all sized =
+    let text = kept.text.bytes.items in
+    let whole : take begun text ≡ text = take_all begun text all in
+    let none : shown_tick (drop begun text) said ≡ [] = ap (λ (t : List ℕ). shown_tick t said) (drop_all begun text all) in
+    record {
+      sized = subst (λ (t : List ℕ). AreSized kept.ticks.items t kept.said.items) whole sized;
+      ticks = ap (λ (t : List ℕ). ticks_in kept.ticks.items t kept.said.items) (sym whole) ∙ sym (append-nil (ticks_in kept.ticks.items (take begun text) kept.said.items))
+          ∙ ap (λ (more : List ShownTick). ticks_in kept.ticks.items (take begun text) kept.said.items ++ more) (sym none);
+    }
+
+-- and one that has is kept with a tick more
+pub more_kept : (begun : ℕ) (said : List ℕ) (last : Extent) (old new : Kept) → AreSized old.ticks.items (take begun old.text.bytes.items) old.said.items
+    → last.text ≡ length (drop begun old.text.bytes.items) → (last.text ≡ 0 → ⊥) → last.said ≡ length said → new.text.bytes.items ≡ old.text.bytes.items → new.said.items ≡ old.said.items ++ said → new.ticks.items ≡ old.ticks.items ++ last ∷ [] → KeepsTick begun said old new
+more_kept begun said last old new sized text_is some said_is text_same said_more ticks_more =
+    let text = old.text.bytes.items in
+    let front = take begun text in
+    let rest = drop begun text in
+    let two : text ≡ front ++ rest = sym (take-append-drop begun text) in
+    let counts : length text ≡ length front + length rest = ap (λ (t : List ℕ). length t) two ∙ length-append front rest in
+    let texts_count : length text ≡ text_size (old.ticks.items ++ last ∷ []) = omega (arith, counts, text_is, sized.texts, more_text old.ticks.items last) in
+    let said_count : length (old.said.items ++ said) ≡ said_size (old.ticks.items ++ last ∷ []) = omega (arith, said_is, sized.bytes, length-append old.said.items said, more_said old.ticks.items last) in
+    record {
+      sized = record {
+        texts = ap (λ (t : List ℕ). length t) text_same ∙ texts_count ∙ ap text_size (sym ticks_more);
+        bytes = ap (λ (s : List ℕ). length s) said_more ∙ said_count ∙ ap said_size (sym ticks_more);
+      };
+      ticks = ap (λ (es : List Extent). ticks_in es new.text.bytes.items new.said.items) ticks_more
+          ∙ ap (λ (t : List ℕ). ticks_in (old.ticks.items ++ last ∷ []) t new.said.items) (text_same ∙ two)
+          ∙ ap (λ (s : List ℕ). ticks_in (old.ticks.items ++ last ∷ []) (front ++ rest) s) said_more
+          ∙ more_ticks old.ticks.items last front old.said.items rest said sized text_is said_is
+          ∙ ap (λ (more : List ShownTick). ticks_in old.ticks.items front old.said.items ++ more) (sym (some_shown rest said last.text (sym text_is) some));
+    }

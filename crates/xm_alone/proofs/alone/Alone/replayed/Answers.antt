@@ -1,0 +1,53 @@
+use Rattle.std.proofs.Common.{ℕ, ◌<◌, Option, Err, subst, sym, ap, ◌∙◌}
+use Rattle.cue_scripts.specs.Script.{IsScript}
+use Rattle.machine_model.specs.View.{System, view_of}
+use Rattle.system_state.specs.State.{with_inputs}
+use Rattle.xm_alone.specs.Replay.{IsReplayed, TakesAll, AnswersFit, lone_in}
+use Rattle.xm_alone.specs.Shown.{shown_by}
+use Rattle.xm_alone.specs.declared.alone.Replayed.{Replayed}
+use Rattle.xm_alone.specs.declared.keeping.Kept.{Kept}
+use Rattle.recording_model.specs.Lone.{Lone}
+use Rattle.xm_alone.proofs.BootLemmas.{booted-fresh, booted-lone, booted-same, booted-there}
+use Rattle.xm_alone.proofs.SilentLemmas.{fault_fits}
+use Rattle.xm_alone.proofs.alone.Alone.replayed.Goals as goal
+
+pub takes_all-requires-clause-partition : goal.takes_all-requires-clause-partition
+takes_all-requires-clause-partition c =
+    booted-there c.keeps_numbers.ensures.boots (with_inputs c.args.system c.args.inputs) c.in_ok-machine.machine.state c.args.p c.requires.partition c.in_ok-machine.ensures.state
+
+pub takes_all-requires-clause-fresh : goal.takes_all-requires-clause-fresh
+takes_all-requires-clause-fresh c =
+    booted-fresh c.boots_alone.ensures.law c.keeps_numbers.ensures.boots (with_inputs c.args.system c.args.inputs) c.in_ok-machine.machine.state c.args.p c.requires.partition c.in_ok-machine.ensures.state
+
+pub takes_all-requires-clause-script : goal.takes_all-requires-clause-script
+takes_all-requires-clause-script c =
+    subst (λ (system : System). IsScript system.conf c.args.p c.args.script.now) (sym (booted-same (with_inputs c.args.system c.args.inputs) c.in_ok-machine.machine.state c.in_ok-machine.ensures.state)) c.requires.script
+
+pub invariant_of-result : goal.invariant_of-result
+invariant_of-result c =
+    subst (λ (n : ℕ). c.args.p < n) (sym c.in-Ok.ensures.parts)
+    (booted-there c.keeps_numbers.ensures.boots (with_inputs c.args.system c.args.inputs) c.in_ok-machine.machine.state c.args.p c.requires.partition c.in_ok-machine.ensures.state)
+
+pub returns-in-Err-clause-fits : goal.returns-in-Err-clause-fits
+returns-in-Err-clause-fits c =
+    fault_fits (Option Kept) (Option Replayed) (view_of (with_inputs c.args.system c.args.inputs) c.args.p) c.args.script.now c.in-Err.fault
+    (subst (λ (system : System). AnswersFit {T = Option Kept} (view_of system c.args.p) c.args.script.now (Err c.in-Err.fault)) (booted-same (with_inputs c.args.system c.args.inputs) c.in_ok-machine.machine.state c.in_ok-machine.ensures.state) c.in-Err.ensures.fits)
+
+pub returns-in_default-clause-fits : goal.returns-in_default-clause-fits
+returns-in_default-clause-fits c =
+    subst (λ (system : System). TakesAll (view_of system c.args.p) c.args.script.now) (booted-same (with_inputs c.args.system c.args.inputs) c.in_ok-machine.machine.state c.in_ok-machine.ensures.state) c.in-Ok.ensures.fits
+
+pub returns-clause-fits : goal.returns-clause-fits
+returns-clause-fits c =
+    subst (λ (system : System). TakesAll (view_of system c.args.p) c.args.script.now) (booted-same (with_inputs c.args.system c.args.inputs) c.in_ok-machine.machine.state c.in_ok-machine.ensures.state) c.in-Ok.ensures.fits
+
+pub returns-clause-left : goal.returns-clause-left
+returns-clause-left c =
+    subst (λ (old : Lone). IsReplayed c.args.script.now old (lone_in c.takes_all.new.machine.state c.args.p))
+    (booted-lone c.boots_alone.ensures.law c.keeps_numbers.ensures.boots (with_inputs c.args.system c.args.inputs) c.in_ok-machine.machine.state c.args.p c.requires.partition c.in_ok-machine.ensures.state)
+    c.in-Ok.ensures.left
+
+pub returns-clause-shown : goal.returns-clause-shown
+returns-clause-shown c =
+    c.of.ensures ∙ (rw c.in-Some.is at c.in-Ok.ensures.shown).1
+    ∙ ap (λ (system : System). shown_by (view_of system c.args.p) c.args.script.now) (booted-same (with_inputs c.args.system c.args.inputs) c.in_ok-machine.machine.state c.in_ok-machine.ensures.state)
