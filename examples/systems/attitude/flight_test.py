@@ -1,8 +1,11 @@
 """Tries flight.py: the words of the gyro against words worked by hand, and reports that differ in one thing.
 
+Tries attitude.expect in the same way: each line of it is met by the report, and refuses a report that differs in one thing.
+
 usage: /usr/bin/python3 -m pytest examples/systems/attitude/flight_test.py
 """
 
+import subprocess
 import sys
 from pathlib import Path
 
@@ -52,3 +55,40 @@ def test_a_report_with_one_thing_wrong_differs(old: str, new: str, fault: str) -
     assert old in REPORT
     faults = tried.differences(REPORT.replace(old, new, 1), tried.Flight.of(tried.FRAMES))
     assert any(found.startswith(fault) for found in faults)
+
+
+def unmet(report: str, folder: Path) -> list[str]:
+    """The expectations that a report does not meet."""
+    path = folder / "report.txt"
+    path.write_text(report, encoding="utf-8")
+    words = [HERE.parents[2] / "tools/xm", "expect", path, HERE / "attitude.expect", "--names", HERE / "attitude.xml"]
+    done = subprocess.run([sys.executable, *words], capture_output=True, text=True)
+    found = [line.split(": not met: ", 1)[1] for line in done.stdout.splitlines() if ": not met: " in line]
+    assert (done.returncode, done.stderr) == (1 if found else 0, "")
+    return found
+
+
+def test_the_report_meets_its_expectations(tmp_path: Path) -> None:
+    assert unmet(REPORT, tmp_path) == []
+
+
+@pytest.mark.parametrize(
+    ("old", "new", "expectation"),
+    [
+        ("XM_HM_AC_PARTITION_WARM_RESET", "XM_HM_AC_HALT", "gyro HM *DIVIDE*WARM_RESET times 3"),
+        ("[266312] P1 CON", "[268080] P1 CON", "gyro within 4ms of gyro HM"),
+        ("gyro: dropped word 6", "gyro: dropped word 5", 'gyro CON "gyro: dropped word 6"'),
+        ("[280681] P0 CON", "[284080] P0 CON", "fdir within 20ms of gyro HM"),
+        ("[581149] P0 CON fdir: ask for plan 1\\n\n", "", "XM within 20ms of fdir"),
+        ("gyro: test 1", "gyro: test 0", "gyro within 20ms of XM PLAN 1"),
+        ("[639999] XM PLAN 2\n", "", "XM within 60ms of XM PLAN 1 PLAN 2"),
+        ("[600072] P1 COLD\n", "", "gyro COLD times 2"),
+        ("[600072] P1 COLD\n", "[600072] P2 HALT\n", "no HALT"),
+        ("wheel: step 60 ", "wheel: step 61 ", 'wheel CON "wheel: step 60 *"'),
+        ("END P2 idle", "END P2 suspended", "control ends idle"),
+        ("END P3 idle resets=0", "END P3 idle resets=1", "wheel resets 0"),
+    ],
+)
+def test_a_report_with_one_thing_wrong_is_refused(old: str, new: str, expectation: str, tmp_path: Path) -> None:
+    assert old in REPORT
+    assert any(found.startswith(expectation) for found in unmet(REPORT.replace(old, new, 1), tmp_path))
