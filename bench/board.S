@@ -106,8 +106,4 @@ underflow:
         jmp     %l1
         rett    %l2
 
-! Data stands in pages of its own: an emulator that translates code does so again where a page with code is written.
-        .data
-        .balign 4096
-
         .section .note.GNU-stack, "", @progbits

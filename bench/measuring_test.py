@@ -1,7 +1,12 @@
-"""Tries what the scripts of this folder share, and what guest_speed prints, over figures and runs that are made up."""
+"""Tries what the scripts of this folder share, and what guest_speed and peers print, over figures and runs that are made up.
+
+Tries the files that the Makefile makes for peers, too, where there is a cross compiler.
+"""
 import importlib.machinery
 import importlib.util
 import os
+import shutil
+import struct
 import sys
 
 import pytest
@@ -74,3 +79,37 @@ def test_ratios_are_to_the_previous_program(capsys):
         ["two", "45.0", "90.0", "0.50", "300", "225", "1.33"],
         ["mean", "30.0", "60.0", "0.50", "300", "150", "2.00"],
     ]
+
+
+def test_peers_are_compared_with_bare(capsys):
+    rate = {("one", "bare"): 100, ("one", "qemu"): 400, ("two", "bare"): 200, ("two", "qemu"): 200, ("two", "sis"): 50}
+    script("peers").print_rates(["one", "two"], ["bare", "sis", "qemu"], rate)
+    rows = [line.split() for line in capsys.readouterr().out.splitlines()]
+    assert rows == [
+        ["million", "a", "second", "bare", "sis", "ratio", "qemu", "ratio"],
+        ["one", "100", "400", "4.00"],
+        ["two", "200", "50", "0.25", "200", "1.00"],
+        ["mean", "141", "283", "2.00"],
+    ]
+
+
+def pages_of(path, wanted):
+    """The pages of 4096 bytes in which a program file has a segment with one of some flags."""
+    with open(path, "rb") as file:
+        content = file.read()
+    start, size, count = struct.unpack_from(">I", content, 28)[0], *struct.unpack_from(">HH", content, 42)
+    pages = set()
+    for place in range(start, start + size * count, size):
+        kind, _, address, _, _, length, flags, _ = struct.unpack_from(">8I", content, place)
+        if kind == 1 and flags & wanted:
+            pages.update(range(address // 4096, (address + length - 1) // 4096 + 1))
+    return pages
+
+
+@pytest.mark.skipif(shutil.which("sparc64-linux-gnu-gcc") is None, reason="there is no cross compiler")
+@pytest.mark.parametrize("guest", measuring.GUESTS)
+def test_on_a_board_no_page_has_code_and_data(guest):
+    executed, written = 1, 2
+    path = script("peers").made(f"leon3/{guest}.1.elf")
+    code, data = pages_of(path, executed), pages_of(path, written)
+    assert code and data and not code & data
