@@ -8,7 +8,7 @@ use Rattle.xm_conf.specs.Description.{described}
 use Rattle.xm_conf.specs.Fits.{Fits}
 use Rattle.machine_model.specs.Facts.{BootsClocked, KeepsNumbers}
 use Rattle.machine_model.specs.Machine.{Machine, act_of, happened, happened_by, local, run, start, step}
-use Rattle.machine_laws.specs.Planned.{GoesAsPlanned, IsCalmTick, IsPlanned, turn_at}
+use Rattle.machine_laws.specs.Planned.{GoesAsPlanned, IsCalmTick, IsPlanned, planned_turn}
 use Rattle.machine_model.specs.Emission.{reach_of}
 use Rattle.machine_model.specs.View.{System}
 use Rattle.machine_laws.specs.Served.{BeginsFrame, ServesNeeds}
@@ -40,7 +40,7 @@ begins system k planned = record {
   goes_on = planned.goes_on;
   time = planned.time ∙ omega arith;
   plan = planned.plan;
-  turn = planned.turn ∙ ap (λ n. turn_at system.conf 0 (n % frame_of system.conf 0)) (omega arith);
+  turn = planned.turn ∙ ap (λ n. planned_turn system.conf 0 (n % frame_of system.conf 0)) (omega arith);
 }
 
 start_runs : (system : System) → (start system).halted ≡ false

@@ -6,7 +6,7 @@ use Rattle.xm_conf.specs.declared.health.Event.{Event}
 use Rattle.xm_conf.specs.declared.health.Event.TheVariants as event
 use Rattle.machine_model.specs.View.{part_of, view_of}
 use Rattle.xm_flows.specs.Rights.{MaySteer, reaches_all}
-use Rattle.flow_laws.specs.rows.SteererRows.{WhoMaySteer, acting_part, view_with}
+use Rattle.flow_laws.specs.rows.SteererRows.{WhoMaySteer, acting_part, steerer_view}
 
 no_reset : (an_event : Event) → reaches_all (action_in (acting_part action.PartitionColdReset).hm an_event) ≡ true → ⊥
 unfolding action_in
@@ -38,12 +38,12 @@ no_halt event.SparcDivideException is = absurd cc
 no_halt event.SparcInstrAccess is = absurd cc
 no_halt event.SparcDataAccess is = absurd cc
 
-resets_only_itself : MaySteer (view_with (acting_part action.PartitionColdReset)) → ⊥
+resets_only_itself : MaySteer (steerer_view (acting_part action.PartitionColdReset)) → ⊥
 unfolding part_of view_of
 resets_only_itself (inl flag) = absurd cc
 resets_only_itself (inr table) = no_reset table.event table.reaches
 
-halts_only_itself : MaySteer (view_with (acting_part action.Halt)) → ⊥
+halts_only_itself : MaySteer (steerer_view (acting_part action.Halt)) → ⊥
 unfolding part_of view_of
 halts_only_itself (inl flag) = absurd cc
 halts_only_itself (inr table) = no_halt table.event table.reaches

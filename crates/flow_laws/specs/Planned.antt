@@ -8,7 +8,7 @@ use Rattle.xm_conf.specs.Fits.{Fits}
 use Rattle.xm_conf.specs.declared.part.Need.{Need}
 use Rattle.machine_model.specs.Machine.{run, start, turn_of}
 use Rattle.machine_model.specs.View.{System}
-use Rattle.machine_laws.specs.Planned.{turn_at}
+use Rattle.machine_laws.specs.Planned.{planned_turn}
 use Rattle.machine_laws.specs.Served.{own_ticks}
 use Rattle.xm_flows.specs.Rights.{IsUnsteered}
 
@@ -17,7 +17,7 @@ pub record IsAsPlanned (system : System) (k : ℕ) : Type 0 where
   pub goes_on : (run (start system) k).halted ≡ false
   pub time : (run (start system) k).time ≡ k
   pub plan : (run (start system) k).clock.plan ≡ 0
-  pub turn : turn_of (run (start system) k) ≡ turn_at system.conf 0 (k % frame_of system.conf 0)
+  pub turn : turn_of (run (start system) k) ≡ planned_turn system.conf 0 (k % frame_of system.conf 0)
 
 -- so it is before each tick, whatever any partition executes
 abbrev pub SlotsAsPlanned : Type 0

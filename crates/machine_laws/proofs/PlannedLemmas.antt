@@ -8,7 +8,7 @@ use Rattle.cyclic_plans.specs.PlanClock.{CyclicClock, IsInFrame, ended, ends_fra
 use Rattle.cyclic_plans.specs.Slots.{frame_of}
 use Rattle.xm_conf.specs.Configuration.{Conf}
 use Rattle.machine_model.specs.Machine.{Machine, after, clock_after, happened, is_halt, next_clock, next_plan_clock, step, turn_of}
-use Rattle.machine_laws.specs.Planned.{GoesAsPlanned, IsCalmTick, IsPlanned, turn_at}
+use Rattle.machine_laws.specs.Planned.{GoesAsPlanned, IsCalmTick, IsPlanned, planned_turn}
 use Rattle.machine_model.specs.lemmas.TickLemmas.{step_runs}
 use Rattle.machine_model.specs.Whole.{time_after}
 use Rattle.machine_model.specs.Facts.{KeepsNumbers}
@@ -83,8 +83,8 @@ calms g runs calm = record {
 }
 
 -- the slot of a moment of the frame
-turn_is : (g : Machine) → turn_of g ≡ turn_at g.system.conf g.clock.plan (moment g.clock g.time)
-unfolding turn_of turn_at here slot_at
+turn_is : (g : Machine) → turn_of g ≡ planned_turn g.system.conf g.clock.plan (moment g.clock g.time)
+unfolding turn_of planned_turn here slot_at
 turn_is g = refl
 
 -- a tick more
@@ -94,10 +94,10 @@ more_planned g k same time next rest = record {
   time = rest.time ∙ ap (λ t. t + k) time ∙ (let e : g.time + 1 + k ≡ g.time + suc k = omega arith in e);
   plan = rest.plan ∙ next.plan;
   turn = rest.turn
-      ∙ ap (λ s. turn_at s.conf (step g).clock.plan ((moment (step g).clock (step g).time + k) % frame_of s.conf (step g).clock.plan)) same
-      ∙ ap (λ t. turn_at g.system.conf (step g).clock.plan ((moment (step g).clock t + k) % frame_of g.system.conf (step g).clock.plan)) time
-      ∙ ap (λ plan. turn_at g.system.conf plan ((moment (step g).clock (g.time + 1) + k) % frame_of g.system.conf plan)) next.plan
-      ∙ ap (turn_at g.system.conf g.clock.plan) next.moment_is;
+      ∙ ap (λ s. planned_turn s.conf (step g).clock.plan ((moment (step g).clock (step g).time + k) % frame_of s.conf (step g).clock.plan)) same
+      ∙ ap (λ t. planned_turn g.system.conf (step g).clock.plan ((moment (step g).clock t + k) % frame_of g.system.conf (step g).clock.plan)) time
+      ∙ ap (λ plan. planned_turn g.system.conf plan ((moment (step g).clock (g.time + 1) + k) % frame_of g.system.conf plan)) next.plan
+      ∙ ap (planned_turn g.system.conf g.clock.plan) next.moment_is;
 }
 
 pub goes_as_planned : KeepsNumbers → GoesAsPlanned
@@ -105,7 +105,7 @@ goes_as_planned numbers g zero runs inside none calm = record {
   goes_on = runs;
   time = omega arith;
   plan = refl;
-  turn = turn_is g ∙ ap (turn_at g.system.conf g.clock.plan) (sym (mod-eq_of_lt (omega (arith, inside.begun, inside.before_end)))
+  turn = turn_is g ∙ ap (planned_turn g.system.conf g.clock.plan) (sym (mod-eq_of_lt (omega (arith, inside.begun, inside.before_end)))
       ∙ ap (λ n. n % frame_of g.system.conf g.clock.plan) (omega arith));
 }
 goes_as_planned numbers g (suc k) runs inside none calm =

@@ -18,15 +18,15 @@ use Rattle.machine_model.specs.Laws.{alone_part_at, part}
 use Rattle.machine_model.specs.Machine.{copies}
 use Rattle.machine_model.specs.Partition.{PartitionState, applies, areas_of, order_emissions, ordered_emissions}
 use Rattle.machine_model.specs.View.{PartitionView}
-use Rattle.machine_laws.specs.Planned.{turn_at}
+use Rattle.machine_laws.specs.Planned.{planned_turn}
 use Rattle.machine_laws.specs.Spared.{IsSpared}
 use Rattle.machine_laws.specs.rows.BoundRows.{BoundsAreReached}
 use Rattle.machine_laws.specs.rows.EqualRows.{SameForTheFirst}
-use Rattle.machine_laws.specs.rows.SpareRows.{NotSpared, OutsideInterrupts, Resets}
+use Rattle.machine_laws.specs.rows.SpareRows.{NotSpared, OutsideInterrupts, ResetRows}
 use Rattle.machine_laws.specs.rows.TurnRows.{TurnsOfTwoPlans}
 
 pub turns_of_two_plans : TurnsOfTwoPlans
-unfolding slots_of turn_at
+unfolding slots_of planned_turn
 turns_of_two_plans = record {
   begins = refl;
   goes_on = refl;
@@ -52,7 +52,7 @@ outside_interrupts = record {
   last_link = refl;
 }
 
-pub resets : Resets
+pub resets : ResetRows
 resets = record {
   none = refl;
   halt = refl;

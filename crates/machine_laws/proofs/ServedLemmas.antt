@@ -11,7 +11,7 @@ use Rattle.xm_conf.specs.Configuration.{Conf, Plan}
 use Rattle.xm_conf.specs.Fits.{InTurn}
 use Rattle.xm_conf.specs.declared.plan.Slot.{Slot}
 use Rattle.machine_model.specs.Machine.{Machine, is_turn_of, run, turn_here}
-use Rattle.machine_laws.specs.Planned.{GoesAsPlanned, IsCalmTick, turn_at}
+use Rattle.machine_laws.specs.Planned.{GoesAsPlanned, IsCalmTick, planned_turn}
 use Rattle.machine_laws.specs.Served.{BeginsFrame, ServesNeeds, is_own_tick, own_ticks}
 
 -- slots that come one after the other
@@ -104,8 +104,8 @@ its_frame : (conf : Conf) (n : ℕ) (plan : Plan) → slice_get conf.plans n ≡
 unfolding frame_of
 its_frame conf n plan there = ap frame_in there
 
-turn_is : (conf : Conf) (n p at : ℕ) (plan : Plan) → slice_get conf.plans n ≡ Some plan → InTurn plan.slots → is_turn_of (turn_at conf n at) p ≡ runs_in p plan.slots at
-unfolding turn_at
+turn_is : (conf : Conf) (n p at : ℕ) (plan : Plan) → slice_get conf.plans n ≡ Some plan → InTurn plan.slots → is_turn_of (planned_turn conf n at) p ≡ runs_in p plan.slots at
+unfolding planned_turn
 turn_is conf n p at plan there turns =
     ap (λ slots. is_turn_of (turn_here (on (here_in at) (slot_from at 0 slots))) p) (its_slots conf n plan there) ∙ turn_runs p at 0 plan.slots turns
 
@@ -114,9 +114,9 @@ own_tick : GoesAsPlanned → (g : Machine) (p tick : ℕ) (plan : Plan) → Begi
     → is_own_tick g p tick ≡ runs_in p plan.slots (tick % plan.frame)
 own_tick goes g p tick plan begins turns calm =
     let planned = goes g tick begins.goes_on begins.in_frame begins.unasked calm in
-    ap (λ o. is_turn_of o p) (planned.turn ∙ ap (λ n. turn_at g.system.conf g.clock.plan ((n + tick) % frame_of g.system.conf g.clock.plan)) begins.first
-    ∙ ap (λ n. turn_at g.system.conf g.clock.plan (n % frame_of g.system.conf g.clock.plan)) (zero_first tick)
-    ∙ ap (λ n. turn_at g.system.conf g.clock.plan (tick % n)) (its_frame g.system.conf g.clock.plan plan begins.there))
+    ap (λ o. is_turn_of o p) (planned.turn ∙ ap (λ n. planned_turn g.system.conf g.clock.plan ((n + tick) % frame_of g.system.conf g.clock.plan)) begins.first
+    ∙ ap (λ n. planned_turn g.system.conf g.clock.plan (n % frame_of g.system.conf g.clock.plan)) (zero_first tick)
+    ∙ ap (λ n. planned_turn g.system.conf g.clock.plan (tick % n)) (its_frame g.system.conf g.clock.plan plan begins.there))
     ∙ turn_is g.system.conf g.clock.plan p (tick % plan.frame) plan begins.there turns
   where
     zero_first : (n : ℕ) → 0 + n ≡ n

@@ -9,15 +9,15 @@ use Rattle.machine_model.specs.Partition.{PartitionState}
 use Rattle.machine_model.specs.View.{PartitionView}
 
 -- the most lines that a partition's part of a tick prints, and the most bytes that it writes to its console
-abbrev pub most_lines : ℕ
-most_lines = 3
+abbrev pub most_tick_lines : ℕ
+most_tick_lines = 3
 
 abbrev pub most_console_bytes : ℕ
 most_console_bytes = 1024
 
 -- what a partition's part of a tick gives is no more
 pub record IsFew (tick : LocalTick) : Type 0 where
-  pub lines : length tick.lines ≤ most_lines
+  pub lines : length tick.lines ≤ most_tick_lines
   pub said : length tick.said ≤ most_console_bytes
 
 -- whatever the partition executes

@@ -8,8 +8,8 @@ use Rattle.machine_model.specs.Machine.{Machine, SlotTurn, happened, run, turn_h
 use Rattle.machine_model.specs.Emission.{NoEvent, reach_of}
 
 -- whose slot a moment of a plan's frame is in, and whether the slot begins there
-unfoldable pub turn_at : Conf → ℕ → ℕ → Option SlotTurn
-turn_at conf plan at = turn_here (on (here_in at) (slot_from at 0 (slots_of conf plan)))
+unfoldable pub planned_turn : Conf → ℕ → ℕ → Option SlotTurn
+planned_turn conf plan at = turn_here (on (here_in at) (slot_from at 0 (slots_of conf plan)))
 
 -- a tick in which no plan is asked for or started, and no hypervisor event happens. Partitions may get orders
 pub record IsCalmTick (g : Machine) : Type 0 where
@@ -22,7 +22,7 @@ pub record IsPlanned (g : Machine) (k : ℕ) : Type 0 where
   pub goes_on : (run g k).halted ≡ false
   pub time : (run g k).time ≡ g.time + k
   pub plan : (run g k).clock.plan ≡ g.clock.plan
-  pub turn : turn_of (run g k) ≡ turn_at g.system.conf g.clock.plan ((moment g.clock g.time + k) % frame_of g.system.conf g.clock.plan)
+  pub turn : turn_of (run g k) ≡ planned_turn g.system.conf g.clock.plan ((moment g.clock g.time + k) % frame_of g.system.conf g.clock.plan)
 
 -- so it is from any machine on whose clock is in its frame, up to its first tick that is not calm, that tick too, whatever any partition executes
 abbrev pub GoesAsPlanned : Type 0

@@ -2,7 +2,7 @@
 
 ghost use Rattle.machine_laws.specs.rows.BoundRows.{BoundsAreReached};
 ghost use Rattle.machine_laws.specs.rows.EqualRows.{SameForTheFirst};
-ghost use Rattle.machine_laws.specs.rows.SpareRows.{NotSpared, OutsideInterrupts, Resets};
+ghost use Rattle.machine_laws.specs.rows.SpareRows.{NotSpared, OutsideInterrupts, ResetRows};
 ghost use Rattle.machine_laws.specs.rows.TurnRows.{TurnsOfTwoPlans};
 
 /// The words of the laws on plans, on what is spared and on what is the same.
@@ -12,7 +12,7 @@ pub fn worked_rows()
     // Row: which interrupts come from outside, which orders and events are resets, and of which changes a partition is
     // not spared.
     ensures outside { OutsideInterrupts }
-    ensures resets { Resets }
+    ensures resets { ResetRows }
     ensures spared { NotSpared }
     // Row: a trap that cannot be delivered is three lines, and a console call prints each byte that it is given.
     ensures bounds { BoundsAreReached }

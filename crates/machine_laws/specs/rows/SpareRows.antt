@@ -23,7 +23,7 @@ pub record OutsideInterrupts : Type 0 where
   pub last_link : comes_from_outside 15 ≡ true
 
 -- which orders and events are resets
-pub record Resets : Type 0 where
+pub record ResetRows : Type 0 where
   pub none : is_reset_order None ≡ false
   pub halt : is_reset_order (Some order.Halt) ≡ false
   pub suspend : is_reset_order (Some order.Suspend) ≡ false

@@ -7,90 +7,90 @@ use Rattle.machine_model.specs.View.{PartitionView}
 use Rattle.upset_model.specs.Places.{Conditions, ExecutionDeadline, Global, HardwareDeadline, Mask, MemoryByte, Npc, Pc, Pending, TrapBase, Windowed, YRegister, flip, is_place}
 
 -- a partition with these in its registers, its virtual traps and its timers
-abbrev pub with_globals : List ℕ → PartitionState → PartitionState
-with_globals words ps = record ps { core = record ps.core { globals = words } }
+abbrev pub having_globals : List ℕ → PartitionState → PartitionState
+having_globals words ps = record ps { core = record ps.core { globals = words } }
 
-abbrev pub with_windows : List ℕ → PartitionState → PartitionState
-with_windows words ps = record ps { core = record ps.core { windows = words } }
+abbrev pub having_windows : List ℕ → PartitionState → PartitionState
+having_windows words ps = record ps { core = record ps.core { windows = words } }
 
-abbrev pub with_pc : ℕ → PartitionState → PartitionState
-with_pc pc ps = record ps { core = record ps.core { pc = pc } }
+abbrev pub having_pc : ℕ → PartitionState → PartitionState
+having_pc pc ps = record ps { core = record ps.core { pc = pc } }
 
-abbrev pub with_npc : ℕ → PartitionState → PartitionState
-with_npc npc ps = record ps { core = record ps.core { npc = npc } }
+abbrev pub having_npc : ℕ → PartitionState → PartitionState
+having_npc npc ps = record ps { core = record ps.core { npc = npc } }
 
 abbrev pub having_y : ℕ → PartitionState → PartitionState
 having_y y ps = record ps { core = record ps.core { y = y } }
 
-abbrev pub with_conditions : ℕ → PartitionState → PartitionState
-with_conditions icc ps = record ps { core = record ps.core { icc = icc } }
+abbrev pub having_conditions : ℕ → PartitionState → PartitionState
+having_conditions icc ps = record ps { core = record ps.core { icc = icc } }
 
-abbrev pub with_hardware : Option Timer → PartitionState → PartitionState
-with_hardware timer ps = record ps { clocks = record ps.clocks { hardware_timer = timer } }
+abbrev pub having_hardware : Option Timer → PartitionState → PartitionState
+having_hardware timer ps = record ps { clocks = record ps.clocks { hardware_timer = timer } }
 
-abbrev pub with_execution : Option Timer → PartitionState → PartitionState
-with_execution timer ps = record ps { clocks = record ps.clocks { execution_timer = timer } }
+abbrev pub having_execution : Option Timer → PartitionState → PartitionState
+having_execution timer ps = record ps { clocks = record ps.clocks { execution_timer = timer } }
 
-abbrev pub with_base : ℕ → PartitionState → PartitionState
-with_base base ps = record ps { traps = record ps.traps { base = base } }
+abbrev pub having_base : ℕ → PartitionState → PartitionState
+having_base base ps = record ps { traps = record ps.traps { base = base } }
 
-abbrev pub with_mask : ℕ → PartitionState → PartitionState
-with_mask mask ps = record ps { traps = record ps.traps { mask = mask } }
+abbrev pub having_mask : ℕ → PartitionState → PartitionState
+having_mask mask ps = record ps { traps = record ps.traps { mask = mask } }
 
-abbrev pub with_pending : ℕ → PartitionState → PartitionState
-with_pending pending ps = record ps { traps = record ps.traps { pending = pending } }
+abbrev pub having_pending : ℕ → PartitionState → PartitionState
+having_pending pending ps = record ps { traps = record ps.traps { pending = pending } }
 
-abbrev pub timed : ℕ → ℕ → Option Timer
-timed deadline interval = Some (record { deadline = deadline; interval = interval })
+abbrev pub timer_due : ℕ → ℕ → Option Timer
+timer_due deadline interval = Some (record { deadline = deadline; interval = interval })
 
 -- g1 and g7
 pub record GlobalRows : Type 0 where
   pub first_low : (ps : PartitionState) →
-      flip (Global 1) 0 (with_globals (0 ∷ 0x12345678 ∷ 2 ∷ 3 ∷ 4 ∷ 5 ∷ 6 ∷ 7 ∷ []) ps) ≡ with_globals (0 ∷ 0x12345679 ∷ 2 ∷ 3 ∷ 4 ∷ 5 ∷ 6 ∷ 7 ∷ []) ps
+      flip (Global 1) 0 (having_globals (0 ∷ 0x12345678 ∷ 2 ∷ 3 ∷ 4 ∷ 5 ∷ 6 ∷ 7 ∷ []) ps) ≡ having_globals (0 ∷ 0x12345679 ∷ 2 ∷ 3 ∷ 4 ∷ 5 ∷ 6 ∷ 7 ∷ []) ps
   pub first_high : (ps : PartitionState) →
-      flip (Global 1) 31 (with_globals (0 ∷ 0x12345678 ∷ 2 ∷ 3 ∷ 4 ∷ 5 ∷ 6 ∷ 7 ∷ []) ps) ≡ with_globals (0 ∷ 0x92345678 ∷ 2 ∷ 3 ∷ 4 ∷ 5 ∷ 6 ∷ 7 ∷ []) ps
+      flip (Global 1) 31 (having_globals (0 ∷ 0x12345678 ∷ 2 ∷ 3 ∷ 4 ∷ 5 ∷ 6 ∷ 7 ∷ []) ps) ≡ having_globals (0 ∷ 0x92345678 ∷ 2 ∷ 3 ∷ 4 ∷ 5 ∷ 6 ∷ 7 ∷ []) ps
   pub last_low : (ps : PartitionState) →
-      flip (Global 7) 0 (with_globals (0 ∷ 1 ∷ 2 ∷ 3 ∷ 4 ∷ 5 ∷ 6 ∷ 7 ∷ []) ps) ≡ with_globals (0 ∷ 1 ∷ 2 ∷ 3 ∷ 4 ∷ 5 ∷ 6 ∷ 6 ∷ []) ps
+      flip (Global 7) 0 (having_globals (0 ∷ 1 ∷ 2 ∷ 3 ∷ 4 ∷ 5 ∷ 6 ∷ 7 ∷ []) ps) ≡ having_globals (0 ∷ 1 ∷ 2 ∷ 3 ∷ 4 ∷ 5 ∷ 6 ∷ 6 ∷ []) ps
   pub last_high : (ps : PartitionState) →
-      flip (Global 7) 31 (with_globals (0 ∷ 1 ∷ 2 ∷ 3 ∷ 4 ∷ 5 ∷ 6 ∷ 7 ∷ []) ps) ≡ with_globals (0 ∷ 1 ∷ 2 ∷ 3 ∷ 4 ∷ 5 ∷ 6 ∷ 0x80000007 ∷ []) ps
+      flip (Global 7) 31 (having_globals (0 ∷ 1 ∷ 2 ∷ 3 ∷ 4 ∷ 5 ∷ 6 ∷ 7 ∷ []) ps) ≡ having_globals (0 ∷ 1 ∷ 2 ∷ 3 ∷ 4 ∷ 5 ∷ 6 ∷ 0x80000007 ∷ []) ps
 
 -- w0 and w127
 pub record WindowRows : Type 0 where
-  pub first_low : (ps : PartitionState) → flip (Windowed 0) 0 (with_windows (9 ∷ replicate 127 5) ps) ≡ with_windows (8 ∷ replicate 127 5) ps
-  pub first_high : (ps : PartitionState) → flip (Windowed 0) 31 (with_windows (0x80000000 ∷ replicate 127 5) ps) ≡ with_windows (0 ∷ replicate 127 5) ps
-  pub last_low : (ps : PartitionState) → flip (Windowed 127) 0 (with_windows (replicate 127 5 ++ 0 ∷ []) ps) ≡ with_windows (replicate 127 5 ++ 1 ∷ []) ps
-  pub last_high : (ps : PartitionState) → flip (Windowed 127) 31 (with_windows (replicate 127 5 ++ 1 ∷ []) ps) ≡ with_windows (replicate 127 5 ++ 0x80000001 ∷ []) ps
+  pub first_low : (ps : PartitionState) → flip (Windowed 0) 0 (having_windows (9 ∷ replicate 127 5) ps) ≡ having_windows (8 ∷ replicate 127 5) ps
+  pub first_high : (ps : PartitionState) → flip (Windowed 0) 31 (having_windows (0x80000000 ∷ replicate 127 5) ps) ≡ having_windows (0 ∷ replicate 127 5) ps
+  pub last_low : (ps : PartitionState) → flip (Windowed 127) 0 (having_windows (replicate 127 5 ++ 0 ∷ []) ps) ≡ having_windows (replicate 127 5 ++ 1 ∷ []) ps
+  pub last_high : (ps : PartitionState) → flip (Windowed 127) 31 (having_windows (replicate 127 5 ++ 1 ∷ []) ps) ≡ having_windows (replicate 127 5 ++ 0x80000001 ∷ []) ps
 
 -- the program counters, whose two lowest bits are 0, Y, and the four condition codes
 pub record RegisterRows : Type 0 where
-  pub pc_low : (ps : PartitionState) → flip Pc 2 (with_pc 0x40100010 ps) ≡ with_pc 0x40100014 ps
-  pub pc_high : (ps : PartitionState) → flip Pc 31 (with_pc 0x40100010 ps) ≡ with_pc 0xc0100010 ps
-  pub npc_low : (ps : PartitionState) → flip Npc 2 (with_npc 0x40100014 ps) ≡ with_npc 0x40100010 ps
-  pub npc_high : (ps : PartitionState) → flip Npc 31 (with_npc 0xc0100014 ps) ≡ with_npc 0x40100014 ps
+  pub pc_low : (ps : PartitionState) → flip Pc 2 (having_pc 0x40100010 ps) ≡ having_pc 0x40100014 ps
+  pub pc_high : (ps : PartitionState) → flip Pc 31 (having_pc 0x40100010 ps) ≡ having_pc 0xc0100010 ps
+  pub npc_low : (ps : PartitionState) → flip Npc 2 (having_npc 0x40100014 ps) ≡ having_npc 0x40100010 ps
+  pub npc_high : (ps : PartitionState) → flip Npc 31 (having_npc 0xc0100014 ps) ≡ having_npc 0x40100014 ps
   pub y_low : (ps : PartitionState) → flip YRegister 0 (having_y 6 ps) ≡ having_y 7 ps
   pub y_high : (ps : PartitionState) → flip YRegister 31 (having_y 6 ps) ≡ having_y 0x80000006 ps
-  pub conditions_low : (ps : PartitionState) → flip Conditions 0 (with_conditions 5 ps) ≡ with_conditions 4 ps
-  pub conditions_high : (ps : PartitionState) → flip Conditions 3 (with_conditions 5 ps) ≡ with_conditions 13 ps
+  pub conditions_low : (ps : PartitionState) → flip Conditions 0 (having_conditions 5 ps) ≡ having_conditions 4 ps
+  pub conditions_high : (ps : PartitionState) → flip Conditions 3 (having_conditions 5 ps) ≡ having_conditions 13 ps
 
 -- deadlines: one that becomes 0 disarms its timer, and that of a timer that is not armed is 0 and becomes another
 pub record TimerRows : Type 0 where
-  pub hardware_low : (ps : PartitionState) → flip HardwareDeadline 0 (with_hardware (timed 2 7) ps) ≡ with_hardware (timed 3 7) ps
-  pub hardware_high : (ps : PartitionState) → flip HardwareDeadline 62 (with_hardware (timed 2 7) ps) ≡ with_hardware (timed 0x4000000000000002 7) ps
-  pub hardware_disarmed : (ps : PartitionState) → flip HardwareDeadline 0 (with_hardware (timed 1 7) ps) ≡ with_hardware None ps
-  pub hardware_armed : (ps : PartitionState) → flip HardwareDeadline 62 (with_hardware None ps) ≡ with_hardware (timed 0x4000000000000000 0) ps
-  pub execution_low : (ps : PartitionState) → flip ExecutionDeadline 0 (with_execution (timed 2 7) ps) ≡ with_execution (timed 3 7) ps
-  pub execution_high : (ps : PartitionState) → flip ExecutionDeadline 62 (with_execution (timed 2 7) ps) ≡ with_execution (timed 0x4000000000000002 7) ps
-  pub execution_disarmed : (ps : PartitionState) → flip ExecutionDeadline 0 (with_execution (timed 1 7) ps) ≡ with_execution None ps
-  pub execution_armed : (ps : PartitionState) → flip ExecutionDeadline 62 (with_execution None ps) ≡ with_execution (timed 0x4000000000000000 0) ps
+  pub hardware_low : (ps : PartitionState) → flip HardwareDeadline 0 (having_hardware (timer_due 2 7) ps) ≡ having_hardware (timer_due 3 7) ps
+  pub hardware_high : (ps : PartitionState) → flip HardwareDeadline 62 (having_hardware (timer_due 2 7) ps) ≡ having_hardware (timer_due 0x4000000000000002 7) ps
+  pub hardware_disarmed : (ps : PartitionState) → flip HardwareDeadline 0 (having_hardware (timer_due 1 7) ps) ≡ having_hardware None ps
+  pub hardware_armed : (ps : PartitionState) → flip HardwareDeadline 62 (having_hardware None ps) ≡ having_hardware (timer_due 0x4000000000000000 0) ps
+  pub execution_low : (ps : PartitionState) → flip ExecutionDeadline 0 (having_execution (timer_due 2 7) ps) ≡ having_execution (timer_due 3 7) ps
+  pub execution_high : (ps : PartitionState) → flip ExecutionDeadline 62 (having_execution (timer_due 2 7) ps) ≡ having_execution (timer_due 0x4000000000000002 7) ps
+  pub execution_disarmed : (ps : PartitionState) → flip ExecutionDeadline 0 (having_execution (timer_due 1 7) ps) ≡ having_execution None ps
+  pub execution_armed : (ps : PartitionState) → flip ExecutionDeadline 62 (having_execution None ps) ≡ having_execution (timer_due 0x4000000000000000 0) ps
 
 -- the base of the table of traps, whose twelve lowest bits are 0, and the masked and the pending interrupts
 pub record TrapRows : Type 0 where
-  pub base_low : (ps : PartitionState) → flip TrapBase 12 (with_base 0x40100000 ps) ≡ with_base 0x40101000 ps
-  pub base_high : (ps : PartitionState) → flip TrapBase 31 (with_base 0x40100000 ps) ≡ with_base 0xc0100000 ps
-  pub mask_low : (ps : PartitionState) → flip Mask 0 (with_mask 0xffffffff ps) ≡ with_mask 0xfffffffe ps
-  pub mask_high : (ps : PartitionState) → flip Mask 31 (with_mask 0xffffffff ps) ≡ with_mask 0x7fffffff ps
-  pub pending_low : (ps : PartitionState) → flip Pending 0 (with_pending 0 ps) ≡ with_pending 1 ps
-  pub pending_high : (ps : PartitionState) → flip Pending 31 (with_pending 0 ps) ≡ with_pending 0x80000000 ps
+  pub base_low : (ps : PartitionState) → flip TrapBase 12 (having_base 0x40100000 ps) ≡ having_base 0x40101000 ps
+  pub base_high : (ps : PartitionState) → flip TrapBase 31 (having_base 0x40100000 ps) ≡ having_base 0xc0100000 ps
+  pub mask_low : (ps : PartitionState) → flip Mask 0 (having_mask 0xffffffff ps) ≡ having_mask 0xfffffffe ps
+  pub mask_high : (ps : PartitionState) → flip Mask 31 (having_mask 0xffffffff ps) ≡ having_mask 0x7fffffff ps
+  pub pending_low : (ps : PartitionState) → flip Pending 0 (having_pending 0 ps) ≡ having_pending 1 ps
+  pub pending_high : (ps : PartitionState) → flip Pending 31 (having_pending 0 ps) ≡ having_pending 0x80000000 ps
 
 -- a byte of memory
 pub record MemoryRows : Type 0 where
