@@ -19,7 +19,8 @@ use Rattle.xm_machine.specs.declared.alone_span.AloneFault.{AloneFault}
 use Rattle.xm_machine.specs.declared.alone_span.AloneFault.TheVariants as fault
 use Rattle.xm_alone.specs.Replay.{IsReplayed, halted_by, lone_in}
 use Rattle.xm_alone.specs.Shown.{ShownTick, shown_by, shown_from, shown_tick}
-use Rattle.xm_alone.specs.lemmas.Kept.{AreSized, IsKept, KeepsShown, KeepsTick, KeepsTicks, kept_ticks, said_size, text_size, ticks_in}
+use Rattle.xm_alone.specs.Kept.{AreSized, IsKept, kept_ticks, said_size, text_size, ticks_in}
+use Rattle.xm_alone.specs.lemmas.Kept.{KeepsShown, KeepsTick, KeepsTicks}
 use Rattle.xm_alone.specs.declared.keeping.Extent.{Extent}
 use Rattle.xm_alone.specs.declared.keeping.Kept.{Kept}
 use Rattle.xm_alone.proofs.FollowLemmas.{IsFitting, said_more}

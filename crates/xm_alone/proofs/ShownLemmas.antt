@@ -24,7 +24,7 @@ use Rattle.recording_model.specs.Lone.{Lone, own_view, replay_said}
 use Rattle.recording_model.specs.Replayed.{cue_lines, replay_lines, replayed}
 use Rattle.xm_alone.specs.Replay.{IsReplay, IsReplayed, IsSilentReplay, lone_in}
 use Rattle.xm_alone.specs.Shown.{IsCutShowing, IsShown, ShownTick, shown_by, shown_from, shown_tick}
-use Rattle.xm_alone.specs.lemmas.Kept.{AreSized, IsKept, kept_ticks, ticks_in}
+use Rattle.xm_alone.specs.Kept.{AreSized, IsKept, kept_ticks, ticks_in}
 use Rattle.xm_alone.specs.lemmas.ShownTerms.{ArePlayed, AreCutPlayed, console_said, shown_said, shown_text}
 use Rattle.xm_alone.specs.declared.keeping.Extent.{Extent}
 use Rattle.xm_alone.specs.declared.keeping.Kept.{Kept}

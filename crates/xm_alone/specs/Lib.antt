@@ -1,3 +1,4 @@
+pub mod Kept
 pub mod Replay
 pub mod Shown
 pub mod lemmas

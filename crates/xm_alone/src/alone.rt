@@ -13,7 +13,7 @@ ghost use Rattle.system_state.specs.State.{with_inputs};
 ghost use Rattle.recording_model.specs.Replayed.{cue_lines, replay_lines};
 ghost use Rattle.xm_alone.specs.Replay.{IsReplay, IsReplayed, IsSilentReplay, TakesAll, AnswersFit, lone_in};
 ghost use Rattle.xm_alone.specs.Shown.{IsShown, shown_by};
-ghost use Rattle.xm_alone.specs.lemmas.Kept.{kept_ticks};
+ghost use Rattle.xm_alone.specs.Kept.{kept_ticks};
 ghost use Rattle.recording_model.specs.Lone.{Lone, booted_alone, own_view};
 ghost use Rattle.xm_machine.specs.Outcome.{HasWriteCause};
 ghost use Rattle.xm_report.specs.Report.{line_value};

@@ -6,7 +6,7 @@ ghost use Rattle.machine_model.specs.View.{view_of};
 ghost use Rattle.system_state.specs.State.{with_inputs};
 ghost use Rattle.xm_alone.specs.Replay.{AnswersFit, IsReplayed, lone_in};
 ghost use Rattle.xm_alone.specs.Shown.{shown_by};
-ghost use Rattle.xm_alone.specs.lemmas.Kept.{IsKept, kept_ticks};
+ghost use Rattle.xm_alone.specs.Kept.{IsKept, kept_ticks};
 ghost use Rattle.xm_alone.specs.lemmas.ReplayTerms.{is_refused};
 ghost use Rattle.recording_model.specs.Lone.{booted_alone};
 

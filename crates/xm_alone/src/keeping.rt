@@ -3,7 +3,8 @@
 ghost use Rattle.std.specs.Prelude.{◌≡◌, ◌+◌, ◌<◌, ◌≤◌, ◌∷◌, ◌++◌, [], false, true, IfSome, length, take};
 ghost use Rattle.replay_model.specs.Step.{IsOfSystem};
 ghost use Rattle.xm_alone.specs.lemmas.Cues.{HasNext, IsNextCue, next_cues};
-ghost use Rattle.xm_alone.specs.lemmas.Kept.{AreSized, FollowsKept, IsKept, KeepsTick, KeepsTicks, kept_ticks};
+ghost use Rattle.xm_alone.specs.Kept.{AreSized, IsKept, kept_ticks};
+ghost use Rattle.xm_alone.specs.lemmas.Kept.{FollowsKept, KeepsTick, KeepsTicks};
 
 use crate::cues::Next;
 use crate::following::follow;

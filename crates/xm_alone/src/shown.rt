@@ -2,7 +2,7 @@
 
 ghost use Rattle.std.specs.Prelude.{◌≡◌, ◌<◌, IfSome};
 ghost use Rattle.uart_board.specs.Heard.{IsHeard};
-ghost use Rattle.xm_alone.specs.lemmas.Kept.{AreSized, IsKept, kept_ticks, ticks_in};
+ghost use Rattle.xm_alone.specs.Kept.{AreSized, IsKept, kept_ticks, ticks_in};
 ghost use Rattle.xm_alone.specs.lemmas.ShownTerms.{PlaysTicks, console_said};
 ghost use Rattle.xm_machine.specs.Outcome.{HasWriteCause};
 ghost use Rattle.xm_outside.specs.Growth.{Writes};
@@ -30,7 +30,7 @@ struct Rest<'a> {
 impl Model for Shown {
     ghost use Rattle.std.specs.Prelude.{List};
     ghost use Rattle.xm_alone.specs.Shown.{ShownTick};
-    ghost use Rattle.xm_alone.specs.lemmas.Kept.{IsKept, kept_ticks};
+    ghost use Rattle.xm_alone.specs.Kept.{IsKept, kept_ticks};
 
     ghost Value = { List ShownTick };
 

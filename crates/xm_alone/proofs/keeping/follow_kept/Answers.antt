@@ -1,5 +1,5 @@
 use Rattle.std.proofs.Common.{◌≡◌, ℕ, List, arith, length, subst, sym, ap, ◌∙◌, refl, take}
-use Rattle.xm_alone.specs.lemmas.Kept.{AreSized}
+use Rattle.xm_alone.specs.Kept.{AreSized}
 use Rattle.xm_alone.proofs.KeptLemmas.{first_same, first_within, ticks_kept}
 use Rattle.xm_alone.proofs.keeping.follow_kept.Goals as goal
 

@@ -1,6 +1,6 @@
 use Rattle.std.proofs.Common.{◌≡◌, length}
 use Rattle.uart_board.specs.contracts.views.BoardViewBoard.TheImpl.{ghosts}
-use Rattle.xm_alone.specs.lemmas.Kept.{AreSized, ticks_in}
+use Rattle.xm_alone.specs.Kept.{AreSized, ticks_in}
 use Rattle.xm_alone.proofs.ShownLemmas.{IsShowing}
 use Rattle.xm_alone.proofs.shown.Shown.play.Given as goal
 
