@@ -7,23 +7,9 @@ use Rattle.virt_clocks.specs.declared.timer.Timer.{Timer}
 use Rattle.machine_model.specs.Partition.{PartitionState, areas_of}
 use Rattle.machine_model.specs.View.{PartitionView}
 use Rattle.upset_model.specs.Upsets.{Schedule, Upset}
-
--- where a bit flips, each place with its spelling: a global register by its number in the core file (g1 to g7), a register of the windows by its number
--- there (w0 to w127), the two program counters (pc, npc), Y (y), the condition codes (icc), the deadlines of the two timers (hw, exec), the base of the
--- table of traps (tbr), the masked and the pending interrupts (mask, pending), and a byte of memory by its address (eight hexadecimal digits)
-pub data Place : Type 0 where
-  Global : (n : ℕ) → Place
-  Windowed : (n : ℕ) → Place
-  Pc : Place
-  Npc : Place
-  YRegister : Place
-  Conditions : Place
-  HardwareDeadline : Place
-  ExecutionDeadline : Place
-  TrapBase : Place
-  Mask : Place
-  Pending : Place
-  MemoryByte : (address : ℕ) → Place
+use Rattle.upset_model.specs.declared.place.Place.{Place}
+use Rattle.upset_model.specs.declared.place.Place.TheVariants.{Conditions, ExecutionDeadline, Global, HardwareDeadline, Mask, MemoryByte, Npc, Pc, Pending, TrapBase, Windowed, YRegister}
+use Rattle.upset_model.specs.declared.place.UpsetLine.{UpsetLine}
 
 -- whether a partition has the bit, and may be struck there. Register 0 is always 0; the program counters are multiples of 4, and the base is one of 4096; a
 -- deadline has 63 bits, as a number that is not negative; a byte that is read-only may be struck, too
@@ -75,13 +61,7 @@ flip Mask bit ps = record ps { traps = record ps.traps { mask = flipped bit ps.t
 flip Pending bit ps = record ps { traps = record ps.traps { pending = flipped bit ps.traps.pending } }
 flip (MemoryByte address) bit ps = record ps { memory = insert ps.memory address (flipped bit (byte_at ps.memory address)) }
 
--- a line of a file of upsets: before the tick, the bit of the place of the partition flips
-pub record UpsetLine : Type 0 where
-  pub tick : ℕ
-  pub part : ℕ
-  pub place : Place
-  pub bit : ℕ
-
+-- the upset of a line: the bit of the place of the partition flips
 abbrev pub upset_of : UpsetLine → Upset
 upset_of line = record { part = line.part; strike = flip line.place line.bit }
 

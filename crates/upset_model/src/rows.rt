@@ -1,7 +1,7 @@
 //! Rows worked by hand: bits that flip, and the tick before which they do.
 
 ghost use Rattle.upset_model.specs.rows.PlaceRows.{EdgeRows, GlobalRows, MemoryRows, RegisterRows, TimerRows, TrapRows, WindowRows};
-ghost use Rattle.upset_model.specs.rows.StrikeRows.{RunRows, ScheduleRows};
+ghost use Rattle.upset_model.specs.rows.StrikeRows.{ReadyRows, RunRows, ScheduleRows};
 
 /// The first and the last bit of each place.
 pub fn flips_at_edges()
@@ -27,4 +27,6 @@ pub fn strikes_before_its_tick()
     ensures schedule { ScheduleRows }
     // The upsets of tick 0 strike before the first tick, and those of tick 1 after it.
     ensures runs { RunRows }
+    // Of three partitions the one of a line is struck, and no other; a machine that has halted is not struck.
+    ensures ready { ReadyRows }
 {}

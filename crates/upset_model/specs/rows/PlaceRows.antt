@@ -4,7 +4,8 @@ use Rattle.guest_bus.specs.Memory.{byte_at, is_readable}
 use Rattle.virt_clocks.specs.declared.timer.Timer.{Timer}
 use Rattle.machine_model.specs.Partition.{PartitionState, areas_of}
 use Rattle.machine_model.specs.View.{PartitionView}
-use Rattle.upset_model.specs.Places.{Conditions, ExecutionDeadline, Global, HardwareDeadline, Mask, MemoryByte, Npc, Pc, Pending, TrapBase, Windowed, YRegister, flip, is_place}
+use Rattle.upset_model.specs.Places.{flip, is_place}
+use Rattle.upset_model.specs.declared.place.Place.TheVariants.{Conditions, ExecutionDeadline, Global, HardwareDeadline, Mask, MemoryByte, Npc, Pc, Pending, TrapBase, Windowed, YRegister}
 
 -- a partition with these in its registers, its virtual traps and its timers
 abbrev pub having_globals : List ℕ → PartitionState → PartitionState

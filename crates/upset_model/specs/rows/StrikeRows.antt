@@ -1,7 +1,11 @@
 -- Rows on when upsets strike, worked by hand.
-use Rattle.std.specs.Prelude.{◌≡◌, ℕ, List, [], ◌∷◌}
+use Rattle.std.specs.Prelude.{◌≡◌, ℕ, true, false, List, [], ◌∷◌}
 use Rattle.machine_model.specs.Machine.{Machine, step}
-use Rattle.upset_model.specs.Places.{Mask, Pc, Place, UpsetLine, Windowed, flip, lines_for, schedule_of}
+use Rattle.machine_model.specs.Partition.{PartitionState}
+use Rattle.upset_model.specs.Places.{flip, lines_for, schedule_of, upset_of}
+use Rattle.upset_model.specs.declared.place.Place.{Place}
+use Rattle.upset_model.specs.declared.place.Place.TheVariants.{Mask, Pc, Windowed}
+use Rattle.upset_model.specs.declared.place.UpsetLine.{UpsetLine}
 use Rattle.upset_model.specs.Upsets.{Schedule, ready, upset_run}
 
 abbrev pub line : ℕ → ℕ → Place → ℕ → UpsetLine
@@ -24,3 +28,9 @@ pub record RunRows : Type 0 where
   pub none : (s : Schedule) (g : Machine) → upset_run s g 0 ≡ g
   pub one : (s : Schedule) (g : Machine) → upset_run s g 1 ≡ step (ready (s 0) g)
   pub two : (s : Schedule) (g : Machine) → upset_run s g 2 ≡ step (ready (s 1) (step (ready (s 0) g)))
+
+-- of three partitions the one of the line is struck, and no other; a machine that has halted is not struck
+pub record ReadyRows : Type 0 where
+  pub own : (g : Machine) (first second third : PartitionState) → g.halted ≡ false → g.parts ≡ first ∷ second ∷ third ∷ [] →
+      (ready (upset_of (line 3 1 Pc 2) ∷ []) g).parts ≡ first ∷ flip Pc 2 second ∷ third ∷ []
+  pub halted : (g : Machine) → g.halted ≡ true → ready (upset_of (line 3 1 Pc 2) ∷ []) g ≡ g

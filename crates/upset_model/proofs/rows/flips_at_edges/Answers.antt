@@ -3,7 +3,8 @@ use Rattle.std.specs.Prelude.{unwrap_or}
 use Rattle.guest_bus.specs.Memory.{byte_at}
 use Rattle.guest_bus.specs.lemmas.MemoryLemmas.{get-insert_same}
 use Rattle.machine_model.specs.Partition.{PartitionState}
-use Rattle.upset_model.specs.Places.{MemoryByte, flip, flipped}
+use Rattle.upset_model.specs.Places.{flip, flipped}
+use Rattle.upset_model.specs.declared.place.Place.TheVariants.{MemoryByte}
 use Rattle.upset_model.proofs.rows.flips_at_edges.Goals as goal
 
 -- a byte after its flip

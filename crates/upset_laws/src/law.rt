@@ -1,9 +1,9 @@
 //! The laws of upsets: what strikes one partition reaches another by what that one receives alone.
 
 ghost use Rattle.machine_laws.specs.FromEqual.{TwoRunsFrom};
-ghost use Rattle.upset_model.specs.FlipLaws.{FlipsItsPlace, FlipsKeepFacts, FlipsKeepRanges, FlipsKeepRegisters, FlipsKeepTimers, FlipsKeepTraps, FlipsNothingElse, FlipsStayIn, StrikesByOwnLines, TwoStruckRuns};
-ghost use Rattle.upset_model.specs.GroupLaws.{ClosedUpsetRunsAlike, UnsteeredUpsetRunsAlike};
-ghost use Rattle.upset_model.specs.UpsetLaws.{AllUpsetTicks, HaltedIsNotStruck, OneUpsetTick, RunsPlain, TwoUpsetRuns, UpsetsAreContained};
+ghost use Rattle.upset_laws.specs.FlipLaws.{FlipsItsPlace, FlipsKeepFacts, FlipsKeepRanges, FlipsKeepRegisters, FlipsKeepTimers, FlipsKeepTraps, FlipsNothingElse, FlipsStayIn, StrikesByOwnLines, TwoStruckRuns};
+ghost use Rattle.upset_laws.specs.GroupLaws.{ClosedUpsetRunsAlike, UnsteeredUpsetRunsAlike};
+ghost use Rattle.upset_laws.specs.UpsetLaws.{AllUpsetTicks, HaltedIsNotStruck, OneUpsetTick, RunsPlain, TwoUpsetRuns, UpsetsAreContained};
 
 use machine_model::{keeps_numbers, one_tick};
 use xm_flows::go_together;

@@ -1,6 +1,6 @@
-use Rattle.upset_model.specs.UpsetLaws.{OneUpsetTick}
-use Rattle.upset_model.proofs.UpsetLemmas.{all_upset_ticks, one_upset_tick, ready_halts, runs_plain, upsets_are_contained}
-use Rattle.upset_model.proofs.law.contains_upsets.Goals as goal
+use Rattle.upset_laws.specs.UpsetLaws.{OneUpsetTick}
+use Rattle.upset_laws.proofs.UpsetLemmas.{all_upset_ticks, one_upset_tick, ready_halts, runs_plain, upsets_are_contained}
+use Rattle.upset_laws.proofs.law.contains_upsets.Goals as goal
 
 pub returns : goal.returns
 returns c =

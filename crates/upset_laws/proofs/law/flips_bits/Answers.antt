@@ -1,5 +1,5 @@
-use Rattle.upset_model.proofs.FlipLemmas.{flips_its_place, flips_keep_facts, flips_keep_ranges, flips_keep_registers, flips_keep_timers, flips_keep_traps, flips_nothing_else, flips_stay_in, strikes_by_own_lines, two_struck_runs}
-use Rattle.upset_model.proofs.law.flips_bits.Goals as goal
+use Rattle.upset_laws.proofs.FlipLemmas.{flips_its_place, flips_keep_facts, flips_keep_ranges, flips_keep_registers, flips_keep_timers, flips_keep_traps, flips_nothing_else, flips_stay_in, strikes_by_own_lines, two_struck_runs}
+use Rattle.upset_laws.proofs.law.flips_bits.Goals as goal
 
 pub returns : goal.returns
 returns c = record {

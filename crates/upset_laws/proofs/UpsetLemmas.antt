@@ -17,7 +17,7 @@ use Rattle.machine_model.specs.Machine.{Machine, copies, run, step}
 use Rattle.machine_model.specs.Partition.{PartitionState}
 use Rattle.machine_model.specs.View.{PartitionView, view_of}
 use Rattle.machine_laws.specs.FromEqual.{TwoRunsFrom}
-use Rattle.upset_model.specs.UpsetLaws.{AllUpsetTicks, AreEqualUpset, HaltedIsNotStruck, OneUpsetTick, RunsPlain, TwoUpsetRuns, UpsetRunsAlone, UpsetTicksAlone, UpsetsAreContained}
+use Rattle.upset_laws.specs.UpsetLaws.{AllUpsetTicks, AreEqualUpset, HaltedIsNotStruck, OneUpsetTick, RunsPlain, TwoUpsetRuns, UpsetRunsAlone, UpsetTicksAlone, UpsetsAreContained}
 use Rattle.upset_model.specs.Upsets.{Schedule, Strike, Upset, alone_struck, alone_upset_from, alone_upset_lines, alone_upset_said, later, no_upsets, own_strikes, ready, ready_unless, strikes_on, struck, struck_if, upset, upset_lines, upset_run, upset_said, upset_script, upsets}
 
 -- lines of a partition

@@ -1,7 +1,7 @@
-use Rattle.upset_model.specs.GroupLaws.{ClosedUpsetRunsAlike}
-use Rattle.upset_model.proofs.GroupLemmas as lemmas
-use Rattle.upset_model.proofs.GroupLemmas.{unsteered_upset_runs}
-use Rattle.upset_model.proofs.law.closed_upset_runs.Goals as goal
+use Rattle.upset_laws.specs.GroupLaws.{ClosedUpsetRunsAlike}
+use Rattle.upset_laws.proofs.GroupLemmas as lemmas
+use Rattle.upset_laws.proofs.GroupLemmas.{unsteered_upset_runs}
+use Rattle.upset_laws.proofs.law.closed_upset_runs.Goals as goal
 
 pub returns : goal.returns
 returns c =

@@ -11,8 +11,11 @@ use Rattle.machine_model.specs.Machine.{Machine}
 use Rattle.machine_model.specs.Partition.{PartitionState}
 use Rattle.machine_model.specs.View.{PartitionView, view_of}
 use Rattle.range_model.specs.Ranges.{IsPartitionInRange}
-use Rattle.upset_model.specs.Places.{Conditions, ExecutionDeadline, Global, HardwareDeadline, Mask, MemoryByte, Npc, Pc, Pending, Place, TrapBase, UpsetLine, Windowed, YRegister, deadline_of, flip, interval_of, is_place, lines_for, schedule_of}
-use Rattle.upset_model.specs.UpsetLaws.{AreEqualUpset}
+use Rattle.upset_model.specs.Places.{deadline_of, flip, interval_of, is_place, lines_for, schedule_of}
+use Rattle.upset_model.specs.declared.place.Place.{Place}
+use Rattle.upset_model.specs.declared.place.Place.TheVariants.{Conditions, ExecutionDeadline, Global, HardwareDeadline, Mask, MemoryByte, Npc, Pc, Pending, TrapBase, Windowed, YRegister}
+use Rattle.upset_model.specs.declared.place.UpsetLine.{UpsetLine}
+use Rattle.upset_laws.specs.UpsetLaws.{AreEqualUpset}
 use Rattle.upset_model.specs.Upsets.{own_strikes, upset_script}
 
 -- what strikes a partition is by the lines for it alone

@@ -15,10 +15,10 @@ use Rattle.xm_flows.specs.Laws.{AreClosedAlike}
 use Rattle.xm_flows.specs.Rights.{IsUnsteered}
 use Rattle.xm_flows.specs.Steering.{no_steering, steering}
 use Rattle.xm_flows.specs.Together.{GoTogether, HasSamePart, StartTogether, TicksTogether, TogetherAgree, UnsteeredTicks}
-use Rattle.upset_model.specs.GroupLaws.{AreStruckAlike, ClosedUpsetRunsAlike, UnsteeredUpsetRunsAlike}
-use Rattle.upset_model.specs.UpsetLaws.{AreEqualUpset, OneUpsetTick, TwoUpsetRuns}
+use Rattle.upset_laws.specs.GroupLaws.{AreStruckAlike, ClosedUpsetRunsAlike, UnsteeredUpsetRunsAlike}
+use Rattle.upset_laws.specs.UpsetLaws.{AreEqualUpset, OneUpsetTick, TwoUpsetRuns}
 use Rattle.upset_model.specs.Upsets.{Schedule, Upset, alone_struck, later, ready, ready_unless, strikes_on, upset, upset_run, upset_script, upsets}
-use Rattle.upset_model.proofs.UpsetLemmas.{no_upset_script, more_upset_script, part_there, ready_system, state_there, step_ready_halts}
+use Rattle.upset_laws.proofs.UpsetLemmas.{no_upset_script, more_upset_script, part_there, ready_system, state_there, step_ready_halts}
 
 -- what upsets keep
 upsets_kept : (us : List Upset) (g : Machine) → upsets us g ≡ record g { parts = (upsets us g).parts }

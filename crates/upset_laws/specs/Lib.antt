@@ -1,0 +1,3 @@
+pub mod UpsetLaws
+pub mod FlipLaws
+pub mod GroupLaws

@@ -1,9 +1,0 @@
-use Rattle.upset_model.specs.UpsetLaws.{TwoUpsetRuns}
-use Rattle.upset_model.proofs.UpsetLemmas as lemmas
-use Rattle.upset_model.proofs.UpsetLemmas.{two_runs_from}
-use Rattle.upset_model.proofs.law.two_upset_runs.Goals as goal
-
-pub returns : goal.returns
-returns c =
-    let law : TwoUpsetRuns = lemmas.two_upset_runs c.contains_upsets.ensures.ticks c.keeps_numbers.ensures.ticks in
-    record { law = law; plain = two_runs_from law }

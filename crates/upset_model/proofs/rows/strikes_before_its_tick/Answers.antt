@@ -1,0 +1,9 @@
+use Rattle.std.proofs.Common.{◌≡◌, ℕ, [], ◌∷◌, refl, true, false, ap, ◌∙◌}
+use Rattle.machine_model.specs.Machine.{Machine}
+use Rattle.machine_model.specs.Partition.{PartitionState}
+use Rattle.upset_model.specs.Upsets.{ready, upset}
+use Rattle.upset_model.proofs.rows.strikes_before_its_tick.Goals as goal
+
+pub returns-clause-ready : goal.returns-clause-ready
+unfolding ready upset
+returns-clause-ready c = record { own = λ g first second third goes parts. rw (goes, parts) refl; halted = λ g halts. rw halts refl }
