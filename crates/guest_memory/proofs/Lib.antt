@@ -2,6 +2,7 @@ pub mod AccessLemmas
 pub mod AreaLemmas
 pub mod ConfigurationLemmas
 pub mod FlatLemmas
+pub mod FlipLemmas
 pub mod MemoriesLemmas
 pub mod NearLemmas
 pub mod SixteenLemmas

@@ -1,4 +1,5 @@
 pub mod Flat
+pub mod Flips
 pub mod Loading
 pub mod Memories
 pub mod Near

@@ -5,6 +5,7 @@ mod access;
 mod bytes;
 mod entry;
 mod find;
+mod flip;
 mod near;
 mod outside;
 mod parts;

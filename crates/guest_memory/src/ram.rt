@@ -1,10 +1,11 @@
 //! The memories of all partitions.
 
-ghost use Rattle.std.specs.Prelude.{◌≡◌, ◌+◌, ◌<◌, ◌↔◌, false, All, IfOk, IsNone, OnErr, OnOk, length, map, replicate};
+ghost use Rattle.std.specs.Prelude.{◌≡◌, ◌+◌, ◌<◌, ◌↔◌, false, true, All, IfOk, IsNone, OnErr, OnOk, length, map, replicate};
 ghost use Rattle.std.specs.FinMap.{get};
 ghost use Rattle.guest_bus.specs.Access.{fetched, loaded as loaded_at};
 ghost use Rattle.guest_bus.specs.Memory.{all_from, bytes_at, is_readable, is_writable, with_bytes};
 ghost use Rattle.guest_memory.specs.Loading.{LiesInAreas, memory_areas, areas_with_image, zeros_in};
+ghost use Rattle.guest_memory.specs.Flips.{with_flipped};
 ghost use Rattle.guest_memory.specs.Flat.{AreTables, Follow, IsMemoryTable, areas_of_tables, listed, memory_in};
 ghost use Rattle.guest_memory.specs.Memories.{AreMemories, ArePlaced, HasAreas, HasBytes, SameElsewhere, answer_by, areas_at, first_refused, map_at, others_of, place_at, areas_size, whole_size, with_map, with_selected};
 ghost use Rattle.xm_conf.specs.Fits.{HasSome};
@@ -18,7 +19,7 @@ use crate::near::Near;
 use crate::outside::Outside;
 use crate::range::refused;
 use crate::table::Table;
-use crate::{parts, space};
+use crate::{flip, parts, space};
 use guest_bus::{Bus, BusFault, HasWords, Size};
 use std::alloc::Global;
 use std::marker::Model;
@@ -153,6 +154,21 @@ impl Ram {
         ensures others { SameElsewhere p self.old self.new }
     {
         parts::reload(&self.tables[usize::from(p)], &mut self.bytes, image);
+    }
+
+    /// A bit of the byte at an address of a partition's memory flips. The byte may be read-only.
+    pub fn flip(&mut self, p: PartId, address: u32, bit: u8)
+        // Called for a partition that exists, for an address of one of its areas, and for one of the eight bits of a
+        // byte.
+        requires partition { p < length self.old.areas }
+        requires readable { is_readable (areas_at p self.old) address ≡ true }
+        requires bit { bit < 8 }
+        // The bit flips, and no other bit of the memory.
+        ensures value { self.new ≡ with_map p (with_flipped address bit (map_at p self.old)) self.old }
+        // No other partition's memory changes.
+        ensures others { SameElsewhere p self.old self.new }
+    {
+        flip::flip(&self.tables[usize::from(p)], &mut self.bytes, address, bit);
     }
 
     /// The byte at an address of a partition's memory, or `None` where none of its areas has the address.

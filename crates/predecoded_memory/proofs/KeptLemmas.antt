@@ -3,16 +3,17 @@ use Rattle.std.proofs.Common.{◌≡◌, ◌≢◌, ◌⊎◌, ℕ, suc, ◌+◌
 use Rattle.std.specs.Bool.{OnTrue}
 use Rattle.std.specs.FinMap.{empty}
 use Rattle.std.specs.Int.{byte_len, to_be_bytes}
-use Rattle.std.specs.Prelude.{All, OnErr, OnOk, min, slice_get}
+use Rattle.std.specs.Prelude.{All, OnErr, OnOk, bit_xor, min, slice_get}
 use Rattle.std.proofs.lemmas.Bool.{cases_eq, cases_lt}
 use Rattle.std.proofs.lemmas.List.{get_or-set_other, get_or-set_same}
 use Rattle.std.proofs.lemmas.Option.{slice_get_read}
 use Rattle.guest_bus.specs.Access.{access_fault, after_store, memory_unless_refused, store_fault, width_of}
 use Rattle.guest_bus.specs.lemmas.AccessLemmas.{length-bytes_high_first, length-bytes_of}
-use Rattle.guest_bus.specs.Memory.{Area, Memory, is_writable, with_bytes}
+use Rattle.guest_bus.specs.Memory.{Area, Memory, byte_at, is_writable, with_bytes}
 use Rattle.guest_bus.specs.Words.{MayStand, bytes_of}
 use Rattle.guest_bus.specs.declared.bus.BusFault.{BusFault}
 use Rattle.guest_bus.specs.declared.bus.Size.{Size}
+use Rattle.guest_memory.specs.Flips.{with_flipped}
 use Rattle.guest_memory.specs.Memories.{AreMemories, ArePlaced, IsPlaced, Memories, areas_at, map_at, with_map, with_selected}
 use Rattle.predecoded_memory.specs.lemmas.SharesTerms.{AreEmptied, AreReached, IsReached, WasEmptied, emptied, word_after, words_written}
 use Rattle.predecoded_memory.specs.Shares.{AreKept, ArePartRows, AreUnmade, first_address, lowest}
@@ -224,6 +225,17 @@ copied_kept (Ok done) old other rows new parts share top own p address bytes is 
 copied_kept (Err fault) old other rows new parts share top own p address bytes is below small reached written unchanged are =
     subst (λ (m : Memories). AreKept m new parts share top own) (sym unchanged)
     (some_kept old rows new parts share top own (p * share + reached.begin) (p * share + reached.end) is reached.done)
+
+-- what the flip of a bit leaves
+pub flipped_kept : (old other : Memories) (rows new : List Row) (parts : List PartRows) (share top : ℕ) (own : PartRows) (p address bit : ℕ) → AreKept old rows parts share top own → p < length old.areas → address < 2 ^ 32
+    → AreReached (p * share) top (word_after (first_address (areas_at p old)) address) 1 rows new → other ≡ with_map p (with_flipped address bit (map_at p old)) old → AreMemories other → AreKept other new parts share top own
+flipped_kept old other rows new parts share top own p address bit is below small reached flipped are =
+    let placed = is.are.placed p [] below in
+    let counted : address % 4 + 1 ≤ 4 * 1 = omega arith in
+    subst (λ (m : Memories). AreKept m new parts share top own) (sym flipped)
+    (mapped_kept old (with_flipped address bit (map_at p old)) rows new parts share top own p (p * share + reached.begin) (p * share + reached.end) is (subst (λ (m : Memories). AreMemories m) flipped are) reached.done below
+    (written_kept rows new (p * share) share top (word_after (first_address (areas_at p old)) address) 1 (areas_at p old) (map_at p old) (first_address (areas_at p old)) address (bit_xor (byte_at (map_at p old) address) (2 ^ bit) ∷ []) reached (is.free p below)
+    (λ k. reached_or_apart (first_address (areas_at p old)) address 1 1 k (first_whole (areas_at p old) placed) (first_low (areas_at p old) placed) small counted) (is.each p below)))
 
 -- what a reload leaves
 pub reloaded_kept : (old other : Memories) (map : Memory) (rows new : List Row) (parts : List PartRows) (share top : ℕ) (own : PartRows) (p : ℕ) → AreKept old rows parts share top own → p < length old.areas → AreReached (p * share) top 0 top rows new

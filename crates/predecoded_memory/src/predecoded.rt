@@ -1,8 +1,9 @@
 //! The memories of all partitions, with rows of their words.
 
-ghost use Rattle.std.specs.Prelude.{◌≡◌, ◌*◌, ◌+◌, ◌<◌, ◌≤◌, All, IfOk, Ok, OnErr, OnOk, length, map, slice_set};
+ghost use Rattle.std.specs.Prelude.{◌≡◌, ◌*◌, ◌+◌, ◌<◌, ◌≤◌, true, All, IfOk, Ok, OnErr, OnOk, length, map, slice_set};
 ghost use Rattle.guest_bus.specs.Access.{fetched};
 ghost use Rattle.guest_bus.specs.Memory.{all_from, bytes_at, is_readable, is_writable, with_bytes};
+ghost use Rattle.guest_memory.specs.Flips.{with_flipped};
 ghost use Rattle.guest_memory.specs.Loading.{LiesInAreas, area_of, areas_with_image, memory_areas, zeros_in};
 ghost use Rattle.guest_memory.specs.Memories.{AreMemories, ArePlaced, SameElsewhere, answer_by, areas_at, first_refused, map_at, others_of, with_map, with_selected};
 ghost use Rattle.predecoded_memory.specs.lemmas.SharesTerms.{AreEmpty};
@@ -173,6 +174,26 @@ impl PredecodedRam {
         let base = self.parts[usize::from(p)].words.begin;
         empty_words(&mut self.rows, base, self.top, 0, self.top);
         self.ram.reload(p, image);
+        proof! { let _now = self.ram.selected(); }
+    }
+
+    /// A bit of the byte at an address of a partition's memory flips. The byte may be read-only.
+    pub fn flip(&mut self, p: PartId, address: u32, bit: u8)
+        // Called for a partition that exists, for an address of one of its areas, and for one of the eight bits of a
+        // byte.
+        requires partition { p < length self.old.areas }
+        requires readable { is_readable (areas_at p self.old) address ≡ true }
+        requires bit { bit < 8 }
+        // As `Ram::flip`: the bit flips, and no other bit of the memory. A word with a flipped bit is executed as the
+        // new word.
+        ensures value { self.new ≡ with_map p (with_flipped address bit (map_at p self.old)) self.old }
+        // No other partition's memory changes.
+        ensures others { SameElsewhere p self.old self.new }
+    {
+        let part = self.parts[usize::from(p)];
+        let place = word_after(part.first, address);
+        empty_words(&mut self.rows, part.words.begin, self.top, place, 1);
+        self.ram.flip(p, address, bit);
         proof! { let _now = self.ram.selected(); }
     }
 
