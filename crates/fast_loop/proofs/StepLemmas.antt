@@ -28,7 +28,7 @@ use Rattle.predecode.specs.declared.rows.Row.{Row}
 
 -- work on registers
 arith_goes : (row : Row) (operation : Arith) (rd rs1 : ℕ) (source : Src) (areas : List Area) (old new : Registers) (memory after : Memory)
-    → RowDoes row (row_kind_of operation) rd rs1 source → row.kind ≢ other → (28 ≤ row.kind → 0 < value_of source old)
+    → RowDoes row (row_kind_of operation) rd rs1 source → row.kind ≢ other → (28 ≤ row.kind → row.kind < 30 → 0 < value_of source old)
     → new ≡ worked_by_kind row.kind row.rd (register_at old row.rs1) (value_of source old) old → after ≡ memory
     → Goes (instr.Arith operation rd rs1 source) areas old new memory after
 arith_goes row operation rd rs1 source areas old new memory after does some divisor left same = λ pc npc.
@@ -41,7 +41,7 @@ arith_goes row operation rd rs1 source areas old new memory after does some divi
     in
     ap (λ (a : ℕ). keeping_memory memory (arith_outcome operation rd a (value_of source (placed pc npc old)) (placed pc npc old))) (register_at-placed old pc npc rs1)
     ∙ ap (λ (b : ℕ). keeping_memory memory (arith_outcome operation rd (register_at old rs1) b (placed pc npc old))) (value_of-placed source old pc npc)
-    ∙ ap (keeping_memory memory) (worked-placed operation rd (register_at old rs1) b pc npc old (λ is_other. some (does.work ∙ is_other)) (λ large. divisor (subst (λ (k : ℕ). 28 ≤ k) (sym does.work) large)))
+    ∙ ap (keeping_memory memory) (worked-placed operation rd (register_at old rs1) b pc npc old (λ is_other. some (does.work ∙ is_other)) (λ large small. divisor (subst (λ (k : ℕ). 28 ≤ k) (sym does.work) large) (subst (λ (k : ℕ). k < 30) (sym does.work) small)))
     ∙ ap (λ (core : Registers). done (placed npc ((npc + 4) % 2 ^ 32) core) memory) is
     ∙ ap (done (placed npc ((npc + 4) % 2 ^ 32) new)) (sym same)
 
@@ -134,7 +134,7 @@ pub registers_go : (row : Row) (areas : List Area) (old new : Registers) (memory
     → ((source : Src) → HasSource source row → new ≡ worked_by_kind row.kind row.rd (register_at old row.rs1) (value_of source old) old)
     → after ≡ memory → (i : Instr) → IsRowOf row i → Goes i areas old new memory after
 registers_go row areas old new memory after below some small zero left same (instr.Arith operation rd rs1 source) does =
-    arith_goes row operation rd rs1 source areas old new memory after does (λ is. absurd (omega (arith, below, is))) (λ large. absurd (omega (arith, below, large))) (left source does.second) same
+    arith_goes row operation rd rs1 source areas old new memory after does (λ is. absurd (omega (arith, below, is))) (λ large small. absurd (omega (arith, below, large))) (left source does.second) same
 registers_go row areas old new memory after below some small zero left same (instr.Sethi rd imm) (kind, result, first, second, number) =
     sethi_goes row rd imm areas old new memory after kind result number small (zero first) (left (Imm (pos row.number)) (second, sym (value row.number small))) same
   where
@@ -182,7 +182,7 @@ pub more_go : (row : Row) (areas : List Area) (old new : Registers) (memory afte
     → ((source : Src) → HasSource source row → new ≡ worked_by_kind row.kind row.rd (register_at old row.rs1) (value_of source old) old)
     → after ≡ memory → (i : Instr) → IsRowOf row i → Goes i areas old new memory after
 more_go row areas old new memory after from below divisor left same (instr.Arith operation rd rs1 source) does =
-    arith_goes row operation rd rs1 source areas old new memory after does (λ is. absurd (omega (arith, below, is))) (divisor source does.second) (left source does.second) same
+    arith_goes row operation rd rs1 source areas old new memory after does (λ is. absurd (omega (arith, below, is))) (λ large small. divisor source does.second large) (left source does.second) same
 more_go row areas old new memory after from below divisor left same (instr.Sethi rd imm) (kind, result, first, second, number) = absurd (omega (arith, from, kind))
 more_go row areas old new memory after from below divisor left same (instr.Call disp) (kind, number) = absurd (omega (arith, below, kind))
 more_go row areas old new memory after from below divisor left same (instr.Branch condition annul disp) (kind, first, number) = absurd (branch_apart annul row.kind kind (omega (arith, from)) (omega (arith, below)))
@@ -199,6 +199,56 @@ more_go row areas old new memory after from below divisor left same instr.Privil
 more_go row areas old new memory after from below divisor left same instr.Float kind = absurd (omega (arith, below, kind))
 more_go row areas old new memory after from below divisor left same instr.Coproc kind = absurd (omega (arith, below, kind))
 more_go row areas old new memory after from below divisor left same instr.Illegal kind = absurd (omega (arith, below, kind))
+
+-- no load's, branch's or trap's kind is so large
+transfer_below : (operation : MemOp) (k : ℕ) → k ≡ kind_of_transfer operation → 40 ≤ k → ⊥
+transfer_below memory.Ld k is from = absurd (omega (arith, is, from))
+transfer_below memory.LdUb k is from = absurd (omega (arith, is, from))
+transfer_below memory.LdUh k is from = absurd (omega (arith, is, from))
+transfer_below memory.LdSb k is from = absurd (omega (arith, is, from))
+transfer_below memory.LdSh k is from = absurd (omega (arith, is, from))
+transfer_below memory.LdD k is from = absurd (omega (arith, is, from))
+transfer_below memory.St k is from = absurd (omega (arith, is, from))
+transfer_below memory.StB k is from = absurd (omega (arith, is, from))
+transfer_below memory.StH k is from = absurd (omega (arith, is, from))
+transfer_below memory.StD k is from = absurd (omega (arith, is, from))
+transfer_below memory.LdStUb k is from = absurd (omega (arith, is, from))
+transfer_below memory.Swap k is from = absurd (omega (arith, is, from))
+
+branch_below : (annul : Bool) (k : ℕ) → k ≡ kind_of_branch annul → 40 ≤ k → ⊥
+branch_below true k is from = absurd (omega (arith, is, from))
+branch_below false k is from = absurd (omega (arith, is, from))
+
+trap_below : (condition k : ℕ) → k ≡ kind_of_trap condition → 40 ≤ k → ⊥
+trap_below condition k is from = at (condition == 8) is
+  where
+    at : (always : Bool) → k ≡ (if always then 37 else other) → ⊥
+    at true same = absurd (omega (arith, same, from))
+    at false same = absurd (omega (arith, same, from))
+
+-- the kinds from 40 on
+pub extended_go : (row : Row) (areas : List Area) (old new : Registers) (memory after : Memory)
+    → 40 ≤ row.kind
+    → ((source : Src) → HasSource source row → new ≡ worked_by_kind row.kind row.rd (register_at old row.rs1) (value_of source old) old)
+    → after ≡ memory → (i : Instr) → IsRowOf row i → Goes i areas old new memory after
+extended_go row areas old new memory after from left same (instr.Arith operation rd rs1 source) does =
+    arith_goes row operation rd rs1 source areas old new memory after does (λ is. absurd (omega (arith, from, is))) (λ large small. absurd (omega (arith, from, small))) (left source does.second) same
+extended_go row areas old new memory after from left same (instr.Sethi rd imm) (kind, result, first, second, number) = absurd (omega (arith, from, kind))
+extended_go row areas old new memory after from left same (instr.Call disp) (kind, number) = absurd (omega (arith, from, kind))
+extended_go row areas old new memory after from left same (instr.Branch condition annul disp) (kind, first, number) = absurd (branch_below annul row.kind kind from)
+extended_go row areas old new memory after from left same (instr.ReadY rd) (kind, result) = absurd (omega (arith, from, kind))
+extended_go row areas old new memory after from left same instr.Barrier kind = absurd (omega (arith, from, kind))
+extended_go row areas old new memory after from left same (instr.WriteY rs1 source) does = absurd (omega (arith, from, does.work))
+extended_go row areas old new memory after from left same (instr.Jump rd rs1 source) does = absurd (omega (arith, from, does.work))
+extended_go row areas old new memory after from left same (instr.Trap condition rs1 source) does = absurd (trap_below condition row.kind does.work from)
+extended_go row areas old new memory after from left same instr.Flush kind = absurd (omega (arith, from, kind))
+extended_go row areas old new memory after from left same (instr.Save rd rs1 source) does = absurd (omega (arith, from, does.work))
+extended_go row areas old new memory after from left same (instr.Restore rd rs1 source) does = absurd (omega (arith, from, does.work))
+extended_go row areas old new memory after from left same (instr.Mem operation rd rs1 source) does = absurd (transfer_below operation row.kind does.work from)
+extended_go row areas old new memory after from left same instr.Privileged kind = absurd (omega (arith, from, kind))
+extended_go row areas old new memory after from left same instr.Float kind = absurd (omega (arith, from, kind))
+extended_go row areas old new memory after from left same instr.Coproc kind = absurd (omega (arith, from, kind))
+extended_go row areas old new memory after from left same instr.Illegal kind = absurd (omega (arith, from, kind))
 
 -- each kind of work on registers is no load's
 arith_apart : (operation : Arith) (k : ℕ) → k ≡ row_kind_of operation → 13 ≤ k → k < 23 → ⊥

@@ -1,4 +1,4 @@
-//! The kinds from 30 on that go on to the next word: Y, and windows.
+//! The kinds from 30 on that go on to the next word: Y, windows, and work with the carry or with condition codes.
 
 ghost use Rattle.std.specs.Prelude.{◌≡◌, ◌≢◌, ◌<◌, ◌≤◌, ◌+◌, ◌%◌, false, List};
 ghost use Rattle.std.specs.Bool.{OnTrue};
@@ -11,7 +11,7 @@ ghost use Rattle.predecode.specs.Rows.{AreRegisterNumbers, HasSource};
 ghost use Rattle.fast_loop.specs.lemmas.Steps.{IsRowStep, Uses};
 
 use crate::simple::Step;
-use crate::working::{first, second, sum_of};
+use crate::working::{carried, first, second, sum_of};
 use predecode::{Row, kinds};
 use sparc_step::Processor;
 
@@ -35,9 +35,27 @@ pub(crate) fn rare(own: &mut Processor, row: &Row) -> Step
         } else {
             restore(own, row)
         }
+    } else if row.kind < kinds::ADDX {
+        Step::Stays
+    } else if row.kind <= kinds::SMULCC {
+        extended(own, row)
     } else {
         Step::Stays
     }
+}
+
+// The kinds 40 to 49.
+#[inline(always)]
+fn extended(own: &mut Processor, row: &Row) -> Step
+    requires from { 40 ≤ row.now.kind }
+    requires below { row.now.kind < 50 }
+    requires registers { AreRegisterNumbers row.now }
+    ensures { (areas : List Area) (memory : Memory) → IsRowStep result row.now areas own.old own.new memory memory }
+{
+    let a = first(own, row);
+    let b = second(own, row);
+    carried(own, row.kind, row.rd, a, b);
+    Step::Next
 }
 
 // Kind 30.

@@ -1,16 +1,19 @@
 //! Work on registers, by its kind.
 
-ghost use Rattle.std.specs.Prelude.{◌≡◌, ◌≢◌, ◌^◌, ◌<◌, ◌≤◌, false};
+ghost use Rattle.std.specs.Prelude.{◌≡◌, ◌≢◌, ◌^◌, ◌%◌, ◌/◌, ◌<◌, ◌≤◌, false};
 ghost use Rattle.std.specs.Bool.{OnTrue};
 ghost use Rattle.sparc_code.specs.declared.instruction.Src.{Src};
 ghost use Rattle.sparc_step.specs.Operands.{sum_of, value_of};
-ghost use Rattle.sparc_step.specs.Registers.{register_at};
-ghost use Rattle.fast_loop.specs.lemmas.Effects.{worked_by_kind, set_wide};
+ghost use Rattle.sparc_step.specs.Registers.{register_at, with_y};
+ghost use Rattle.fast_loop.specs.lemmas.Effects.{set_logical, set_wide, worked_by_kind};
 ghost use Rattle.predecode.specs.Rows.{AreRegisterNumbers, HasSource};
 
 use predecode::{Row, kinds};
 use sparc_step::Processor;
-use sparc_step::conditions::{codes_of_addition, codes_of_comparison, codes_of_result};
+use sparc_step::conditions::{
+    carry, codes_of_addition, codes_of_comparison, codes_of_difference, codes_of_result,
+    codes_of_sum,
+};
 use sparc_step::words::{
     difference, quotient, shifted_arithmetically, shifted_left, shifted_right, signed_product,
     signed_quotient, sum,
@@ -122,6 +125,102 @@ pub(crate) fn coded(own: &mut Processor, kind: u8, rd: u8, a: u32, b: u32)
         own.set(rd, a | b);
         own.set_icc(codes_of_result(a | b, false));
     }
+}
+
+/// The kinds 40 to 49.
+#[inline(always)]
+pub(crate) fn carried(own: &mut Processor, kind: u8, rd: u8, a: u32, b: u32)
+    requires from { 40 ≤ kind }
+    requires below { kind < 50 }
+    requires rd { rd < 32 }
+    ensures { own.new ≡ worked_by_kind kind rd a b own.old }
+{
+    if kind < kinds::XORCC {
+        with_carry(own, kind, rd, a, b);
+    } else if kind < kinds::UMULCC {
+        logical(own, kind, rd, a, b);
+    } else {
+        multiply_coded(own, kind, rd, a, b);
+    }
+}
+
+// The kinds 40 to 43.
+#[inline(always)]
+#[tactic(auto, unfolding(crate::specs::lemmas::Effects::worked_by_kind))]
+fn with_carry(own: &mut Processor, kind: u8, rd: u8, a: u32, b: u32)
+    requires from { 40 ≤ kind }
+    requires below { kind < 44 }
+    requires rd { rd < 32 }
+    ensures { own.new ≡ worked_by_kind kind rd a b own.old }
+{
+    let carry = carry(own.icc());
+    if kind == kinds::ADDX {
+        own.set(rd, sum(a, b, carry));
+    } else if kind == kinds::SUBX {
+        own.set(rd, difference(a, b, carry));
+    } else if kind == kinds::ADDXCC {
+        own.set(rd, sum(a, b, carry));
+        own.set_icc(codes_of_sum(a, b, carry));
+    } else {
+        own.set(rd, difference(a, b, carry));
+        own.set_icc(codes_of_difference(a, b, carry));
+    }
+}
+
+// The kinds 44 to 47.
+#[inline(always)]
+#[tactic(auto, unfolding(crate::specs::lemmas::Effects::worked_by_kind))]
+fn logical(own: &mut Processor, kind: u8, rd: u8, a: u32, b: u32)
+    requires from { 44 ≤ kind }
+    requires below { kind < 48 }
+    requires rd { rd < 32 }
+    ensures { own.new ≡ worked_by_kind kind rd a b own.old }
+{
+    if kind == kinds::XORCC {
+        put_logical(own, rd, a ^ b);
+    } else if kind == kinds::ANDNCC {
+        put_logical(own, rd, a & !b);
+    } else if kind == kinds::ORNCC {
+        put_logical(own, rd, a | !b);
+    } else {
+        put_logical(own, rd, !(a ^ b));
+    }
+}
+
+// A result of logic, with its condition codes.
+#[inline(always)]
+fn put_logical(own: &mut Processor, rd: u8, value: u32)
+    requires { rd < 32 }
+    ensures { own.new ≡ set_logical rd value own.old }
+{
+    own.set(rd, value);
+    own.set_icc(codes_of_result(value, false));
+}
+
+// The kinds 48 and 49.
+#[inline(always)]
+#[tactic(auto, unfolding(crate::specs::lemmas::Effects::worked_by_kind))]
+fn multiply_coded(own: &mut Processor, kind: u8, rd: u8, a: u32, b: u32)
+    requires from { 48 ≤ kind }
+    requires below { kind < 50 }
+    requires rd { rd < 32 }
+    ensures { own.new ≡ worked_by_kind kind rd a b own.old }
+{
+    if kind == kinds::UMULCC {
+        put_product_coded(own, rd, u64::from(a) * u64::from(b));
+    } else {
+        put_product_coded(own, rd, signed_product(a, b));
+    }
+}
+
+// The low half of a product is a result with its condition codes, its high half goes to Y.
+#[inline(always)]
+fn put_product_coded(own: &mut Processor, rd: u8, product: u64)
+    requires { rd < 32 }
+    ensures { own.new ≡ set_logical rd (product % 2 ^ 32) (with_y own.old (product / 2 ^ 32)) }
+{
+    own.set_y((product >> 32) as u32);
+    put_logical(own, rd, (product % 0x1_0000_0000) as u32);
 }
 
 /// The kinds 26 to 29. A division by 0 is not done.

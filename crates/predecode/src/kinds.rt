@@ -80,3 +80,23 @@ pub const OTHER: u8 = 38;
 
 /// No row is made yet of the word.
 pub const EMPTY: u8 = 39;
+
+pub const ADDX: u8 = 40;
+
+pub const SUBX: u8 = 41;
+
+pub const ADDXCC: u8 = 42;
+
+pub const SUBXCC: u8 = 43;
+
+pub const XORCC: u8 = 44;
+
+pub const ANDNCC: u8 = 45;
+
+pub const ORNCC: u8 = 46;
+
+pub const XNORCC: u8 = 47;
+
+pub const UMULCC: u8 = 48;
+
+pub const SMULCC: u8 = 49;

@@ -83,10 +83,12 @@ pub(crate) fn codes_of_tagged_sum(a: u32, b: u32, overflow: bool) -> u8
     codes_of(sum(a, b, false), overflow, sum_carries(a, b, false))
 }
 
-// The condition codes of a difference.
+/// The condition codes of a difference.
 #[tactic(auto, unfolding(crate::specs::Conditions::codes_of_difference))]
-pub(crate) fn codes_of_difference(a: u32, b: u32, borrow: bool) -> u8
+pub fn codes_of_difference(a: u32, b: u32, borrow: bool) -> u8
+    // The condition codes of a difference, as defined.
     ensures value { result ≡ codes_of_difference a b borrow }
+    // They are four bits.
     ensures four { result < 16 }
 {
     let overflow = difference_overflows(a, b, borrow);
@@ -146,7 +148,8 @@ pub(crate) fn overflow(icc: u8) -> bool
     (icc >> 1) & 1 == 1
 }
 
-pub(crate) fn carry(icc: u8) -> bool
+/// A carry or a borrow left the word.
+pub fn carry(icc: u8) -> bool
     ensures { result ≡ carry icc }
 {
     icc & 1 == 1

@@ -6,7 +6,7 @@ use Rattle.guest_bus.specs.declared.bus.Size.{Size}
 use Rattle.guest_bus.specs.declared.bus.Size.TheVariants.{One, Two, Four, Eight}
 use Rattle.sparc_code.specs.declared.instruction.MemOp.{MemOp}
 use Rattle.sparc_step.specs.Arithmetic.{dividend}
-use Rattle.sparc_step.specs.Conditions.{codes_of_difference, codes_of_result, codes_of_sum}
+use Rattle.sparc_step.specs.Conditions.{carry, codes_of_difference, codes_of_result, codes_of_sum}
 use Rattle.sparc_step.specs.Registers.{Registers, placed, with_icc, with_register, with_y}
 use Rattle.sparc_step.specs.Transfers.{done, low_word, signed_byte, signed_half, transfer}
 use Rattle.sparc_step.specs.Words.{difference, quotient, shifted_arithmetically, shifted_left, shifted_right, signed_product, signed_quotient, sum}
@@ -41,6 +41,16 @@ worked_by_kind kind rd a b core =
     else if kind == 27 then set_wide rd (a * b) core
     else if kind == 28 then with_register core rd (quotient (dividend core a) b)
     else if kind == 29 then with_register core rd (signed_quotient (dividend core a) b)
+    else if kind == 40 then with_register core rd (sum a b (carry core.icc))
+    else if kind == 41 then with_register core rd (difference a b (carry core.icc))
+    else if kind == 42 then with_icc (with_register core rd (sum a b (carry core.icc))) (codes_of_sum a b (carry core.icc))
+    else if kind == 43 then with_icc (with_register core rd (difference a b (carry core.icc))) (codes_of_difference a b (carry core.icc))
+    else if kind == 44 then set_logical rd (bit_xor a b) core
+    else if kind == 45 then set_logical rd (bit_and a (bit_not w32 b)) core
+    else if kind == 46 then set_logical rd (bit_or a (bit_not w32 b)) core
+    else if kind == 47 then set_logical rd (bit_not w32 (bit_xor a b)) core
+    else if kind == 48 then set_logical rd (a * b % 2 ^ 32) (with_y core (a * b / 2 ^ 32))
+    else if kind == 49 then set_logical rd (signed_product a b % 2 ^ 32) (with_y core (signed_product a b / 2 ^ 32))
     else core
 
 -- what WRY makes Y

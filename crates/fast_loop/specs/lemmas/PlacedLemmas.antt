@@ -8,7 +8,7 @@ use Rattle.sparc_code.specs.declared.instruction.Arith.TheVariants as arith
 use Rattle.sparc_code.specs.declared.instruction.Src.{Src}
 use Rattle.sparc_code.specs.declared.instruction.Src.TheVariants.{Reg, Imm}
 use Rattle.sparc_step.specs.Arithmetic.{dividend, arith_outcome}
-use Rattle.sparc_step.specs.Conditions.{codes_of_difference, codes_of_result, codes_of_sum}
+use Rattle.sparc_step.specs.Conditions.{carry, codes_of_difference, codes_of_result, codes_of_sum}
 use Rattle.sparc_step.specs.Operands.{sum_of, value_of}
 use Rattle.sparc_step.specs.Outcome.{RegisterOutcome, went, with_result, with_result_and_codes}
 use Rattle.sparc_step.specs.Registers.{Registers, advanced, place_in_windows, placed, register_at, with_icc, with_register, with_y}
@@ -89,8 +89,18 @@ divided b pc npc rd value core refused some =
     let test : (b == 0) ≡ false = grind (arith, nat_tests) in
     ap (λ (t : Bool). if t then refused else went (with_result rd value (placed pc npc core))) test ∙ ap went (with_result-placed core pc npc rd value)
 
+-- condition codes are the same
+icc-placed : (core : Registers) (pc npc : ℕ) → (placed pc npc core).icc ≡ core.icc
+unfolding placed
+icc-placed core pc npc = refl
+
+-- a double word as a result, with condition codes
+wide_coded-placed : (core : Registers) (pc npc rd low high icc : ℕ) → with_result_and_codes rd low icc (with_y (placed pc npc core) high) ≡ placed npc ((npc + 4) % 2 ^ 32) (with_icc (with_register (with_y core high) rd low) icc)
+wide_coded-placed core pc npc rd low high icc =
+    ap (with_result_and_codes rd low icc) (with_y-placed core pc npc high) ∙ with_codes-placed (with_y core high) pc npc rd low icc
+
 -- what work on registers leaves, by its kind
-pub worked-placed : (operation : Arith) (rd a b pc npc : ℕ) (core : Registers) → row_kind_of operation ≢ other → (28 ≤ row_kind_of operation → 0 < b)
+pub worked-placed : (operation : Arith) (rd a b pc npc : ℕ) (core : Registers) → row_kind_of operation ≢ other → (28 ≤ row_kind_of operation → row_kind_of operation < 30 → 0 < b)
     → arith_outcome operation rd a b (placed pc npc core) ≡ went (placed npc ((npc + 4) % 2 ^ 32) (worked_by_kind (row_kind_of operation) rd a b core))
 unfolding worked_by_kind
 worked-placed arith.Add rd a b pc npc core is some = ap went (with_result-placed core pc npc rd (sum a b false))
@@ -104,10 +114,10 @@ worked-placed arith.XNor rd a b pc npc core is some = ap went (with_result-place
 worked-placed arith.UMul rd a b pc npc core is some = ap went (wide-placed core pc npc rd (a * b % 2 ^ 32) (a * b / 2 ^ 32))
 worked-placed arith.SMul rd a b pc npc core is some = ap went (wide-placed core pc npc rd (signed_product a b % 2 ^ 32) (signed_product a b / 2 ^ 32))
 worked-placed arith.UDiv rd a b pc npc core is some =
-    divided b pc npc rd (quotient (dividend (placed pc npc core) a) b) core _ (some (omega arith))
+    divided b pc npc rd (quotient (dividend (placed pc npc core) a) b) core _ (some (omega arith) (omega arith))
     ∙ ap (λ (n : ℕ). went (placed npc ((npc + 4) % 2 ^ 32) (with_register core rd (quotient n b)))) (dividend-placed core pc npc a)
 worked-placed arith.SDiv rd a b pc npc core is some =
-    divided b pc npc rd (signed_quotient (dividend (placed pc npc core) a) b) core _ (some (omega arith))
+    divided b pc npc rd (signed_quotient (dividend (placed pc npc core) a) b) core _ (some (omega arith) (omega arith))
     ∙ ap (λ (n : ℕ). went (placed npc ((npc + 4) % 2 ^ 32) (with_register core rd (signed_quotient n b)))) (dividend-placed core pc npc a)
 worked-placed arith.AddCc rd a b pc npc core is some = ap went (with_codes-placed core pc npc rd (sum a b false) (codes_of_sum a b false))
 worked-placed arith.AndCc rd a b pc npc core is some = ap went (with_codes-placed core pc npc rd (bit_and a b) (codes_of_result (bit_and a b) false))
@@ -116,16 +126,16 @@ worked-placed arith.SubCc rd a b pc npc core is some = ap went (with_codes-place
 worked-placed arith.Sll rd a b pc npc core is some = ap went (with_result-placed core pc npc rd (shifted_left a b))
 worked-placed arith.Srl rd a b pc npc core is some = ap went (with_result-placed core pc npc rd (shifted_right a b))
 worked-placed arith.Sra rd a b pc npc core is some = ap went (with_result-placed core pc npc rd (shifted_arithmetically a b))
-worked-placed arith.AddX rd a b pc npc core is some = absurd (is refl)
-worked-placed arith.SubX rd a b pc npc core is some = absurd (is refl)
-worked-placed arith.XorCc rd a b pc npc core is some = absurd (is refl)
-worked-placed arith.AndNCc rd a b pc npc core is some = absurd (is refl)
-worked-placed arith.OrNCc rd a b pc npc core is some = absurd (is refl)
-worked-placed arith.XNorCc rd a b pc npc core is some = absurd (is refl)
-worked-placed arith.AddXCc rd a b pc npc core is some = absurd (is refl)
-worked-placed arith.UMulCc rd a b pc npc core is some = absurd (is refl)
-worked-placed arith.SMulCc rd a b pc npc core is some = absurd (is refl)
-worked-placed arith.SubXCc rd a b pc npc core is some = absurd (is refl)
+worked-placed arith.AddX rd a b pc npc core is some = ap (λ (i : ℕ). went (with_result rd (sum a b (carry i)) (placed pc npc core))) (icc-placed core pc npc) ∙ ap went (with_result-placed core pc npc rd (sum a b (carry core.icc)))
+worked-placed arith.SubX rd a b pc npc core is some = ap (λ (i : ℕ). went (with_result rd (difference a b (carry i)) (placed pc npc core))) (icc-placed core pc npc) ∙ ap went (with_result-placed core pc npc rd (difference a b (carry core.icc)))
+worked-placed arith.XorCc rd a b pc npc core is some = ap went (with_codes-placed core pc npc rd (bit_xor a b) (codes_of_result (bit_xor a b) false))
+worked-placed arith.AndNCc rd a b pc npc core is some = ap went (with_codes-placed core pc npc rd (bit_and a (bit_not w32 b)) (codes_of_result (bit_and a (bit_not w32 b)) false))
+worked-placed arith.OrNCc rd a b pc npc core is some = ap went (with_codes-placed core pc npc rd (bit_or a (bit_not w32 b)) (codes_of_result (bit_or a (bit_not w32 b)) false))
+worked-placed arith.XNorCc rd a b pc npc core is some = ap went (with_codes-placed core pc npc rd (bit_not w32 (bit_xor a b)) (codes_of_result (bit_not w32 (bit_xor a b)) false))
+worked-placed arith.AddXCc rd a b pc npc core is some = ap (λ (i : ℕ). went (with_result_and_codes rd (sum a b (carry i)) (codes_of_sum a b (carry i)) (placed pc npc core))) (icc-placed core pc npc) ∙ ap went (with_codes-placed core pc npc rd (sum a b (carry core.icc)) (codes_of_sum a b (carry core.icc)))
+worked-placed arith.UMulCc rd a b pc npc core is some = ap went (wide_coded-placed core pc npc rd (a * b % 2 ^ 32) (a * b / 2 ^ 32) (codes_of_result (a * b % 2 ^ 32) false))
+worked-placed arith.SMulCc rd a b pc npc core is some = ap went (wide_coded-placed core pc npc rd (signed_product a b % 2 ^ 32) (signed_product a b / 2 ^ 32) (codes_of_result (signed_product a b % 2 ^ 32) false))
+worked-placed arith.SubXCc rd a b pc npc core is some = ap (λ (i : ℕ). went (with_result_and_codes rd (difference a b (carry i)) (codes_of_difference a b (carry i)) (placed pc npc core))) (icc-placed core pc npc) ∙ ap went (with_codes-placed core pc npc rd (difference a b (carry core.icc)) (codes_of_difference a b (carry core.icc)))
 worked-placed arith.UDivCc rd a b pc npc core is some = absurd (is refl)
 worked-placed arith.SDivCc rd a b pc npc core is some = absurd (is refl)
 worked-placed arith.TAddCc rd a b pc npc core is some = absurd (is refl)
