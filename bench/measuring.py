@@ -42,6 +42,14 @@ def program():
     return line.rstrip("\n").split(": ", 1)[1]
 
 
+def programs():
+    """The program that is measured, and the one that BEFORE names, by what each is called."""
+    both = {"program": os.path.abspath(program())}
+    if before := os.environ.get("BEFORE"):
+        both["before"] = os.path.abspath(before)
+    return both
+
+
 def output_of(command, **more):
     """What a command writes to standard output; it has to end with status 0."""
     done = subprocess.run(command, stdout=subprocess.PIPE, stderr=subprocess.PIPE, stdin=subprocess.DEVNULL, text=True, **more)
