@@ -18,7 +18,7 @@ use Rattle.machine_model.specs.lemmas.ListLemmas.{table_at}
 use Rattle.machine_model.specs.lemmas.NameLemmas.{number_is, same_number}
 use Rattle.machine_model.specs.Caller.{Caller, a_of}
 use Rattle.machine_model.specs.Facts.{PortsHaveKinds}
-use Rattle.machine_model.specs.Lists.{and_then, is_number, table, then_some}
+use Rattle.machine_model.specs.Lists.{and_then, is_number, then_some}
 use Rattle.machine_model.specs.Machine.{copies}
 use Rattle.machine_model.specs.PortEffects.{MadePort, made_port, with_channel}
 use Rattle.machine_model.specs.Traffic.{content_if, copies_of}

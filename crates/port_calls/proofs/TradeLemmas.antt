@@ -9,7 +9,7 @@ use Rattle.xm_conf.specs.View.{channel_of}
 use Rattle.xm_conf.specs.declared.port.Port.{Port}
 use Rattle.xm_conf.specs.declared.channel.ChanKind.{ChanKind}
 use Rattle.xm_conf.specs.declared.channel.ChanKind.TheVariants as chan_kind
-use Rattle.xm_ports.specs.Channels.{ChannelTable, Content, HasQueue, HasSampling, IsQueuing, IsSampling, Queuing, Shape, changed, put, shape_of, shapes_of, first_taken, with_content}
+use Rattle.xm_ports.specs.Channels.{ChannelTable, Content, HasQueue, HasSampling, IsQueuing, IsSampling, Shape, changed, put, shape_of, shapes_of, first_taken, with_content}
 use Rattle.xm_ports.specs.Ports.{is_made}
 use Rattle.machine_model.specs.lemmas.NameLemmas.{name_is}
 use Rattle.machine_model.specs.Lists.{each, is_number, table, then_some}
@@ -24,7 +24,7 @@ use Rattle.system_state.specs.State.{SysState, part_at, with_machine, with_part,
 use Rattle.port_calls.specs.lemmas.Traffic.{Brings, heard_at, hears_from, hears_in, is_on, notified}
 
 -- two passes that do the same to each element
-each_alike : {X : Type 0} (f g : ℕ → X → X) (xs : List X) → ((k : ℕ) (x : X) → f k x ≡ g k x) → each f xs ≡ each g xs
+pub each_alike : {X : Type 0} (f g : ℕ → X → X) (xs : List X) → ((k : ℕ) (x : X) → f k x ≡ g k x) → each f xs ≡ each g xs
 each_alike f g [] same = refl
 each_alike f g (x ∷ xs) same = rw (same 0 x, each_alike (λ k. f (suc k)) (λ k. g (suc k)) xs (λ k. same (suc k))) refl
 
@@ -56,11 +56,11 @@ pub taken_pass : (time chan : ℕ) (contents : List Content) → changed first_t
 taken_pass time chan contents = changed_pass first_taken (λ k. chan == k) chan contents (itself chan) (λ k differs. other_number chan k differs)
 
 -- no port of these is a destination for which the test holds
-pub none_hears : (test : ℕ → Bool) (r : ℕ) (ports : List Port) → ((k j : ℕ) (port : Port) → j ≡ r + k → k < length ports → (is_destination port.way && test j) ≡ false)
+pub none_hears : (test : ℕ → Bool) (r : ℕ) (ports : List Port) → ((k j : ℕ) (port : Port) → j ≡ r + k → slice_get ports k ≡ Some port → (is_destination port.way && test j) ≡ false)
     → hears_from test r ports ≡ false
 none_hears test r [] none = refl
 none_hears test r (port ∷ ports) none =
-    rw (none 0 r port (omega arith) (omega arith)) (none_hears test (suc r) ports (λ k j p is below. none (suc k) j p (omega (arith, is)) (omega (arith, below))))
+    rw (none 0 r port (omega arith) refl) (none_hears test (suc r) ports (λ k j p is there. none (suc k) j p (omega (arith, is)) there))
 
 -- a test that does not let a value through
 then_none : (b : Bool) (n : ℕ) → None ≡ then_some b n → b ≡ false

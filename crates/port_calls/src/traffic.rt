@@ -1,8 +1,9 @@
 //! Messages that are put into channels and taken from them, signals over links, and the partitions that hear of them.
 
 ghost use Rattle.std.specs.Prelude.{◌≡◌, ◌↔◌, ◌<◌, ◌≤◌, true, IsErr, IsSomeAnd, OnErr, OnOk, Some, length, slice_get};
-ghost use Rattle.std.specs.List.{list_any};
 ghost use Rattle.guest_bus.specs.Memory.{all_from, bytes_at, is_readable};
+ghost use Rattle.xm_conf.specs.Description.{described};
+ghost use Rattle.xm_conf.specs.Fits.{Fits};
 ghost use Rattle.xm_ports.specs.Channels.{FitsChannel, HasQueue, HasSampling, IsFull, content_at, first_message, shapes_of};
 ghost use Rattle.span_model.specs.Passes.{with_traffic};
 ghost use Rattle.machine_model.specs.Emission.{OwnSignals};
@@ -10,7 +11,7 @@ ghost use Rattle.machine_model.specs.Traffic.{Puts, Takes, hearing, is_destinati
 ghost use Rattle.machine_model.specs.View.{part_of, view_of};
 ghost use Rattle.port_calls.specs.MadePorts.{table_in};
 ghost use Rattle.system_state.specs.State.{areas_in, memory_of, part_at, with_machine, with_part};
-ghost use Rattle.port_calls.specs.lemmas.Traffic.{heard_at, hears_from, hears_in, is_end_of, is_in, is_on, notified};
+ghost use Rattle.port_calls.specs.lemmas.Traffic.{EndsIn, dests_of, heard_at, hears_from, hears_in, is_on, notified};
 
 use system_state::interrupts::{LINK_SIGNAL, QUEUING_MESSAGE, SAMPLING_MESSAGE};
 use system_state::{Sys, engine, messages};
@@ -118,13 +119,45 @@ pub fn signal(sys: &mut Sys, dest: PartId, number: u8)
     engine::raise(sys, dest, LINK_SIGNAL + number);
 }
 
-/// Makes an interrupt pending at each partition that hears what is put into a channel.
+/// Makes an interrupt pending at each partition that hears what is put into a channel. Each is at one of its destinations.
 pub(crate) fn notify(sys: &mut Sys, chan: u8, interrupt: u8)
     requires { interrupt < 32 }
     ensures { sys.new ≡ with_machine (notified chan interrupt sys.old.machine) sys.old }
 {
-    for q in 0..sys.count() {
+    for k in 0..dest_count(sys, chan) {
+        let q = dest_part(sys, chan, k);
         interrupt_hearer(sys, q, chan, interrupt);
+    }
+}
+
+/// How many destinations a channel has.
+fn dest_count(sys: &Sys, chan: u8) -> usize
+    ensures count { result ≡ length (dests_of (slice_get sys.now.machine.system.conf.chans chan)) }
+    ensures fits { Fits (described sys.now.machine.system.conf) }
+{
+    dests(sys.conf(), chan).len()
+}
+
+/// The partition at a destination of a channel.
+fn dest_part(sys: &Sys, chan: u8, k: usize) -> PartId
+    requires { k < length (dests_of (slice_get sys.now.machine.system.conf.chans chan)) }
+    ensures part { IsSomeAnd (slice_get (dests_of (slice_get sys.now.machine.system.conf.chans chan)) k) (EndsIn result) }
+    ensures there { result < length sys.now.machine.parts }
+{
+    // As many partitions run as are configured.
+    proof! { let _count = sys.count(); }
+    dests(sys.conf(), chan)[k].part
+}
+
+/// The destinations of a channel.
+#[tactic(auto, unfolding(xm_conf::specs::Description::described))]
+fn dests(conf: &Conf, chan: u8) -> &[End]
+    ensures value { result.now ≡ dests_of (slice_get conf.now.chans chan) }
+    ensures fits { Fits (described conf.now) }
+{
+    match conf.raw().chans.get(usize::from(chan)) {
+        Some(chan) => &chan.dests,
+        None => &[],
     }
 }
 
@@ -145,37 +178,7 @@ fn hears(sys: &Sys, q: PartId, chan: u8) -> bool
     requires { q < length sys.now.machine.parts }
     ensures { result ≡ hears_in sys.now.machine.system.conf q chan (part_at q sys.now.machine) }
 {
-    if is_end_of(sys.conf(), q, chan) {
-        one_hears(sys, q, chan, ports_of(sys, q))
-    } else {
-        false
-    }
-}
-
-/// Whether a partition has an end of a channel: its source, or one of its destinations.
-#[tactic(auto, unfolding(xm_conf::specs::Description::described))]
-fn is_end_of(conf: &Conf, q: PartId, chan: u8) -> bool
-    ensures { result ≡ is_end_of q (slice_get conf.now.chans chan) }
-{
-    match conf.raw().chans.get(usize::from(chan)) {
-        Some(chan) => is_in(q, &chan.source) || any_in(q, &chan.dests),
-        None => false,
-    }
-}
-
-/// Whether one of these ends is in a partition.
-fn any_in(q: PartId, ends: &[End]) -> bool
-    ensures { result ≡ list_any (is_in q) ends.now }
-{
-    ends.iter().any(|end| is_in(q, end))
-}
-
-/// Whether an end is in a partition.
-#[tactic(auto, unfolding(crate::specs::lemmas::Traffic::is_in))]
-fn is_in(q: PartId, end: &End) -> bool
-    ensures { result ≡ is_in q end.now }
-{
-    end.part == q
+    one_hears(sys, q, chan, ports_of(sys, q))
 }
 
 /// The ports of a partition.

@@ -1,6 +1,5 @@
 -- What a message does to the partitions that hear it.
-use Rattle.std.specs.Prelude.{◌≡◌, ◌==◌, ℕ, suc, Bool, true, false, ◌&&◌, ◌||◌, if◌then◌else◌, List, [], ◌∷◌, Option, None, Some, slice_get, IsSomeAnd}
-use Rattle.std.specs.List.{list_any}
+use Rattle.std.specs.Prelude.{◌≡◌, ℕ, suc, Bool, true, false, ◌&&◌, if◌then◌else◌, List, [], ◌∷◌, Option, None, Some, slice_get, IsSomeAnd}
 use Rattle.xm_conf.specs.Configuration.{Chan, Conf}
 use Rattle.xm_conf.specs.View.{channel_of}
 use Rattle.xm_conf.specs.declared.channel.End.{End}
@@ -25,14 +24,14 @@ hears_from test r (port ∷ ports) = if is_destination port.way && test r then t
 unfoldable pub hears_in : Conf → ℕ → ℕ → PartitionState → Bool
 hears_in conf q chan ps = hears_from (is_on conf q chan ps.made) 0 (part_of conf q).ports
 
--- whether an end of a channel is in partition q
-unfoldable pub is_in : ℕ → End → Bool
-is_in q end = end.part == q
+-- the destinations of a channel, where there is one
+abbrev pub dests_of : Option Chan → List End
+dests_of None = []
+dests_of (Some chan) = chan.dests
 
--- whether partition q has an end of the channel, where there is one
-abbrev pub is_end_of : ℕ → Option Chan → Bool
-is_end_of q None = false
-is_end_of q (Some chan) = is_in q chan.source || list_any (is_in q) chan.dests
+-- an end is in partition q
+abbrev pub EndsIn : ℕ → End → Type 0
+EndsIn q end = end.part ≡ q
 
 -- the partition with the interrupt pending, where it hears
 abbrev pub heard_at : Conf → ℕ → ℕ → ℕ → PartitionState → PartitionState
