@@ -61,28 +61,13 @@ fn serve_caller(sys: &mut Sys, site: CallSite) -> Served
 {
     match call_of(argument(sys, site, 0)) {
         None => answer(sys, site, UNKNOWN_CALL),
-        Some(call) => serve_from_values(sys, site.part, site.pc, site.npc, call),
+        // A copy of the site, so that a number that no call has puts nothing into memory.
+        Some(call) => serve_call(sys, CallSite { ..site }, call),
     }
 }
 
-// Serves a call. The caller is given by values, so that nothing is put into memory for a number that no call has.
-#[inline(never)]
-#[tactic(auto, unfolding(system_state::specs::Serving::caller_of, system_state::specs::Serving::caller_at))]
-fn serve_from_values(sys: &mut Sys, part: PartId, pc: u32, npc: u32, call: Call) -> Served
-    requires partition { part < length sys.old.machine.parts }
-    requires call { call_of (register_at (caller_at part pc npc sys.old).state.core 8) ≡ Some call }
-    requires pc { pc % 4 ≡ 0 }
-    requires npc { npc % 4 ≡ 0 }
-    requires traces { (part_at part sys.old.machine).traces.next < 4294967295 }
-    requires shapes { sys.old.shapes ≡ shapes_of sys.old.machine.system.conf }
-    requires frame { IsInFrame sys.old.machine.system.conf sys.old.machine.clock sys.old.machine.time }
-    ensures { IsServed part (caller_at part pc npc sys.old).sight (by_call (Some call) (caller_at part pc npc sys.old)) result sys.old sys.new }
-{
-    serve_call(sys, CallSite { part, pc, npc }, call)
-}
-
 // Serves a call of a caller: the table of all calls.
-#[inline(always)]
+#[inline(never)]
 fn serve_call(sys: &mut Sys, site: CallSite, call: Call) -> Served
     requires caller { IsCaller site sys.old }
     requires call { call_of (register_at (caller_of site sys.old).state.core 8) ≡ Some call }
