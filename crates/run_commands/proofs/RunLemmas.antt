@@ -48,7 +48,7 @@ span_bare ticks own some =
     let all : ticks - 1 + 1 ≡ ticks = omega (arith, some) in
     ap (λ (o : Bool). replicate (ticks - 1) (bare_cue o) ++ bare_cue own ∷ []) (bare_own own) ∙ replicate_more (ticks - 1) (bare_cue own) ∙ ap (λ n. replicate n (bare_cue own)) all
 
--- it is written as so many such cues
+-- it is written as this many such cues
 pub bare_written : {T E : Type 0} (result : Result T E) (ticks : ℕ) (own : Bool) (last : Cue) (cues : List Cue) (w : Written) → 0 < ticks → last ≡ bare_cue own
     → OnOk result (IsWritten (cues ++ replicate ticks (bare_cue own)) w) → OnOk result (IsWritten (cues ++ span_cues ticks last) w)
 bare_written result ticks own last cues w some bare is =
@@ -112,7 +112,7 @@ none_spanned ticks now recordings = record {
   spanned = λ g done received all k below d. absurd (omega (arith, below));
 }
 
--- a recording that is written anew keeps its partition
+-- a recording that replaces another is of the same partition
 same_parts : (recordings : List Recording) (i : ℕ) (d next : Recording) → next.p ≡ (get_or recordings i d).p → map (λ recording. recording.p) (set recordings i next) ≡ map (λ recording. recording.p) recordings
 same_parts [] i d next same = refl
 same_parts (recording ∷ later) zero d next same = ap (λ p. p ∷ map (λ recording. recording.p) later) same

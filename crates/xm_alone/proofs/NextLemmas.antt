@@ -7,7 +7,7 @@ use Rattle.xm_report.specs.Report.{texts}
 use Rattle.uart_board.specs.Views.{BoardView}
 use Rattle.cue_scripts.specs.Entries.{bare_cue}
 use Rattle.cue_scripts.specs.Script.{HaltsLast, IsScript}
-use Rattle.machine_model.specs.Alone.{Alone, alone_from, alone_lines, alone_said, alone_start, alone_step, alone_step_lines}
+use Rattle.machine_model.specs.Alone.{Alone, alone_from, alone_lines, alone_said, alone_start, alone_step}
 use Rattle.machine_model.specs.Cue.{Cue}
 use Rattle.machine_model.specs.Lists.{is_number}
 use Rattle.machine_model.specs.Machine.{Machine}

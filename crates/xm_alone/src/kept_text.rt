@@ -27,7 +27,7 @@ impl KeptText {
         }
     }
 
-    /// Whether there is no room for so many bytes more.
+    /// Whether there is no room for this many bytes more.
     fn is_full(&self, more: usize) -> bool {
         let len = self.bytes.len();
         len > self.most || more > self.most - len

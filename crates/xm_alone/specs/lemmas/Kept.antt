@@ -1,6 +1,5 @@
 -- Ticks which follow cues keep what they show.
 use Rattle.std.specs.Prelude.{◌≡◌, ℕ, List, [], ◌∷◌, ◌++◌, drop, take, Option, Some, None, Result, Ok, Err}
-use Rattle.machine_model.specs.Cue.{Cue}
 use Rattle.machine_model.specs.Machine.{Machine}
 use Rattle.machine_model.specs.View.{view_of}
 use Rattle.replay_model.specs.Passes.{part_in}
