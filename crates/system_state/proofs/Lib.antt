@@ -1,6 +1,7 @@
 pub mod BootLemmas
 pub mod CallerLemmas
 pub mod ExchangeLemmas
+pub mod FlipLemmas
 pub mod InputLemmas
 pub mod InsideLemmas
 pub mod PartsLemmas

@@ -1,3 +1,4 @@
+pub mod FlipTerms
 pub mod ServedLemmas
 pub mod Shown
 pub mod SightLemmas

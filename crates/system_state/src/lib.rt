@@ -6,6 +6,7 @@
 
 pub mod answering;
 mod call_site;
+mod flipping;
 mod gone;
 mod inputs;
 pub mod interrupts;
@@ -23,4 +24,4 @@ pub use inputs::{InputFault, Inputs};
 pub use own_state::PartState;
 pub use reading::read_memory;
 pub use served::{Act, Note, Served};
-pub use sys::{Sys, engine, messages};
+pub use sys::{Sys, engine, messages, upsets};

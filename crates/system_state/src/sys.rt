@@ -43,6 +43,7 @@ use xm_ports::{Channels, CreateFault};
 
 pub mod engine;
 pub mod messages;
+pub mod upsets;
 
 /// How many bytes a message has at most.
 const MESSAGE_BYTES: usize = 4096;

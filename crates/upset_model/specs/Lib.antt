@@ -1,3 +1,4 @@
 pub mod Upsets
 pub mod Places
+pub mod lemmas
 pub mod rows

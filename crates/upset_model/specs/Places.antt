@@ -1,9 +1,8 @@
 -- Upsets by places: a bit of a register, of a virtual trap register, of a timer or of a byte of memory flips before a tick.
-use Rattle.std.specs.Prelude.{ℕ, ◌^◌, ◌==◌, ◌&&◌, nat_lt, nat_le, Bool, if◌then◌else◌, List, [], ◌∷◌, Option, None, Some, bit_xor, slice_index, slice_set}
+use Rattle.std.specs.Prelude.{ℕ, ◌^◌, ◌==◌, ◌&&◌, nat_lt, nat_le, Bool, if◌then◌else◌, List, [], ◌∷◌, bit_xor, slice_index, slice_set}
 use Rattle.std.specs.FinMap.{insert}
 use Rattle.guest_bus.specs.Memory.{byte_at, is_readable}
-use Rattle.virt_clocks.specs.Clocks.{armed}
-use Rattle.virt_clocks.specs.declared.timer.Timer.{Timer}
+pub use Rattle.virt_clocks.specs.Flips.{deadline_of, flipped_timer, interval_of}
 use Rattle.machine_model.specs.Partition.{PartitionState, areas_of}
 use Rattle.machine_model.specs.View.{PartitionView}
 use Rattle.upset_model.specs.Upsets.{Schedule, Upset}
@@ -32,19 +31,6 @@ flipped bit n = bit_xor n (2 ^ bit)
 
 abbrev pub flipped_at : ℕ → ℕ → List ℕ → List ℕ
 flipped_at n bit words = slice_set words n (flipped bit (slice_index words n))
-
--- the deadline and the interval of a timer; those of one that is not armed are 0, as the call that sets a timer has it
-abbrev pub deadline_of : Option Timer → ℕ
-deadline_of None = 0
-deadline_of (Some timer) = timer.deadline
-
-abbrev pub interval_of : Option Timer → ℕ
-interval_of None = 0
-interval_of (Some timer) = timer.interval
-
--- a timer after the flip of a bit of its deadline: a deadline of 0 disarms it, and one that was 0 is armed
-abbrev pub flipped_timer : ℕ → Option Timer → Option Timer
-flipped_timer bit timer = armed (flipped bit (deadline_of timer)) (interval_of timer)
 
 -- a partition after the flip of a bit
 abbrev pub flip : Place → ℕ → PartitionState → PartitionState

@@ -1,8 +1,10 @@
 //! The clocks of one partition.
 
 ghost use Rattle.std.specs.Prelude.{◌≡◌, ◌↔◌, ◌+◌, ◌^◌, ◌<◌, ◌<ℤ◌, ◌⊎◌, ◌||◌, None, pos, is_some, unsigned_abs, IfSome, IsErr, IsNone, OnErr, OnOk};
+ghost use Rattle.virt_clocks.specs.Flips.{flipped_timer};
 ghost use Rattle.virt_clocks.specs.Clocks.{AreTimers, IsFirstDue, NoneCounted, armed, is_due, lesser, looked_at, next_due, no_clocks, ticks_until, timer_of, with_timer};
 
+use crate::flip::flipped_timer;
 use crate::timer::{
     Clock, Negative, Timer, armed, counted, is_due, is_negative, lesser, looked_at, ticks_until,
 };
@@ -77,6 +79,20 @@ impl Clocks {
             Clock::Exec => self.execution_timer = timer,
         }
         Ok(())
+    }
+
+    /// A bit of the deadline of the timer on a clock flips. The deadline of a timer that is not armed is 0; one that becomes 0
+    /// disarms the timer.
+    pub fn flip_deadline(&mut self, clock: Clock, bit: u8)
+        // Called for one of the 63 bits of a deadline.
+        requires { bit < 63 }
+        // The bit flips, and no other bit of either timer or of the execution clock.
+        ensures value { self.new ≡ with_timer clock (flipped_timer bit (timer_of clock self.old)) self.old }
+    {
+        match clock {
+            Clock::Hw => self.hardware_timer = flipped_timer(self.hardware_timer, bit),
+            Clock::Exec => self.execution_timer = flipped_timer(self.execution_timer, bit),
+        }
     }
 
     /// Counts a tick in which the partition ran.

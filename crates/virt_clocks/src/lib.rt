@@ -2,6 +2,7 @@
 #![tactic(auto)]
 
 mod clocks;
+mod flip;
 mod law;
 #[cfg(test)]
 mod tests;

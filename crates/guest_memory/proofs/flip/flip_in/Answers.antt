@@ -1,6 +1,5 @@
-use Rattle.std.proofs.Common.{◌≡◌, [], ◌∷◌, refl, ap, ◌∙◌, true, false}
-use Rattle.std.specs.Prelude.{◌^◌, bit_xor, slice_index}
-use Rattle.guest_memory.specs.Flat.{listed, memory_in}
+use Rattle.std.proofs.Common.{refl}
+use Rattle.guest_memory.specs.Flat.{listed}
 use Rattle.guest_memory.proofs.AccessLemmas.{bytes_within}
 use Rattle.guest_memory.proofs.FlipLemmas.{flipped_in, nowhere}
 use Rattle.guest_memory.proofs.flip.flip_in.Goals as goal

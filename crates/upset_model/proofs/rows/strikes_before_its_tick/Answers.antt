@@ -1,6 +1,4 @@
-use Rattle.std.proofs.Common.{◌≡◌, ℕ, [], ◌∷◌, refl, true, false, ap, ◌∙◌}
-use Rattle.machine_model.specs.Machine.{Machine}
-use Rattle.machine_model.specs.Partition.{PartitionState}
+use Rattle.std.proofs.Common.{refl}
 use Rattle.upset_model.specs.Upsets.{ready, upset}
 use Rattle.upset_model.proofs.rows.strikes_before_its_tick.Goals as goal
 
