@@ -12,7 +12,7 @@ use Rattle.guest_bus.specs.declared.bus.Size.TheVariants.{Four}
 use Rattle.guest_memory.specs.lemmas.FlatTerms.{StandsInArea, IsPartOf, StandsInEntry, memory_of_part, bytes_of_part}
 use Rattle.guest_memory.specs.Flat.{Table, area_in, areas_of_tables, listed}
 use Rattle.guest_memory.specs.Memories.{areas_size}
-use Rattle.guest_memory.specs.Near.{AreNear, AreReady, near_of, spot_of}
+use Rattle.guest_memory.specs.Near.{AreNear, AreReady, IsNearOf, near_in, spot_of}
 use Rattle.guest_memory.specs.lemmas.NearTerms.{AreSpots, AreWithin, FitsIn, IsSpotOf, IsNear, IsStored, area_there}
 use Rattle.guest_memory.specs.declared.entry.Entry.{Entry}
 use Rattle.guest_memory.specs.declared.entry.Place.{Place}
@@ -47,16 +47,17 @@ spot_within table whole k part few = of (slice_get table.entries k) refl
           few = omega (arith, at, ends, sized, part.within, few);
         }
 
--- so do both
-pub near_within : (table : Table) (near : Near) (whole : List ℕ) → near ≡ near_of table → IsPartOf table whole → length whole < 4294967296 → AreWithin near whole
+-- so do all three
+pub near_within : (table : Table) (near : Near) (whole : List ℕ) → IsNearOf near table → IsPartOf table whole → length whole < 4294967296 → AreWithin near whole
 near_within table near whole is part few =
-    subst (λ (n : Near). AreWithin n whole) (sym is) (record { first = spot_within table whole 0 part few; second = spot_within table whole 1 part few })
+    subst (λ (n : Near). AreWithin n whole) (sym is.1) (record { first = spot_within table whole 0 part few; second = spot_within table whole 1 part few; third = spot_within table whole is.0 part few })
 
 -- what holds of areas whose bytes lie among all
 pub spots_within : (near : Near) (whole : List ℕ) → AreWithin near whole → AreSpots near
 spots_within near whole within = record {
   first = record { ends = within.first.placed.ends; few = within.first.few };
   second = record { ends = within.second.placed.ends; few = within.second.few };
+  third = record { ends = within.third.placed.ends; few = within.third.few };
 }
 
 -- an aligned access that begins in an area that is looked at first ends among all bytes
@@ -65,10 +66,11 @@ spot_room spot whole found address size fits here aligned =
     let ends = aligned_fits (area_there spot) address size fits.placed aligned here.from (omega (arith, here.under)) in
     omega (arith, ends, here.byte, fits.within)
 
--- so it does in one of the two
+-- so it does in one of the three
 pub near_room : (near : Near) (whole : List ℕ) (found : Found) (address : ℕ) (size : Size) → AreWithin near whole → IsNear address found near → address % byte_len (width_of size) ≡ 0 → found.byte + byte_len (width_of size) ≤ length whole
 near_room near whole found address size within (inl here) aligned = spot_room near.first whole found address size within.first here aligned
-near_room near whole found address size within (inr here) aligned = spot_room near.second whole found address size within.second here aligned
+near_room near whole found address size within (inr (inl here)) aligned = spot_room near.second whole found address size within.second here aligned
+near_room near whole found address size within (inr (inr here)) aligned = spot_room near.third whole found address size within.third here aligned
 
 -- the byte that was found is one of the partition's
 pub record Inside (table : Table) (address : ℕ) (found : Found) : Type 0 where
@@ -88,13 +90,14 @@ spot_inside table address found k here = of (slice_get table.entries k) refl her
         let stands : StandsInEntry address 1 place entry = record { from = in_it.from; fits = omega (arith, in_it.under); byte = omega (arith, in_it.from); room = omega (arith, in_it.under); read_only = refl } in
         record { place = place; byte = omega (arith, in_it.byte, in_it.from); at = rw is stands; only = sym in_it.only }
 
--- in one of the two
-near_inside : (table : Table) (near : Near) (address : ℕ) (found : Found) → near ≡ near_of table → IsNear address found near → Inside table address found
-near_inside table near address found is here = at (subst (λ (n : Near). IsNear address found n) is here)
+-- in one of the three
+near_inside : (table : Table) (near : Near) (address : ℕ) (found : Found) → IsNearOf near table → IsNear address found near → Inside table address found
+near_inside table near address found is here = at (subst (λ (n : Near). IsNear address found n) is.1 here)
   where
-    at : IsNear address found (near_of table) → Inside table address found
+    at : IsNear address found (near_in table.entries table.place is.0) → Inside table address found
     at (inl first) = spot_inside table address found 0 first
-    at (inr second) = spot_inside table address found 1 second
+    at (inr (inl second)) = spot_inside table address found 1 second
+    at (inr (inr third)) = spot_inside table address found is.0 third
 
 -- bytes of the partition are bytes among all
 pub part_taken : (table : Table) (whole : List ℕ) (at byte n : ℕ) → byte ≡ table.place + at → at + n ≤ table.size → take n (drop at (bytes_of_part table whole)) ≡ take n (drop byte whole)
@@ -115,13 +118,13 @@ inside_fetched table whole found address word part inside aligned value =
     (value ∙ ap (from_be_bytes w32) (sym (part_taken table whole inside.place.byte found.byte 4 inside.byte (access_within table whole inside.place address 4 part access.stands))))
 
 -- the word that a fetch answers
-pub near_fetched : (table : Table) (near : Near) (whole : List ℕ) (found : Found) (address word : ℕ) → near ≡ near_of table → IsPartOf table whole → IsNear address found near → address % 4 ≡ 0
+pub near_fetched : (table : Table) (near : Near) (whole : List ℕ) (found : Found) (address word : ℕ) → IsNearOf near table → IsPartOf table whole → IsNear address found near → address % 4 ≡ 0
     → word ≡ from_be_bytes w32 (take 4 (drop found.byte whole)) → Ok word ≡ fetched (listed table.entries) (memory_of_part table whole) address
 near_fetched table near whole found address word is part here aligned value =
     inside_fetched table whole found address word part (near_inside table near address found is here) aligned value
 
 -- the value that a load answers
-pub near_loaded : (table : Table) (near : Near) (whole : List ℕ) (found : Found) (address value : ℕ) (size : Size) → near ≡ near_of table → IsPartOf table whole → IsNear address found near → address % byte_len (width_of size) ≡ 0
+pub near_loaded : (table : Table) (near : Near) (whole : List ℕ) (found : Found) (address value : ℕ) (size : Size) → IsNearOf near table → IsPartOf table whole → IsNear address found near → address % byte_len (width_of size) ≡ 0
     → value ≡ from_be_bytes (width_of size) (take (byte_len (width_of size)) (drop found.byte whole)) → Ok value ≡ loaded (listed table.entries) (memory_of_part table whole) address size
 near_loaded table near whole found address value size is part here aligned as_it_is =
     let inside = near_inside table near address found is here in
@@ -146,7 +149,7 @@ around_put p m a n xs new from fits within counted =
     ∙ take-append-drop p (put_mid a n xs new))
 
 -- what a store leaves
-pub near_stored : (table : Table) (near : Near) (whole new : List ℕ) (found : Found) (address value : ℕ) (size : Size) → near ≡ near_of table → IsPartOf table whole → IsNear address found near → address % byte_len (width_of size) ≡ 0 → found.read_only ≡ false
+pub near_stored : (table : Table) (near : Near) (whole new : List ℕ) (found : Found) (address value : ℕ) (size : Size) → IsNearOf near table → IsPartOf table whole → IsNear address found near → address % byte_len (width_of size) ≡ 0 → found.read_only ≡ false
     → new ≡ put_mid found.byte (byte_len (width_of size)) whole (to_be_bytes (width_of size) value) → IsStored table whole new address value size
 unfolding store_fault
 near_stored table near whole new found address value size is part here aligned free put =
@@ -184,8 +187,8 @@ one_there (x ∷ xs) zero a b below here other = here ∙ sym other
 one_there (x ∷ xs) (suc p) a b below here other = one_there xs p a b (omega (arith, below)) here other
 
 -- the areas of a partition that is selected
-pub near_selected : (tables : List Table) (p : ℕ) (table : Table) (near : Near) → p < length tables → table ≡ get_or tables p table → near ≡ near_of table → AreNear near tables p
-near_selected tables p table near below here is = λ other other_is. is ∙ ap near_of (one_there tables p table other below here other_is)
+pub near_selected : (tables : List Table) (p : ℕ) (table : Table) (near : Near) → p < length tables → table ≡ get_or tables p table → IsNearOf near table → AreNear near tables p
+near_selected tables p table near below here is = λ other other_is. subst (λ (t : Table). IsNearOf near t) (one_there tables p table other below here other_is) is
 
 -- as many tables as partitions
 pub parts_counted : (tables : List Table) (p : ℕ) → p < length (areas_of_tables tables) → p < length tables

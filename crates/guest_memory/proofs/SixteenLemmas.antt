@@ -14,7 +14,7 @@ use Rattle.guest_memory.specs.Flat.{AllBytes, AreFlat, Table, area_in, areas_of_
 use Rattle.guest_memory.specs.lemmas.FlatTerms.{StandsInArea, IsPartOf, StandsInEntry, memory_of_part, bytes_of_part}
 use Rattle.guest_memory.specs.Memories.{areas_at, map_at, others_of}
 use Rattle.guest_memory.specs.lemmas.NearTerms.{AreRead, AreWithin, AreWritten, FitsIn, HasPart, IsNearPart}
-use Rattle.guest_memory.specs.Near.{near_of, spot_of}
+use Rattle.guest_memory.specs.Near.{IsNearOf, near_in, spot_of}
 use Rattle.guest_memory.specs.declared.entry.Entry.{Entry}
 use Rattle.guest_memory.specs.declared.entry.Place.{Place}
 use Rattle.guest_memory.specs.declared.near.Found.{Found}
@@ -95,7 +95,8 @@ spot_part spot whole found address fits part = omega (arith, part.within, part.h
 
 pub near_part : (near : Near) (whole : List ℕ) (found : Found) (address : ℕ) → AreWithin near whole → IsNearPart address found near → found.byte + 64 ≤ length whole
 near_part near whole found address within (inl part) = spot_part near.first whole found address within.first part
-near_part near whole found address within (inr part) = spot_part near.second whole found address within.second part
+near_part near whole found address within (inr (inl part)) = spot_part near.second whole found address within.second part
+near_part near whole found address within (inr (inr part)) = spot_part near.third whole found address within.third part
 
 -- they are the partition's
 record Inside (table : Table) (address : ℕ) (found : Found) : Type 0 where
@@ -114,12 +115,13 @@ spot_inside table address found k part = of (slice_get table.entries k) refl par
         let stands : StandsInEntry address 64 place entry = record { from = in_it.here.from; fits = in_it.within; byte = omega (arith, in_it.here.from); room = omega (arith, in_it.within); read_only = refl } in
         record { place = place; byte = omega (arith, in_it.here.byte, in_it.here.from); at = rw is stands; only = sym in_it.here.only }
 
-near_inside : (table : Table) (near : Near) (address : ℕ) (found : Found) → near ≡ near_of table → IsNearPart address found near → Inside table address found
-near_inside table near address found is part = at (subst (λ (n : Near). IsNearPart address found n) is part)
+near_inside : (table : Table) (near : Near) (address : ℕ) (found : Found) → IsNearOf near table → IsNearPart address found near → Inside table address found
+near_inside table near address found is part = at (subst (λ (n : Near). IsNearPart address found n) is.1 part)
   where
-    at : IsNearPart address found (near_of table) → Inside table address found
+    at : IsNearPart address found (near_in table.entries table.place is.0) → Inside table address found
     at (inl first) = spot_inside table address found 0 first
-    at (inr second) = spot_inside table address found 1 second
+    at (inr (inl second)) = spot_inside table address found 1 second
+    at (inr (inr third)) = spot_inside table address found is.0 third
 
 -- they may be read
 may_be_read : (table : Table) (whole : List ℕ) (address : ℕ) (place : Place) → IsPartOf table whole → StandsInArea address 64 place table.entries → address % 8 ≡ 0 → MayStand (is_readable (listed table.entries)) address
@@ -147,7 +149,7 @@ may_be_written table whole address place part at aligned free = by_entry table.e
     })
 
 -- what a write of them leaves
-pub near_written : (table : Table) (near : Near) (whole new words : List ℕ) (found : Found) (address : ℕ) → near ≡ near_of table → IsPartOf table whole → IsNearPart address found near → address % 8 ≡ 0 → found.read_only ≡ false
+pub near_written : (table : Table) (near : Near) (whole new words : List ℕ) (found : Found) (address : ℕ) → IsNearOf near table → IsPartOf table whole → IsNearPart address found near → address % 8 ≡ 0 → found.read_only ≡ false
     → length words ≡ 16 → new ≡ put_mid found.byte 64 whole (bytes_of words) → AreWritten table whole new address words
 near_written table near whole new words found address is part near_it aligned free sixteen put =
     let inside = near_inside table near address found is near_it in
@@ -163,7 +165,7 @@ near_written table near whole new words found address is part near_it aligned fr
     }
 
 -- what is read of them
-pub near_read : (table : Table) (near : Near) (whole words : List ℕ) (found : Found) (address : ℕ) → near ≡ near_of table → IsPartOf table whole → IsNearPart address found near → address % 8 ≡ 0
+pub near_read : (table : Table) (near : Near) (whole words : List ℕ) (found : Found) (address : ℕ) → IsNearOf near table → IsPartOf table whole → IsNearPart address found near → address % 8 ≡ 0
     → length words ≡ 16 → ((k : ℕ) → k < 16 → slice_index words k ≡ from_be_bytes w32 (take 4 (drop (found.byte + 4 * k) whole))) → AreRead table whole address words
 near_read table near whole words found address is part near_it aligned sixteen each = record {
   free = may_be_read table whole address inside.place part inside.at aligned;

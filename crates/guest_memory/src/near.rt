@@ -1,12 +1,12 @@
 //! The areas of one partition that are looked at first.
 
-ghost use Rattle.std.specs.Prelude.{◌≡◌, ◌+◌, ◌<◌, ◌≤◌, ◌^◌, true, false, IfSome, Ok, slice_get};
+ghost use Rattle.std.specs.Prelude.{◌≡◌, ◌+◌, ◌<◌, ◌≤◌, ◌^◌, ◌⊎◌, true, false, IfSome, Ok, slice_get};
 ghost use Rattle.std.specs.Bool.{OnTrue};
 ghost use Rattle.guest_bus.specs.Access.{fetched, loaded};
 ghost use Rattle.guest_memory.specs.Flat.{AllBytes, Table as Placed, listed};
 ghost use Rattle.guest_memory.specs.lemmas.FlatTerms.{IsPartOf, memory_of_part};
 ghost use Rattle.guest_memory.specs.lemmas.NearTerms.{AreRead, AreSpots, AreWithin, AreWritten, HasPart, IsSpot, IsSpotOf, IsNear, IsNearPart, IsStored};
-ghost use Rattle.guest_memory.specs.Near.{near_in, near_of, spot_of};
+ghost use Rattle.guest_memory.specs.Near.{IsNearOf, near_in, spot_of};
 
 use crate::bytes::{get_words, put_value, put_words, value_at, word};
 use crate::entry::Entry;
@@ -28,11 +28,13 @@ pub(crate) struct Found {
     pub(crate) read_only: bool,
 }
 
-/// The first two areas of a partition. Most accesses are to these, and are made without a search.
+/// The first two areas of a partition, and another to which an access was made. Most accesses are to these, and are made without a
+/// search.
 #[derive(Clone, Copy, Debug)]
 pub(crate) struct Near {
     pub(crate) first: Spot,
     pub(crate) second: Spot,
+    pub(crate) third: Spot,
 }
 
 impl Spot {
@@ -105,17 +107,18 @@ impl Spot {
 }
 
 impl Near {
-    /// Those of a partition whose bytes lie from a place on.
-    pub(crate) fn of(entries: &[Entry], place: u32) -> Near
-        ensures { result ≡ near_in entries.now place }
+    /// Those of a partition whose bytes lie from a place on, with the area of a number as the third.
+    pub(crate) fn of(entries: &[Entry], place: u32, number: usize) -> Near
+        ensures { result ≡ near_in entries.now place number }
     {
         Near {
             first: Spot::of(entries, 0, place),
             second: Spot::of(entries, 1, place),
+            third: Spot::of(entries, number, place),
         }
     }
 
-    // Where the byte at an address lies, where one of the two has it.
+    // Where the byte at an address lies, where one of the three has it.
     #[inline(always)]
     fn find(&self, address: u32) -> Option<Found>
         requires { AreSpots self.now }
@@ -125,16 +128,18 @@ impl Near {
             Some(self.first.found(address))
         } else if self.second.has(address) {
             Some(self.second.found(address))
+        } else if self.third.has(address) {
+            Some(self.third.found(address))
         } else {
             None
         }
     }
 
-    /// The word that a fetch answers, where it is found in one of the two.
+    /// The word that a fetch answers, where it is found in one of the three.
     #[inline(always)]
     pub(crate) fn fetched(&self, whole: &[u8], address: u32) -> Option<u32>
         requires { AreWithin self.now whole.now }
-        ensures { (table : Placed) → self.now ≡ near_of table → IsPartOf table whole.now → IfSome result (λ word. Ok word ≡ fetched (listed table.entries) (memory_of_part table whole.now) address) }
+        ensures { (table : Placed) → IsNearOf self.now table → IsPartOf table whole.now → IfSome result (λ word. Ok word ≡ fetched (listed table.entries) (memory_of_part table whole.now) address) }
     {
         if address % 4 != 0 {
             return None;
@@ -145,11 +150,11 @@ impl Near {
         }
     }
 
-    /// The value that a load answers, where it is found in one of the two.
+    /// The value that a load answers, where it is found in one of the three.
     #[inline(always)]
     pub(crate) fn loaded(&self, whole: &[u8], address: u32, size: Size) -> Option<u64>
         requires { AreWithin self.now whole.now }
-        ensures { (table : Placed) → self.now ≡ near_of table → IsPartOf table whole.now → IfSome result (λ value. Ok value ≡ loaded (listed table.entries) (memory_of_part table whole.now) address size) }
+        ensures { (table : Placed) → IsNearOf self.now table → IsPartOf table whole.now → IfSome result (λ value. Ok value ≡ loaded (listed table.entries) (memory_of_part table whole.now) address size) }
     {
         if address % size.bytes() != 0 {
             return None;
@@ -160,11 +165,11 @@ impl Near {
         }
     }
 
-    /// Stores a value, where its place is found in one of the two and may be written. The answer is whether it did.
+    /// Stores a value, where its place is found in one of the three and may be written. The answer is whether it did.
     #[inline(always)]
     pub(crate) fn stored(&self, whole: &mut [u8], address: u32, size: Size, value: u64) -> bool
         requires { AreWithin self.now whole.old }
-        ensures done { OnTrue result ((table : Placed) → self.now ≡ near_of table → IsPartOf table whole.old → IsStored table whole.old whole.new address value size) }
+        ensures done { OnTrue result ((table : Placed) → IsNearOf self.now table → IsPartOf table whole.old → IsStored table whole.old whole.new address value size) }
         ensures bytes { OnTrue result (AllBytes whole.new) }
         ensures not_done { result ≡ false → whole.new ≡ whole.old }
     {
@@ -184,7 +189,7 @@ impl Near {
         }
     }
 
-    // Where the 64 bytes from an address on lie, where one of the two has them all.
+    // Where the 64 bytes from an address on lie, where one of the three has them all.
     #[inline(always)]
     fn find_part(&self, address: u32) -> Option<Found>
         requires { AreSpots self.now }
@@ -192,15 +197,27 @@ impl Near {
     {
         match self.first.part(address) {
             Some(found) => Some(found),
-            None => self.second.part(address),
+            None => self.later_part(address),
         }
     }
 
-    /// Writes sixteen words, where all of them are in one of the two and may be written. The answer is whether it did.
+    // The same of the two after the first.
+    #[inline(always)]
+    fn later_part(&self, address: u32) -> Option<Found>
+        requires { AreSpots self.now }
+        ensures { IfSome result (λ found. HasPart address found self.now.second ⊎ HasPart address found self.now.third) }
+    {
+        match self.second.part(address) {
+            Some(found) => Some(found),
+            None => self.third.part(address),
+        }
+    }
+
+    /// Writes sixteen words, where all of them are in one of the three and may be written. The answer is whether it did.
     #[inline(always)]
     pub(crate) fn put_words(&self, whole: &mut [u8], address: u32, words: &[u32; 16]) -> bool
         requires { AreWithin self.now whole.old }
-        ensures done { OnTrue result ((table : Placed) → self.now ≡ near_of table → IsPartOf table whole.old → AreWritten table whole.old whole.new address words.now) }
+        ensures done { OnTrue result ((table : Placed) → IsNearOf self.now table → IsPartOf table whole.old → AreWritten table whole.old whole.new address words.now) }
         ensures bytes { AllBytes whole.old → AllBytes whole.new }
         ensures not_done { result ≡ false → whole.new ≡ whole.old }
     {
@@ -220,11 +237,11 @@ impl Near {
         }
     }
 
-    /// The sixteen words from an address on, where all of them are in one of the two.
+    /// The sixteen words from an address on, where all of them are in one of the three.
     #[inline(always)]
     pub(crate) fn get_words(&self, whole: &[u8], address: u32) -> Option<[u32; 16]>
         requires { AreWithin self.now whole.now }
-        ensures { (table : Placed) → self.now ≡ near_of table → IsPartOf table whole.now → IfSome result (λ words. AreRead table whole.now address words) }
+        ensures { (table : Placed) → IsNearOf self.now table → IsPartOf table whole.now → IfSome result (λ words. AreRead table whole.now address words) }
     {
         if address % 8 != 0 {
             return None;

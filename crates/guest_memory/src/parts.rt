@@ -7,7 +7,7 @@ ghost use Rattle.guest_memory.specs.Flat.{AllBytes, listed};
 ghost use Rattle.guest_memory.specs.lemmas.FlatTerms.{IsPartOf, SameAround, memory_of_part};
 ghost use Rattle.guest_memory.specs.Loading.{LiesInAreas, areas_with_image};
 ghost use Rattle.guest_memory.specs.Memories.{answer_by, first_refused};
-ghost use Rattle.guest_memory.specs.Near.{near_of};
+ghost use Rattle.guest_memory.specs.Near.{IsNearOf};
 
 use crate::near::Near;
 use crate::outside::Outside;
@@ -17,27 +17,29 @@ use crate::table::Table;
 use guest_bus::{BusFault, Size};
 use xef_images::Xef;
 
-/// Stores a value where nothing refuses it.
+/// Stores a value where nothing refuses it. An area that is none of those looked at first is one of them then.
 #[inline(always)]
 pub(crate) fn store(
-    near: &Near,
+    near: &mut Near,
     table: &Table,
     whole: &mut [u8],
     address: u32,
     size: Size,
     value: u64,
 ) -> Result<(), BusFault>
-    requires near { near.now ≡ near_of table.now }
+    requires near { IsNearOf near.old table.now }
     requires part { IsPartOf table.now whole.old }
     requires few { length whole.old < 4294967296 }
     ensures fault { Stores result (store_fault (listed table.now.entries) address size) }
     ensures memory { memory_of_part table.now whole.new ≡ after_store (listed table.now.entries) (memory_of_part table.now whole.old) address size value }
     ensures others { SameAround table.now whole.old whole.new }
     ensures bytes { AllBytes whole.new }
+    ensures near { IsNearOf near.new table.now }
 {
     if near.stored(whole, address, size, value) {
         return Ok(());
     }
+    *near = table.near_at(address);
     let place = table.place() as usize;
     let end = place + table.size() as usize;
     space::store(

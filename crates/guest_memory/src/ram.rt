@@ -34,7 +34,7 @@ pub struct Ram {
     bytes: Vec<u8>,
     tables: Vec<Table>,
     selected: u8,
-    // The first areas of the selected partition.
+    // The first areas of the selected partition, and another.
     near: Near,
 }
 
@@ -222,13 +222,14 @@ impl Ram {
 
     /// The value that a load from the selected partition's memory answers.
     #[inline(always)]
-    fn loaded(&self, address: u32, size: Size) -> Result<u64, BusFault>
-        ensures value { result ≡ loaded_at (areas_at self.now.selected self.now) (map_at self.now.selected self.now) address size }
-        ensures memories { AreMemories self.now }
+    fn loaded(&mut self, address: u32, size: Size) -> Result<u64, BusFault>
+        ensures value { result ≡ loaded_at (areas_at self.old.selected self.old) (map_at self.old.selected self.old) address size }
+        ensures memories { AreMemories self.old }
+        ensures unchanged { self.new ≡ self.old }
     {
         match self.near.loaded(&self.bytes, address, size) {
             Some(value) => Ok(value),
-            None => self.search_and_load(address, size),
+            None => self.remember_and_load(address, size),
         }
     }
 
@@ -243,13 +244,31 @@ impl Ram {
     }
 
     /// The value that a load from the selected partition's memory answers, by a search.
-    #[cold]
-    #[inline(never)]
+    #[inline(always)]
     fn search_and_load(&self, address: u32, size: Size) -> Result<u64, BusFault>
         ensures value { result ≡ loaded_at (areas_at self.now.selected self.now) (map_at self.now.selected self.now) address size }
     {
         let p = self.selected();
         space::load(self.entries(p), self.part(p), address, size)
+    }
+
+    /// The same. The area that has the address is one of those that are looked at first from now on.
+    #[cold]
+    #[inline(never)]
+    fn remember_and_load(&mut self, address: u32, size: Size) -> Result<u64, BusFault>
+        ensures value { result ≡ loaded_at (areas_at self.old.selected self.old) (map_at self.old.selected self.old) address size }
+        ensures unchanged { self.new ≡ self.old }
+    {
+        self.remember(address);
+        self.search_and_load(address, size)
+    }
+
+    // The area that has an address is one of those that are looked at first from now on.
+    fn remember(&mut self, address: u32)
+        ensures { self.new ≡ self.old }
+    {
+        let table = &self.tables[usize::from(self.selected)];
+        self.near = table.near_at(address);
     }
 
     /// The areas of a partition.
@@ -294,7 +313,7 @@ impl Bus for Ram {
     #[inline(always)]
     fn store(&mut self, address: u32, size: Size, value: u64) -> Result<(), BusFault> {
         parts::store(
-            &self.near,
+            &mut self.near,
             &self.tables[usize::from(self.selected)],
             &mut self.bytes,
             address,

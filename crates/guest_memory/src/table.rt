@@ -4,9 +4,10 @@ ghost use Rattle.std.specs.Prelude.{◌≡◌, ◌+◌, ◌<◌, IfOk, map};
 ghost use Rattle.guest_memory.specs.Flat.{IsMemoryTable, listed};
 ghost use Rattle.guest_memory.specs.Loading.{area_of};
 ghost use Rattle.guest_memory.specs.Memories.{areas_size};
-ghost use Rattle.guest_memory.specs.Near.{near_of};
+ghost use Rattle.guest_memory.specs.Near.{IsNearOf};
 
 use crate::entry::Entry;
+use crate::find::place_of;
 use crate::near::Near;
 use std::alloc::{AllocError, Global};
 use std::marker::Model;
@@ -31,7 +32,7 @@ impl Model for Table {
 
     ghost view = { λ table. record { place = table.place; size = table.size; entries = table.entries.items } };
 
-    ghost invariant = { λ table. table.near ≡ nearby.near_in table.entries.items table.place };
+    ghost invariant = { λ table. table.near ≡ nearby.near_in table.entries.items table.place 2 };
 }
 
 impl Table {
@@ -47,7 +48,7 @@ impl Table {
             entries.push_reserved(Entry::new(area, size));
             size += area.size;
         }
-        let near = Near::of(&entries, place);
+        let near = Near::of(&entries, place, 2);
         Ok(Table {
             place,
             size,
@@ -79,8 +80,18 @@ impl Table {
 
     /// Those of its areas that are looked at first.
     pub(crate) fn near(&self) -> Near
-        ensures { result ≡ near_of self.now }
+        ensures { IsNearOf result self.now }
     {
         self.near
+    }
+
+    /// The same with the area that has an address among them, where there is one.
+    pub(crate) fn near_at(&self, address: u32) -> Near
+        ensures { IsNearOf result self.now }
+    {
+        match place_of(&self.entries, u64::from(address)) {
+            Some(place) => Near::of(&self.entries, self.place, place.area),
+            None => self.near,
+        }
     }
 }

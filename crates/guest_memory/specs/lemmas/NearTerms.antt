@@ -20,10 +20,11 @@ pub record IsSpot (spot : Spot) : Type 0 where
   pub ends : spot.start + spot.size ≤ 2 ^ 32
   pub few : spot.place ≤ 2 ^ 32
 
--- so do both areas
+-- so do all three areas
 pub record AreSpots (near : Near) : Type 0 where
   pub first : IsSpot near.first
   pub second : IsSpot near.second
+  pub third : IsSpot near.third
 
 -- an area is whole pages, and its bytes lie among all
 pub record FitsIn (spot : Spot) (whole : List ℕ) : Type 0 where
@@ -31,10 +32,11 @@ pub record FitsIn (spot : Spot) (whole : List ℕ) : Type 0 where
   pub within : spot.place + spot.size ≤ length whole
   pub few : spot.place ≤ 2 ^ 32
 
--- so are both areas
+-- so are all three areas
 pub record AreWithin (near : Near) (whole : List ℕ) : Type 0 where
   pub first : FitsIn near.first whole
   pub second : FitsIn near.second whole
+  pub third : FitsIn near.third whole
 
 -- an area has the address, and the byte there is the one that was found
 pub record IsSpotOf (address : ℕ) (found : Found) (spot : Spot) : Type 0 where
@@ -43,18 +45,18 @@ pub record IsSpotOf (address : ℕ) (found : Found) (spot : Spot) : Type 0 where
   pub byte : found.byte + spot.start ≡ spot.place + address
   pub only : found.read_only ≡ spot.read_only
 
--- one of the two has it
+-- one of the three has it
 abbrev pub IsNear : ℕ → Found → Near → Type 0
-IsNear address found near = IsSpotOf address found near.first ⊎ IsSpotOf address found near.second
+IsNear address found near = IsSpotOf address found near.first ⊎ (IsSpotOf address found near.second ⊎ IsSpotOf address found near.third)
 
 -- so are the 63 bytes after it
 pub record HasPart (address : ℕ) (found : Found) (spot : Spot) : Type 0 where
   pub here : IsSpotOf address found spot
   pub within : address + 64 ≤ spot.start + spot.size
 
--- all 64 are in one of the two
+-- all 64 are in one of the three
 abbrev pub IsNearPart : ℕ → Found → Near → Type 0
-IsNearPart address found near = HasPart address found near.first ⊎ HasPart address found near.second
+IsNearPart address found near = HasPart address found near.first ⊎ (HasPart address found near.second ⊎ HasPart address found near.third)
 
 -- sixteen words were written, and no byte beside those of the partition is another
 pub record AreWritten (table : Table) (old new : List ℕ) (address : ℕ) (words : List ℕ) : Type 0 where

@@ -1,3 +1,4 @@
+use Rattle.std.proofs.Common.{refl}
 use Rattle.guest_memory.proofs.MemoriesLemmas.{part_at}
 use Rattle.guest_memory.proofs.NearLemmas.{near_within, parts_counted, there}
 use Rattle.guest_memory.proofs.ram.Ram.loaded.Goals as goal
@@ -18,7 +19,8 @@ returns-in-Some c =
     record {
       value = rw (← c.self.view_is, part.areas, part.map) (value own.table (c.self.invariant.near own.table own.is) part.is);
       memories = rw (← c.self.view_is) c.self.invariant.kept.memories;
+      unchanged = refl;
     }
 
 pub returns-in-None : goal.returns-in-None
-returns-in-None c = record { value = c.search_and_load.ensures.value; memories = rw (← c.self.view_is) c.self.invariant.kept.memories }
+returns-in-None c = record { value = c.remember_and_load.ensures.value; memories = rw (← c.self.view_is) c.self.invariant.kept.memories; unchanged = c.remember_and_load.ensures.unchanged }

@@ -4,6 +4,7 @@ use Rattle.guest_memory.specs.Flat.{memories_in}
 use Rattle.guest_memory.specs.lemmas.FlatTerms.{memory_of_part}
 use Rattle.guest_memory.specs.Memories.{map_at, others_of}
 use Rattle.guest_memory.proofs.MemoriesLemmas.{kept_on, map_at-with_map, memories_changed, others-with_map, part_at}
+use Rattle.guest_memory.proofs.NearLemmas.{near_selected, parts_counted}
 use Rattle.guest_memory.proofs.ram.RamBus.store.Goals as goal
 
 pub invariant_of-self : goal.invariant_of-self
@@ -11,7 +12,7 @@ invariant_of-self c =
     let counted : length c.store.new.whole ≡ c.self.inside.bytes.len = grind (arith, common_steps) in
     let same : length c.store.new.whole ≡ length c.self.inside.bytes.items = grind (arith, common_steps) in
     let e : take c.self.inside.bytes.len (c.store.new.whole ++ drop (length c.store.new.whole) c.self.inside.bytes.items) ≡ c.store.new.whole = grind (arith, common_steps) in
-    record { kept = rw e (kept_on c.self.inside.tables.items c.self.inside.bytes.items c.store.new.whole c.self.inside.selected c.self.invariant.kept same c.store.ensures.bytes); near = c.self.invariant.near }
+    record { kept = rw e (kept_on c.self.inside.tables.items c.self.inside.bytes.items c.store.new.whole c.self.inside.selected c.self.invariant.kept same c.store.ensures.bytes); near = near_selected c.self.inside.tables.items c.self.inside.selected c.index.result.now c.store.new.near (parts_counted c.self.inside.tables.items c.self.inside.selected c.self.invariant.kept.memories.selected) (rw c.from.ensures at c.index.ensures) c.store.ensures.near }
 
 pub returns : goal.returns
 returns c =
