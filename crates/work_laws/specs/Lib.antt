@@ -1,0 +1,4 @@
+pub mod Changes
+pub mod Labels
+pub mod Order
+pub mod rows
