@@ -2,7 +2,7 @@
 use Rattle.std.proofs.Common.{◌≡◌, ℕ, zero, suc, ◌<◌, ◌≤◌, List, [], ◌∷◌, ◌++◌, length, map, take, get_or, refl, sym, ap, ◌∙◌, ◌+◌, ◌≢◌, arith, below_more}
 use Rattle.std.proofs.lemmas.List.{get_or-set_other, get_or-set_same, get_or_default, length-map, map-append, same_lists, take_more}
 use Rattle.std.proofs.lemmas.Option.{get_or_from_slice_get}
-use Rattle.std.specs.Prelude.{Some, true, false, slice_get}
+use Rattle.std.specs.Prelude.{Some, None, true, false, slice_get}
 use Rattle.std.specs.FinMap.{empty}
 use Rattle.std.specs.List.{list_any}
 use Rattle.cyclic_plans.specs.PlanClock.{CyclicClock, started as plan_start}
@@ -22,6 +22,7 @@ use Rattle.xm_ports.specs.Channels as ports
 use Rattle.xm_ports.specs.Channels.{ChannelTable, shapes_of}
 use Rattle.system_state.specs.State.{IsKeptSo, NoneTimed, OwnState, is_timed, kept_so, with_inputs, with_memories, with_memory}
 use Rattle.system_state.specs.lemmas.StateTerms.{booted_own, loaded_all}
+use Rattle.system_state.proofs.PartsLemmas.{unarmed_from}
 
 -- the partitions of some images as they boot, apart from their memories
 abbrev pub booted_owns : List Image → List OwnState
@@ -130,12 +131,15 @@ none_boots [] = refl
 none_boots (image ∷ images) = none_boots images
 
 -- so all is kept as it is to be, and it is said that no timer is armed
-pub boots_kept : (system : System) (inputs : List (List ℕ)) (owns : List OwnState) (memories : Memories) → IsSystem system → length inputs ≡ length system.conf.parts → owns ≡ booted_owns system.images
-    → memories.areas ≡ map memory_areas system.conf.parts → memories.maps ≡ loaded_all system.conf.parts system.images → IsKeptSo system inputs owns memories true
-boots_kept system inputs owns memories is given owns_is areas_is maps_is = record {
-  counted = ap length owns_is ∙ length-map system.images (λ image. booted_own image.entry) ∙ is.counted;
-  given = given;
-  areas = areas_is;
-  held = ap length maps_is ∙ loaded-length system.conf.parts system.images is.counted;
-  unarmed = ap (list_any (λ (own : OwnState). is_timed own.clocks)) owns_is ∙ none_boots system.images;
-}
+pub boots_kept : (system : System) (inputs : List (List ℕ)) (owns : List OwnState) (memories : Memories) (least : ℕ) → IsSystem system → length inputs ≡ length system.conf.parts → owns ≡ booted_owns system.images
+    → memories.areas ≡ map memory_areas system.conf.parts → memories.maps ≡ loaded_all system.conf.parts system.images → IsKeptSo system inputs owns memories true least None
+boots_kept system inputs owns memories least is given owns_is areas_is maps_is =
+    let unarmed = ap (list_any (λ (own : OwnState). is_timed own.clocks)) owns_is ∙ none_boots system.images in
+    record {
+      counted = ap length owns_is ∙ length-map system.images (λ image. booted_own image.entry) ∙ is.counted;
+      given = given;
+      areas = areas_is;
+      held = ap length maps_is ∙ loaded-length system.conf.parts system.images is.counted;
+      unarmed = unarmed;
+      due = unarmed_from None least owns unarmed;
+    }

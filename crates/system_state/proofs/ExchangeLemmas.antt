@@ -63,13 +63,14 @@ is_written_there a sys p address bytes ram kept is below written =
     ∙ ap (λ (s : SysState). with_machine (with_part p (with_written address (bytes s) (part_at p sys.machine)) sys.machine) sys) is
 
 -- what is kept stays so with another memory of one partition
-pub kept_with : (a : Inside) (p : ℕ) (memory : Memory) (ram : Memories) → IsKept a → ram ≡ with_map p memory a.ram → IsKeptSo a.system a.inputs a.parts.items ram a.untimed
+pub kept_with : (a : Inside) (p : ℕ) (memory : Memory) (ram : Memories) → IsKept a → ram ≡ with_map p memory a.ram → IsKeptSo a.system a.inputs a.parts.items ram a.untimed a.least a.lent
 kept_with a p memory ram kept is = record {
   counted = kept.counted;
   given = kept.given;
   areas = ap (λ (m : Memories). m.areas) is ∙ kept.areas;
   held = ap (λ (m : Memories). length m.maps) is ∙ length-set a.ram.maps p memory ∙ kept.held;
   unarmed = kept.unarmed;
+  due = kept.due;
 }
 
 -- a range all of which is allowed is not refused

@@ -1,11 +1,12 @@
 -- A system as it is kept, and as it is seen.
-use Rattle.std.proofs.Common.{◌≡◌, ℕ, ◌<◌, Bool, true, false, List, [], length, map, set, get_or, sym, ap, ◌∙◌, arith}
+use Rattle.std.proofs.Common.{◌≡◌, ℕ, ◌<◌, Bool, true, false, List, [], length, map, set, get_or, nat_lt, refl, sym, ap, subst, ◌∙◌, arith}
+use Rattle.std.proofs.lemmas.Bool.Decides.{nat_tests}
 use Rattle.std.proofs.lemmas.Option.{get_or_from_slice_get}
 use Rattle.std.proofs.lemmas.List.{get_or-map, get_or_default, length-map, length-set, set-get_or}
 use Rattle.std.specs.Bool.{OnTrue}
 use Rattle.std.specs.FinMap.{empty}
 use Rattle.std.specs.List.{list_any}
-use Rattle.std.specs.Prelude.{IfOk, OnOk, Result, Ok, Err, Some, slice_get}
+use Rattle.std.specs.Prelude.{IfOk, OnOk, Result, Ok, Err, Option, Some, slice_get}
 use Rattle.guest_bus.specs.Memory.{Area, Memory, with_bytes}
 use Rattle.guest_memory.specs.Loading.{memory_areas, areas_with_image}
 use Rattle.guest_memory.specs.Memories.{Memories, areas_at, map_at, with_map, with_selected}
@@ -16,7 +17,7 @@ use Rattle.machine_model.specs.Partition as model
 use Rattle.machine_model.specs.View.{no_image, no_part, part_of, view_of}
 use Rattle.xef_images.specs.Image.{Image}
 use Rattle.xm_ports.specs.Ports.{with_port}
-use Rattle.system_state.specs.State.{IsKeptSo, NoneTimed, OwnState, SysState, any_timed, areas_in, is_timed, kept_so, memory_of, part_at, with_machine, with_memory, with_own, with_part, input_words_of}
+use Rattle.system_state.specs.State.{AreFrom, IsFrom, IsKeptSo, NoneDue, NoneTimed, OwnState, SysState, any_timed, areas_in, is_timed, kept_so, memory_of, part_at, with_machine, with_memory, with_own, with_part, input_words_of}
 use Rattle.system_state.specs.lemmas.StateTerms.{booted_own}
 use Rattle.system_state.specs.lemmas.TurningTerms.{HasMet}
 use Rattle.system_state.specs.declared.sys.Sys.TheInside.{Inside}
@@ -32,7 +33,7 @@ seen a = seen_with a a.parts.items a.ram
 
 -- what is kept of it
 abbrev pub IsKept : Inside → Type 0
-IsKept a = IsKeptSo a.system a.inputs a.parts.items a.ram a.untimed
+IsKept a = IsKeptSo a.system a.inputs a.parts.items a.ram a.untimed a.least a.lent
 
 -- a memory for each partition
 pub is_held : (a : Inside) → IsKept a → length a.ram.maps ≡ length a.parts.items
@@ -232,22 +233,56 @@ on_true false P Q follows holds = tt
 pub is_known : (a : Inside) (sys : SysState) → IsKept a → seen a ≡ sys → OnTrue a.untimed (any_timed sys.machine.parts ≡ false)
 is_known a sys kept is = on_true a.untimed (NoneTimed a.parts.items) (any_timed sys.machine.parts ≡ false) (λ none. sym (is_timed_seen a sys kept is) ∙ none) kept.unarmed
 
+-- where none is due before a time, none is seen to be due earlier
+pub none_due_seen : (a : Inside) (sys : SysState) (but : Option ℕ) (least time : ℕ) → seen a ≡ sys → AreFrom but least a.parts.items → OnTrue (nat_lt time least) (NoneDue but time sys.machine.parts)
+none_due_seen a sys but least time is all = at (nat_lt time least) refl
+  where
+    at : (b : Bool) → nat_lt time least ≡ b → OnTrue b (NoneDue but time sys.machine.parts)
+    at true before =
+        subst (λ (s : SysState). NoneDue but time s.machine.parts) is
+        (parts.from-seen but least time a.parts.items a.ram.maps a.inputs (grind (arith, nat_tests, before)) all)
+    at false after = tt
+
+-- what is kept stays so with the state of one partition changed in any way, where that partition's timer does not count
+pub lent_kept : (a : Inside) (p least : ℕ) (new : OwnState) → IsKept a → (AreFrom a.lent a.least a.parts.items → AreFrom (Some p) least a.parts.items)
+    → IsKeptSo a.system a.inputs (set a.parts.items p new) a.ram false least (Some p)
+lent_kept a p least new kept stays = record {
+  counted = length-set a.parts.items p new ∙ kept.counted;
+  given = kept.given;
+  areas = kept.areas;
+  held = kept.held;
+  unarmed = tt;
+  due = parts.from-lent least a.parts.items p new (stays kept.due);
+}
+
+-- what is kept stays so with another time and another partition whose timer does not count
+pub least_kept : (a : Inside) (but : Option ℕ) (least : ℕ) → IsKept a → AreFrom but least a.parts.items → IsKeptSo a.system a.inputs a.parts.items a.ram a.untimed least but
+least_kept a but least kept all = record {
+  counted = kept.counted;
+  given = kept.given;
+  areas = kept.areas;
+  held = kept.held;
+  unarmed = kept.unarmed;
+  due = all;
+}
+
 -- what is kept stays so with another state of one partition, by which no timer is armed, and with other memories of the same areas
 pub stays_kept : (a : Inside) (p : ℕ) (own new : OwnState) (ram : Memories) → IsKept a → own ≡ get_or a.parts.items p own → (is_timed own.clocks ≡ false → is_timed new.clocks ≡ false)
-    → ram.areas ≡ a.ram.areas → length ram.maps ≡ length a.ram.maps → IsKeptSo a.system a.inputs (set a.parts.items p new) ram a.untimed
-stays_kept a p own new ram kept here keeps areas maps = record {
+    → (IsFrom a.least own.clocks.hardware_timer → IsFrom a.least new.clocks.hardware_timer) → ram.areas ≡ a.ram.areas → length ram.maps ≡ length a.ram.maps → IsKeptSo a.system a.inputs (set a.parts.items p new) ram a.untimed a.least a.lent
+stays_kept a p own new ram kept here keeps stays areas maps = record {
   counted = length-set a.parts.items p new ∙ kept.counted;
   given = kept.given;
   areas = areas ∙ kept.areas;
   held = maps ∙ kept.held;
   unarmed = on_true a.untimed (NoneTimed a.parts.items) (NoneTimed (set a.parts.items p new)) (parts.none-set a.parts.items p own new here keeps) kept.unarmed;
+  due = parts.from-set a.lent a.least a.parts.items p own new here stays kept.due;
 }
 
 -- and with another memory of that partition
 pub stays_kept_with : (a : Inside) (p : ℕ) (own new : OwnState) (memory : Memory) (ram : Memories) → IsKept a → own ≡ get_or a.parts.items p own → (is_timed own.clocks ≡ false → is_timed new.clocks ≡ false)
-    → ram ≡ with_selected p (with_map p memory a.ram) → IsKeptSo a.system a.inputs (set a.parts.items p new) ram a.untimed
-stays_kept_with a p own new memory ram kept here keeps is =
-    stays_kept a p own new ram kept here keeps (ap (λ (m : Memories). m.areas) is) (ap (λ (m : Memories). length m.maps) is ∙ length-set a.ram.maps p memory)
+    → (IsFrom a.least own.clocks.hardware_timer → IsFrom a.least new.clocks.hardware_timer) → ram ≡ with_selected p (with_map p memory a.ram) → IsKeptSo a.system a.inputs (set a.parts.items p new) ram a.untimed a.least a.lent
+stays_kept_with a p own new memory ram kept here keeps stays is =
+    stays_kept a p own new ram kept here keeps stays (ap (λ (m : Memories). m.areas) is) (ap (λ (m : Memories). length m.maps) is ∙ length-set a.ram.maps p memory)
 
 -- with a state of one partition that is changed so, whose memory stays
 pub is_turned : (a : Inside) (sys : SysState) (p : ℕ) (f : PartitionState → PartitionState) (own new : OwnState) → IsKept a → seen a ≡ sys → p < length sys.machine.parts → own ≡ get_or a.parts.items p own

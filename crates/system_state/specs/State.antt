@@ -1,5 +1,5 @@
 -- The state of the whole system as it is kept: the machine, with the state of each partition apart from its memory.
-use Rattle.std.specs.Prelude.{◌≡◌, ℕ, Bool, false, List, [], ◌∷◌, length, map, drop, is_some, slice_index_or, Option, None, Some}
+use Rattle.std.specs.Prelude.{◌≡◌, ℕ, ◌≤◌, Bool, false, List, [], ◌∷◌, length, map, drop, is_some, slice_get, slice_index_or, Option, None, Some}
 use Rattle.std.specs.Bool.{OnTrue}
 use Rattle.std.specs.List.{list_any}
 use Rattle.cyclic_plans.specs.PlanClock.{CyclicClock}
@@ -9,12 +9,14 @@ use Rattle.guest_memory.specs.Memories.{Memories}
 use Rattle.health_monitor.specs.declared.entry.HealthEntry.{HealthEntry}
 use Rattle.loaded_system.specs.System as loaded_system
 use Rattle.sparc_step.specs.Registers.{Registers}
-use Rattle.virt_clocks.specs.Clocks.{PartitionClocks}
+use Rattle.virt_clocks.specs.Clocks.{PartitionClocks, is_due}
+use Rattle.virt_clocks.specs.declared.timer.Timer.{Timer}
 use Rattle.virt_traps.specs.Virtual.{VirtualTraps}
 use Rattle.xm_base.specs.declared.partition.State.{State}
 use Rattle.xm_ports.specs.Channels.{ChannelTable, HeldSample, Shape}
 use Rattle.xm_traces.specs.Ring.{Kept}
 use Rattle.xm_traces.specs.declared.entry.TraceEntry.{TraceEntry}
+use Rattle.machine_model.specs.Lists.{is_number}
 use Rattle.machine_model.specs.Machine.{Machine}
 use Rattle.machine_model.specs.Partition.{PartitionState}
 use Rattle.machine_model.specs.View.{System, part_of}
@@ -93,14 +95,29 @@ kept_so system inputs owns memories channels clock time ticks resets halted = re
 abbrev pub NoneTimed : List OwnState → Type 0
 NoneTimed owns = list_any (λ own. is_timed own.clocks) owns ≡ false
 
+-- a timer is not due before this time
+abbrev pub IsFrom : ℕ → Option Timer → Type 0
+IsFrom least None = Unit {0}
+IsFrom least (Some timer) = least ≤ timer.deadline
+
+-- no state of these has a hardware timer that is due before this time, but for the one of this number
+abbrev pub AreFrom : Option ℕ → ℕ → List OwnState → Type 0
+AreFrom lent least owns = (q : ℕ) (own : OwnState) → slice_get owns q ≡ Some own → is_number lent q ≡ false → IsFrom least own.clocks.hardware_timer
+
+-- no partition of these has a hardware timer that is due at this time, but for the one of this number
+abbrev pub NoneDue : Option ℕ → ℕ → List PartitionState → Type 0
+NoneDue working time parts = (q : ℕ) (ps : PartitionState) → slice_get parts q ≡ Some ps → is_number working q ≡ false → is_due time ps.clocks.hardware_timer ≡ false
+
 -- what is kept of a system: each partition of the configuration has a state, input words, and a memory with its areas. Where it
--- is said that no hardware timer is armed, none is
-pub record IsKeptSo (system : loaded_system.System) (inputs : List (List ℕ)) (owns : List OwnState) (memories : Memories) (untimed : Bool) : Type 0 where
+-- is said that no hardware timer is armed, none is; and none is due before the time that is kept, but for that of the partition whose
+-- state was lent last
+pub record IsKeptSo (system : loaded_system.System) (inputs : List (List ℕ)) (owns : List OwnState) (memories : Memories) (untimed : Bool) (least : ℕ) (lent : Option ℕ) : Type 0 where
   pub counted : length owns ≡ length system.conf.parts
   pub given : length inputs ≡ length system.conf.parts
   pub areas : memories.areas ≡ map memory_areas system.conf.parts
   pub held : length memories.maps ≡ length system.conf.parts
   pub unarmed : OnTrue untimed (NoneTimed owns)
+  pub due : AreFrom lent least owns
 
 -- the memory of a partition, its areas, and all of its input words
 abbrev pub memory_of : ℕ → Machine → Memory

@@ -1,11 +1,12 @@
 //! The whole system as it runs: the state of each partition, and how a hypercall answers.
 //! A `Sys` means a `Machine` of `machine_model` and the shapes of its channels. Nothing says that it is known that no
-//! timer is armed: `engine::is_known_untimed` may answer no for any system; then the partitions are looked at, which is
-//! only slower.
+//! timer is armed or due: `engine::is_known_untimed` and `engine::is_known_undue` may answer no for any system; then the
+//! partitions are looked at, which is only slower.
 #![tactic(auto)]
 
 pub mod answering;
 mod call_site;
+mod deadlines;
 mod flipping;
 mod gone;
 mod inputs;

@@ -4,7 +4,7 @@ ghost use Rattle.std.specs.Prelude.{◌≡◌, ◌%◌, ◌<◌, ◌||◌, IfOk}
 ghost use Rattle.std.specs.List.{list_any};
 ghost use Rattle.virt_clocks.specs.Clocks.{looked_at};
 ghost use Rattle.system_state.specs.lemmas.StateTerms.{booted_own};
-ghost use Rattle.system_state.specs.State.{is_timed};
+ghost use Rattle.system_state.specs.State.{IsFrom, is_timed};
 ghost use Rattle.system_state.specs.lemmas.TurningTerms.{HasHeard, HasMet};
 
 use crate::interrupts::{EXECUTION_TIMER, HARDWARE_TIMER, SLOT_START};
@@ -104,6 +104,16 @@ impl PartState {
         match self.state {
             State::Ready | State::Idle | State::Suspended => self.virt.raise(interrupt),
             State::Halted => {}
+        }
+    }
+
+    /// The deadline of its timer on the hardware clock, or the last time where it is not armed.
+    pub(crate) fn deadline(&self) -> u64
+        ensures { IsFrom result self.now.clocks.hardware_timer }
+    {
+        match self.clocks.timer(Clock::Hw) {
+            Some(timer) => timer.deadline,
+            None => u64::MAX,
         }
     }
 

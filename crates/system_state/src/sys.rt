@@ -23,6 +23,7 @@ ghost use Rattle.virt_traps.specs.Stepping.{stepped};
 ghost use Rattle.system_state.specs.Stepping.{IsGone, after_flush, after_return, delivered_to, flushed_in, returned_in, with_turned};
 ghost use Rattle.xm_conf.specs.Limits.{most_parts};
 
+use crate::deadlines::least_but;
 use crate::gone::Gone;
 use crate::inputs::Inputs;
 use crate::own_state::PartState;
@@ -63,6 +64,10 @@ pub struct Sys {
     halted: bool,
     // Where it is set, no hardware timer is armed; where it is not, one may be. It is no part of what the system means.
     untimed: bool,
+    // No hardware timer is due before this time, but for that of the partition whose state was lent last, or that worked. Neither is a
+    // part of what the system means.
+    least: u64,
+    lent: Option<PartId>,
     // A message on its way to a channel. It is no part of what the system means.
     message: [u8; MESSAGE_BYTES],
 }
@@ -78,7 +83,7 @@ impl Model for Sys {
 
     ghost view = { λ a. kept_so a.system a.inputs a.parts.items a.ram a.channels a.plan_clock a.time a.ticks a.resets a.halted };
 
-    ghost invariant = { λ a. IsKeptSo a.system a.inputs a.parts.items a.ram a.untimed };
+    ghost invariant = { λ a. IsKeptSo a.system a.inputs a.parts.items a.ram a.untimed a.least a.lent };
 }
 
 impl Sys {
@@ -108,6 +113,8 @@ impl Sys {
             resets: 0,
             halted: false,
             untimed: true,
+            least: u64::MAX,
+            lent: None,
             message: [0; MESSAGE_BYTES],
         })
     }
@@ -163,6 +170,8 @@ impl Sys {
         ensures value { part_at p self.old.machine ≡ with_memory result.now (memory_of p self.old.machine) (input_words_of p self.old.machine) }
     {
         self.untimed = false;
+        self.least = least_but(&self.parts, self.lent, self.least, Some(p));
+        self.lent = Some(p);
         &mut self.parts[usize::from(p)]
     }
 

@@ -1,9 +1,9 @@
 -- A partition whose hardware timer is not armed rests as it is.
-use Rattle.std.proofs.Common.{◌≡◌, ℕ, suc, arith, length, Bool, true, false, ◌||◌, List, [], ◌∷◌, refl, sym, ap, ◌∙◌, if◌then◌else◌}
-use Rattle.std.specs.Prelude.{Option, None, Some, is_some}
+use Rattle.std.proofs.Common.{◌≡◌, ℕ, zero, suc, arith, length, Bool, true, false, ◌||◌, List, [], ◌∷◌, refl, sym, ap, ◌∙◌, if◌then◌else◌}
+use Rattle.std.specs.Prelude.{Option, None, Some, is_some, slice_get}
 use Rattle.virt_clocks.specs.Clocks.{is_due, looked_at}
 use Rattle.virt_clocks.specs.declared.timer.Timer.{Timer}
-use Rattle.system_state.specs.State.{SysState, any_timed, is_timed, with_machine}
+use Rattle.system_state.specs.State.{NoneDue, SysState, any_timed, is_timed, with_machine}
 use Rattle.tick_steps.specs.lemmas.PartLemmas.{part_put_back}
 use Rattle.machine_model.specs.Lists.{each, is_number}
 use Rattle.machine_model.specs.Partition.{PartitionState, hardware_looked_at, hardware_timer, is_halted, raised_if, rested}
@@ -66,6 +66,49 @@ pub all_unarmed : (working : Option ℕ) (time : ℕ) (sys : SysState) → any_t
 all_unarmed working time sys none =
     ap (λ (parts : List PartitionState). with_machine (record sys.machine { parts = parts }) sys)
     (sym (each_unarmed (λ q ps. if is_number working q then ps else rested time ps) sys.machine.parts (λ q ps. rested_in working q time ps) none))
+
+-- a timer that is not due stays as it is
+stays_undue : (time : ℕ) (timer : Option Timer) → is_due time timer ≡ false → looked_at time timer ≡ timer
+unfolding looked_at
+stays_undue time None undue = refl
+stays_undue time (Some timer) undue = rw undue refl
+
+-- so does a partition whose timer is looked at then
+look_at_undue : (time : ℕ) (ps : PartitionState) → is_due time ps.clocks.hardware_timer ≡ false → hardware_looked_at time ps ≡ ps
+unfolding hardware_looked_at
+look_at_undue time ps undue =
+    ap (λ (due : Bool). record ps { traps = raised_if due hardware_timer ps.traps; clocks = record ps.clocks { hardware_timer = looked_at time ps.clocks.hardware_timer } }) undue
+    ∙ ap (λ (timer : Option Timer). record ps { clocks = record ps.clocks { hardware_timer = timer } }) (stays_undue time ps.clocks.hardware_timer undue)
+
+-- and one that rests
+rested_undue : (time : ℕ) (ps : PartitionState) → is_due time ps.clocks.hardware_timer ≡ false → rested time ps ≡ ps
+unfolding rested
+rested_undue time ps undue = ap (λ (looked : PartitionState). if is_halted ps.state then ps else looked) (look_at_undue time ps undue) ∙ at (is_halted ps.state)
+  where
+    at : (halted : Bool) → (if halted then ps else ps) ≡ ps
+    at true = refl
+    at false = refl
+
+-- one of a pass
+undue_in : (working : Option ℕ) (q time : ℕ) (ps : PartitionState) → (is_number working q ≡ false → is_due time ps.clocks.hardware_timer ≡ false) → (if is_number working q then ps else rested time ps) ≡ ps
+undue_in working q time ps undue = at (is_number working q) refl
+  where
+    at : (b : Bool) → is_number working q ≡ b → (if b then ps else rested time ps) ≡ ps
+    at true is = refl
+    at false other = rested_undue time ps (undue other)
+
+-- a pass that leaves each partition as it is
+each_same : (f : ℕ → PartitionState → PartitionState) (parts : List PartitionState) → ((q : ℕ) (ps : PartitionState) → slice_get parts q ≡ Some ps → f q ps ≡ ps) → each f parts ≡ parts
+each_same f [] same = refl
+each_same f (ps ∷ parts) same =
+    ap (λ (first : PartitionState). first ∷ each (λ k. f (suc k)) parts) (same zero ps refl)
+    ∙ ap (λ (others : List PartitionState). ps ∷ others) (each_same (λ k. f (suc k)) parts (λ q. same (suc q)))
+
+-- the rest of all where no timer is due but that of the one that works
+pub all_undue : (working : Option ℕ) (time : ℕ) (sys : SysState) → NoneDue working time sys.machine.parts → sys ≡ with_machine (rest_but working time sys.machine) sys
+all_undue working time sys none =
+    ap (λ (parts : List PartitionState). with_machine (record sys.machine { parts = parts }) sys)
+    (sym (each_same (λ q ps. if is_number working q then ps else rested time ps) sys.machine.parts (λ q ps is. undue_in working q time ps (none q ps is))))
 
 -- the rest of all where there is no other
 each_alone : (time : ℕ) (parts : List PartitionState) → length parts ≡ 1 → each (λ q ps. if is_number (Some 0) q then ps else rested time ps) parts ≡ parts

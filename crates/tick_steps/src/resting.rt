@@ -12,8 +12,8 @@ use system_state::{Sys, engine};
 use virt_clocks::{Clock, Timer};
 use xm_base::{PartId, State};
 
-/// All partitions rest at this time, but for one where it is named. Where there is no other, or no hardware timer is armed, that leaves all
-/// as they are.
+/// All partitions rest at this time, but for one where it is named. Where there is no other, or no hardware timer of the others is due, that
+/// leaves all as they are.
 #[inline(always)]
 pub fn rest(sys: &mut Sys, working: Option<PartId>, time: u64)
     // All partitions, or all but one, rest in this tick.
@@ -25,6 +25,17 @@ pub fn rest(sys: &mut Sys, working: Option<PartId>, time: u64)
     if is_alone(sys, working) {
         return;
     }
+    if engine::is_known_undue(sys, working, time) {
+        return;
+    }
+    rest_timed(sys, working, time);
+    engine::look_at_deadlines(sys, working);
+}
+
+// The same where a timer may be due.
+fn rest_timed(sys: &mut Sys, working: Option<PartId>, time: u64)
+    ensures { sys.new ≡ with_machine (rest_but working time sys.old.machine) sys.old }
+{
     if engine::is_timed(sys) {
         rest_each(sys, working, time);
     }

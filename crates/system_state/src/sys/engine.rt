@@ -6,10 +6,11 @@ ghost use Rattle.machine_model.specs.Caller.{with_answer};
 ghost use Rattle.machine_model.specs.LocalTick.{clocked, with_interrupts};
 ghost use Rattle.machine_model.specs.Traffic.{interrupted};
 ghost use Rattle.span_model.specs.Meeting.{awake};
-ghost use Rattle.system_state.specs.State.{any_timed, part_at, with_machine, with_part};
+ghost use Rattle.system_state.specs.State.{NoneDue, any_timed, part_at, with_machine, with_part};
 ghost use Rattle.system_state.specs.Turning.{counted_on};
 
 use crate::answering::OUT_0;
+use crate::deadlines::{least_but, least_deadline};
 use crate::own_state::any_timed;
 use crate::sys::Sys;
 use xm_base::{PartId, State};
@@ -34,6 +35,28 @@ pub fn is_timed(sys: &mut Sys) -> bool
     }
     sys.untimed = true;
     false
+}
+
+/// Whether it is known, without a look at the partitions, that no hardware timer is due but for that of the partition that works.
+#[inline(always)]
+pub fn is_known_undue(sys: &mut Sys, working: Option<PartId>, time: u64) -> bool
+    // Where it is known without a look that no timer of the others is due, none is; asking changes nothing.
+    ensures due { OnTrue result (NoneDue working time sys.old.machine.parts) }
+    ensures unchanged { sys.new ≡ sys.old }
+{
+    sys.least = least_but(&sys.parts, sys.lent, sys.least, working);
+    sys.lent = working;
+    time < sys.least
+}
+
+/// Looks when the first hardware timer is due but for that of the partition that works. Until then that stays known.
+#[inline(never)]
+pub fn look_at_deadlines(sys: &mut Sys, working: Option<PartId>)
+    // The look changes nothing.
+    ensures { sys.new ≡ sys.old }
+{
+    sys.least = least_deadline(&sys.parts, working);
+    sys.lent = working;
 }
 
 /// The interrupts of a tick become pending at a partition: the start of a slot, and those of its timers that are due.

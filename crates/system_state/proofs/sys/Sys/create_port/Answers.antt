@@ -34,4 +34,4 @@ pub invariant_of-self : goal.invariant_of-self
 invariant_of-self c =
     let here = rw (c.from.ensures, ← c.behind-self.view_is) at c.index_mut.ensures.value in
     let own : OwnState = record (the_view c.behind-self.inside) { ports = c.create.new.self } in
-    rw c.from.ensures (stays_kept c.self.inside c.args.p (the_view c.behind-self.inside) own c.self.inside.ram c.self.invariant here (λ unarmed. unarmed) refl refl)
+    rw c.from.ensures (stays_kept c.self.inside c.args.p (the_view c.behind-self.inside) own c.self.inside.ram c.self.invariant here (λ unarmed. unarmed) (λ due. due) refl refl)

@@ -29,4 +29,4 @@ pub invariant_of-self : goal.invariant_of-self
 invariant_of-self c =
     let here = rw (c.from.ensures, ← c.own.view_is) at c.index_mut-own.ensures.value in
     let own : OwnState = record (the_view c.own.inside) { core = c.deliver_part.new.core; virt = c.deliver_part.new.virt } in
-    rw c.from.ensures (stays_kept_with c.self.inside c.args.p (the_view c.own.inside) own _ c.deliver_part.new.ram c.self.invariant here (λ unarmed. unarmed) c.deliver_part.ensures.memory)
+    rw c.from.ensures (stays_kept_with c.self.inside c.args.p (the_view c.own.inside) own _ c.deliver_part.new.ram c.self.invariant here (λ unarmed. unarmed) (λ due. due) c.deliver_part.ensures.memory)

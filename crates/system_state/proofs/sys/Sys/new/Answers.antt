@@ -8,4 +8,4 @@ returns-clause-machine c =
 
 pub invariant_of-result : goal.invariant_of-result
 invariant_of-result c =
-    boots_kept c.args.system c.args.inputs c.in_ok-parts.parts.items c.in_ok-ram.ram c.conf.ensures.system c.requires c.in_ok-parts.ensures c.in_ok-ram.ensures.areas c.in_ok-ram.ensures.maps
+    boots_kept c.args.system c.args.inputs c.in_ok-parts.parts.items c.in_ok-ram.ram _ c.conf.ensures.system c.requires c.in_ok-parts.ensures c.in_ok-ram.ensures.areas c.in_ok-ram.ensures.maps

@@ -31,5 +31,5 @@ invariant_of-self c =
     let here = rw (c.from.ensures, ← c.own.view_is) at c.index_mut-own.ensures.value in
     let own : OwnState = record (the_view c.own.inside) { core = c.return_part.new.core; virt = c.return_part.new.virt } in
     rw c.from.ensures
-    (stays_kept c.self.inside c.args.p (the_view c.own.inside) own c.return_part.new.ram c.self.invariant here (λ unarmed. unarmed)
+    (stays_kept c.self.inside c.args.p (the_view c.own.inside) own c.return_part.new.ram c.self.invariant here (λ unarmed. unarmed) (λ due. due)
     (ap (λ (m : Memories). m.areas) c.return_part.ensures.memory) (ap (λ (m : Memories). length m.maps) c.return_part.ensures.memory))

@@ -54,4 +54,4 @@ pub invariant_of-self : goal.invariant_of-self
 invariant_of-self c =
     let here = rw (c.from.ensures, ← c.behind-self.view_is) at c.index_mut.ensures.value in
     let own : OwnState = record (the_view c.behind-self.inside) { core = c.step_part.new.core } in
-    rw c.from.ensures (stays_kept_with c.self.inside c.args.p (the_view c.behind-self.inside) own _ c.step_part.new.ram c.self.invariant here (λ unarmed. unarmed) c.step_part.ensures.others)
+    rw c.from.ensures (stays_kept_with c.self.inside c.args.p (the_view c.behind-self.inside) own _ c.step_part.new.ram c.self.invariant here (λ unarmed. unarmed) (λ due. due) c.step_part.ensures.others)

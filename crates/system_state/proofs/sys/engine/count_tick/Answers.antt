@@ -1,9 +1,9 @@
-use Rattle.std.proofs.Common.{arith, ap, get_or, refl, [], ◌∙◌}
+use Rattle.std.proofs.Common.{arith, ap, get_or, refl, subst, sym, [], ◌∙◌}
 use Rattle.guest_memory.specs.Memories.{map_at}
 use Rattle.machine_model.specs.LocalTick.{clocked}
 use Rattle.machine_model.specs.Partition.{PartitionState}
 use Rattle.virt_clocks.specs.Clocks.{PartitionClocks}
-use Rattle.system_state.specs.State.{OwnState, is_timed, with_memory}
+use Rattle.system_state.specs.State.{IsFrom, OwnState, is_timed, with_memory}
 use Rattle.system_state.specs.lemmas.StateLemmas.{part_set}
 use Rattle.system_state.specs.contracts.own_state.PartState.{the_view}
 use Rattle.system_state.proofs.InsideLemmas.{is_kept, is_part, is_turned, stays_kept}
@@ -24,7 +24,8 @@ invariant_of-sys c =
     let own : OwnState = record (the_view c.behind-sys.inside) { clocks = c.pass.new.self } in
     rw c.from.ensures
     (stays_kept c.sys.inside c.args.p (the_view c.behind-sys.inside) own c.sys.inside.ram c.sys.invariant here
-    (λ unarmed. ap (λ (clocks : PartitionClocks). is_timed clocks) c.pass.ensures.value ∙ unarmed) refl refl)
+    (λ unarmed. ap (λ (clocks : PartitionClocks). is_timed clocks) c.pass.ensures.value ∙ unarmed)
+    (λ due. subst (λ (clocks : PartitionClocks). IsFrom c.sys.inside.least clocks.hardware_timer) (sym c.pass.ensures.value) due) refl refl)
 
 pub returns-clause-value : goal.returns-clause-value
 unfolding clocked

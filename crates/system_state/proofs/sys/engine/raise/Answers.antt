@@ -1,8 +1,8 @@
-use Rattle.std.proofs.Common.{arith, ap, get_or, refl, Some, [], ◌∙◌}
+use Rattle.std.proofs.Common.{arith, ap, get_or, refl, subst, sym, Some, [], ◌∙◌}
 use Rattle.guest_memory.specs.Memories.{map_at}
 use Rattle.machine_model.specs.Traffic.{interrupted}
 use Rattle.virt_clocks.specs.Clocks.{PartitionClocks}
-use Rattle.system_state.specs.State.{is_timed}
+use Rattle.system_state.specs.State.{IsFrom, is_timed}
 use Rattle.system_state.proofs.InsideLemmas.{is_kept, is_turned, stays_kept}
 use Rattle.system_state.proofs.sys.engine.raise.Goals as goal
 
@@ -14,7 +14,8 @@ invariant_of-sys c =
     let here = rw c.from.ensures at c.index_mut.ensures.value in
     rw c.from.ensures
     (stays_kept c.sys.inside c.args.p c.index_mut.result.now c.raise.new.self c.sys.inside.ram c.sys.invariant here
-    (λ unarmed. ap (λ (clocks : PartitionClocks). is_timed clocks) c.raise.ensures.clocks ∙ unarmed) refl refl)
+    (λ unarmed. ap (λ (clocks : PartitionClocks). is_timed clocks) c.raise.ensures.clocks ∙ unarmed)
+    (λ due. subst (λ (clocks : PartitionClocks). IsFrom c.sys.inside.least clocks.hardware_timer) (sym c.raise.ensures.clocks) due) refl refl)
 
 pub returns : goal.returns
 returns c =

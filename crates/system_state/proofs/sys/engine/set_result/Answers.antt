@@ -14,7 +14,7 @@ pub invariant_of-sys : goal.invariant_of-sys
 invariant_of-sys c =
     let here = rw (c.from.ensures, ← c.behind-sys.view_is) at c.index_mut.ensures.value in
     let own : OwnState = record (the_view c.behind-sys.inside) { core = c.set.new.self } in
-    rw c.from.ensures (stays_kept c.sys.inside c.args.p (the_view c.behind-sys.inside) own c.sys.inside.ram c.sys.invariant here (λ unarmed. unarmed) refl refl)
+    rw c.from.ensures (stays_kept c.sys.inside c.args.p (the_view c.behind-sys.inside) own c.sys.inside.ram c.sys.invariant here (λ unarmed. unarmed) (λ due. due) refl refl)
 
 pub returns : goal.returns
 unfolding with_answer
