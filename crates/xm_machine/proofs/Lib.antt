@@ -10,4 +10,5 @@ pub mod RangeLemmas
 pub mod SaidLemmas
 pub mod SpanLemmas
 pub mod StretchLemmas
+pub mod UpsetLemmas
 pub mod WholeLemmas

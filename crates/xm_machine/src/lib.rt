@@ -10,6 +10,7 @@ mod report;
 mod run;
 mod said;
 mod stretch;
+mod upset;
 
 pub use alone_span::{AloneFault, AloneSpan};
 pub use cue_scripts::{CueSlot, WholeEvent};

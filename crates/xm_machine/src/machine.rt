@@ -1,6 +1,6 @@
 //! The machine: it boots, and does its ticks one by one.
 
-ghost use Rattle.std.specs.Prelude.{◌≡◌, ◌+◌, ◌-◌, ◌*◌, ◌<◌, ◌≤◌, ◌∷◌, ◌++◌, [], false, All, IfOk, length, replicate};
+ghost use Rattle.std.specs.Prelude.{◌≡◌, ◌+◌, ◌-◌, ◌*◌, ◌<◌, ◌≤◌, ◌∷◌, ◌++◌, [], false, true, All, IfOk, length, replicate};
 ghost use Rattle.cyclic_plans.specs.PlanClock.{started};
 ghost use Rattle.system_state.specs.State.{with_inputs};
 ghost use Rattle.core_files.specs.Length.{core_length_of};
@@ -11,6 +11,8 @@ ghost use Rattle.machine_model.specs.Partition.{reset};
 ghost use Rattle.machine_model.specs.Emission.{AllReset};
 ghost use Rattle.machine_model.specs.View.{view_of};
 ghost use Rattle.span_model.specs.Passes.{evented, part_at, with_part};
+ghost use Rattle.upset_model.specs.Places.{is_place, upset_of};
+ghost use Rattle.upset_model.specs.Upsets.{ready};
 ghost use Rattle.uart_board.specs.Heard.{IsHeard};
 ghost use Rattle.replay_model.specs.Step.{IsOfSystem};
 ghost use Rattle.cue_scripts.specs.Entries.{bare_cue};
@@ -39,6 +41,7 @@ use crate::report::{end_parts, print_alone, print_tick};
 use crate::run::Ran;
 use crate::said::Said;
 use crate::stretch::{Stepped, ends_stretch, stepped_by};
+use crate::upset::strike;
 use core_files::{core_into, core_length};
 use cyclic_plans::{Here, PlanClock};
 use hypercalls::{Inputs, Sys};
@@ -53,6 +56,7 @@ use std::alloc::Global;
 use std::marker::Model;
 use tick_steps::{Cue, Lines, reset};
 use uart_board::{Board, ViewBoard};
+use upset_model::UpsetLine;
 use xm_base::{Memory, Mode, PartId, TICKS, proof};
 use xm_outside::Sink;
 use xm_ports::Channels;
@@ -467,6 +471,22 @@ impl Machine {
         reset_all(&mut self.sys, mode);
         *self.sys.plan_clock_mut() = PlanClock::start();
         self.sys.set_now(0);
+    }
+
+    /// The upset of a line strikes, unless the hypervisor has halted: the bit of the place of the partition flips.
+    pub fn upset(&mut self, line: UpsetLine)
+        // Called for a partition that exists, and for a bit that it has and where it may be struck.
+        requires partition { line.part < length self.old.state.parts }
+        requires place { is_place (view_of self.old.state.system line.part) line.place line.bit ≡ true }
+        // The machine is as a tick finds it before which this upset strikes: the bit flips, and nothing else changes; one
+        // that has halted is not struck.
+        ensures state { self.new.state ≡ ready (upset_of line ∷ []) self.old.state }
+        // An upset keeps what the last tick left to be asked for,
+        ensures kept { self.new.kept ≡ self.old.kept }
+        // and the console bytes of the last ticks in isolation.
+        ensures said { self.new.said ≡ self.old.said }
+    {
+        strike(&mut self.sys, line);
     }
 
     // At most this many ticks, up to the first that emits something. Its lines go out, and its console bytes go to their UART.
