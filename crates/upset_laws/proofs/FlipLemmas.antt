@@ -1,14 +1,13 @@
 -- Flips of bits at places.
-use Rattle.std.proofs.Common.{◌≡◌, ℕ, zero, suc, ◌<◌, ◌≤◌, ◌+◌, ◌%◌, ◌^◌, Bool, true, false, List, [], ◌∷◌, length, Option, None, Some, refl, sym, ap, ◌∙◌, arith, subst}
-use Rattle.std.specs.Prelude.{◌-◌, ◌==◌, if◌then◌else◌, bit_xor, slice_index, unwrap_or}
+use Rattle.std.proofs.Common.{◌≡◌, ℕ, ◌<◌, ◌≤◌, ◌+◌, ◌%◌, ◌^◌, Bool, true, false, List, [], ◌∷◌, length, Option, None, Some, refl, sym, ap, ◌∙◌, arith, subst}
+use Rattle.std.specs.Prelude.{◌==◌, if◌then◌else◌, bit_xor, slice_index, unwrap_or}
 use Rattle.std.specs.List.{AllByRecursion}
 use Rattle.std.specs.Option.{ForSome}
-use Rattle.std.proofs.Math.Nat.{mul-mod_left}
 use Rattle.std.proofs.Math.Pow.{pow-lt}
 use Rattle.std.proofs.lemmas.Bool.Decides.{nat_tests}
-use Rattle.std.proofs.lemmas.Nat.{pow-add, xor_lt, xor_mod}
+use Rattle.std.proofs.lemmas.Nat.{xor_lt}
 use Rattle.std.proofs.lemmas.Option.{same_Some}
-use Rattle.std.proofs.lemmas.List.{get_or-set_other, get_or-set_same, length-set}
+use Rattle.std.proofs.lemmas.List.{get_or-set_other, get_or-set_same}
 use Rattle.guest_bus.specs.Memory.{byte_at}
 use Rattle.guest_bus.specs.lemmas.MemoryLemmas.{get-insert_other, get-insert_same}
 use Rattle.sparc_step.specs.Registers.{AreRegisters, Registers}
@@ -28,6 +27,8 @@ use Rattle.upset_model.specs.declared.place.Place.{Place}
 use Rattle.upset_model.specs.declared.place.Place.TheVariants.{Conditions, ExecutionDeadline, Global, HardwareDeadline, Mask, MemoryByte, Npc, Pc, Pending, TrapBase, Windowed, YRegister}
 use Rattle.upset_laws.specs.UpsetLaws.{TwoUpsetRuns}
 use Rattle.upset_model.specs.Upsets.{own_strikes, strikes_on}
+use Rattle.upset_model.specs.lemmas.BitLemmas.{aligned, conditions, counted, on_page, zero_stays}
+use Rattle.upset_model.specs.lemmas.FactLemmas.{facts_stay}
 
 pub strikes_by_own_lines : StrikesByOwnLines
 strikes_by_own_lines p [] k = refl
@@ -52,40 +53,7 @@ two_struck_runs law lines one others other p count fewer below alike = law (sche
 })
 
 pub flips_keep_facts : FlipsKeepFacts
-flips_keep_facts view ticks halts (Global n) bit ps f = record { traces = f.traces; health = f.health; execution = f.execution; loads = f.loads; inputs = f.inputs; made = f.made }
-flips_keep_facts view ticks halts (Windowed n) bit ps f = record { traces = f.traces; health = f.health; execution = f.execution; loads = f.loads; inputs = f.inputs; made = f.made }
-flips_keep_facts view ticks halts Pc bit ps f = record { traces = f.traces; health = f.health; execution = f.execution; loads = f.loads; inputs = f.inputs; made = f.made }
-flips_keep_facts view ticks halts Npc bit ps f = record { traces = f.traces; health = f.health; execution = f.execution; loads = f.loads; inputs = f.inputs; made = f.made }
-flips_keep_facts view ticks halts YRegister bit ps f = record { traces = f.traces; health = f.health; execution = f.execution; loads = f.loads; inputs = f.inputs; made = f.made }
-flips_keep_facts view ticks halts Conditions bit ps f = record { traces = f.traces; health = f.health; execution = f.execution; loads = f.loads; inputs = f.inputs; made = f.made }
-flips_keep_facts view ticks halts HardwareDeadline bit ps f = record { traces = f.traces; health = f.health; execution = f.execution; loads = f.loads; inputs = f.inputs; made = f.made }
-flips_keep_facts view ticks halts ExecutionDeadline bit ps f = record { traces = f.traces; health = f.health; execution = f.execution; loads = f.loads; inputs = f.inputs; made = f.made }
-flips_keep_facts view ticks halts TrapBase bit ps f = record { traces = f.traces; health = f.health; execution = f.execution; loads = f.loads; inputs = f.inputs; made = f.made }
-flips_keep_facts view ticks halts Mask bit ps f = record { traces = f.traces; health = f.health; execution = f.execution; loads = f.loads; inputs = f.inputs; made = f.made }
-flips_keep_facts view ticks halts Pending bit ps f = record { traces = f.traces; health = f.health; execution = f.execution; loads = f.loads; inputs = f.inputs; made = f.made }
-flips_keep_facts view ticks halts (MemoryByte address) bit ps f = record { traces = f.traces; health = f.health; execution = f.execution; loads = f.loads; inputs = f.inputs; made = f.made }
-
--- a power of two of at least 4
-power_mod : (bit : ℕ) → (2 ≤ bit) → 2 ^ bit % 4 ≡ 0
-power_mod zero at_least = absurd (omega (arith, at_least))
-power_mod (suc zero) at_least = absurd (omega (arith, at_least))
-power_mod (suc (suc k)) at_least = omega arith
-
-aligned : (bit n : ℕ) → (2 ≤ bit) → n % 4 ≡ 0 → flipped bit n % 4 ≡ 0
-aligned bit n at_least zeros = xor_mod n (2 ^ bit) 2 ∙ ap (λ m. bit_xor m (2 ^ bit % 4)) zeros ∙ power_mod bit at_least
-
-conditions : (bit n : ℕ) → bit < 4 → n < 16 → flipped bit n < 16
-conditions zero n below word = xor_lt 4 n 1 word (omega arith)
-conditions (suc zero) n below word = xor_lt 4 n 2 word (omega arith)
-conditions (suc (suc zero)) n below word = xor_lt 4 n 4 word (omega arith)
-conditions (suc (suc (suc zero))) n below word = xor_lt 4 n 8 word (omega arith)
-conditions (suc (suc (suc (suc k)))) n below word = absurd (omega (arith, below))
-
-zero_stays : (n bit : ℕ) (words : List ℕ) → (1 ≤ n) → slice_index words 0 ≡ 0 → slice_index (flipped_at n bit words) 0 ≡ 0
-zero_stays n bit words some is = get_or-set_other words n 0 (flipped bit (slice_index words n)) 0 (λ same. absurd (omega (arith, same, some))) ∙ is
-
-counted : (n bit : ℕ) (words : List ℕ) → length (flipped_at n bit words) ≡ length words
-counted n bit words = length-set words n (flipped bit (slice_index words n))
+flips_keep_facts = facts_stay
 
 -- what holds of the registers holds with other counters, another Y and other conditions
 others_keep : (r : Registers) (pc npc y icc : ℕ) → pc % 4 ≡ 0 → npc % 4 ≡ 0 → icc < 16 → AreRegisters r → AreRegisters (record r { pc = pc; npc = npc; y = y; icc = icc })
@@ -218,13 +186,6 @@ pub flips_stay_in : FlipsStayIn
 flips_stay_in view place bit ps here f below =
     subst (λ n. n < 2 ^ place_bits place) (sym (flips_its_place view place bit ps here f))
     (xor_lt (place_bits place) (place_value place ps) (2 ^ bit) below (pow-lt (in_width view place bit here)))
-
--- the base of the table stays a multiple of 4096
-power_page : (bit : ℕ) → (12 ≤ bit) → 2 ^ bit % 4096 ≡ 0
-power_page bit at_least = ap (λ n. 2 ^ n % 4096) (let e : bit ≡ (bit - 12) + 12 = omega (arith, at_least) in e) ∙ ap (λ n. n % 4096) (pow-add 2 (bit - 12) 12) ∙ mul-mod_left (2 ^ (bit - 12)) 4096
-
-on_page : (bit n : ℕ) → (12 ≤ bit) → n % 4096 ≡ 0 → flipped bit n % 4096 ≡ 0
-on_page bit n at_least zeros = xor_mod n (2 ^ bit) 12 ∙ ap (λ m. bit_xor m (2 ^ bit % 4096)) zeros ∙ power_page bit at_least
 
 pub flips_keep_traps : FlipsKeepTraps
 flips_keep_traps view (Global n) bit ps here f = f
