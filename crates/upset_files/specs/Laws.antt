@@ -1,0 +1,97 @@
+-- The laws of files of upsets.
+use Rattle.std.specs.Prelude.{◌≡◌, ℕ, ◌+◌, ◌<◌, ◌≤◌, ◌^◌, ◌↔◌, ◌⊎◌, ◌&&◌, true, List, [], ◌∷◌, ◌++◌, Some, length, Ok, Err}
+use Rattle.std.specs.List.{AllByRecursion}
+use Rattle.xm_conf.specs.Configuration.{Conf}
+use Rattle.machine_model.specs.View.{System, view_of}
+use Rattle.upset_model.specs.Places.{is_place}
+use Rattle.upset_files.specs.Fits.{AllFit, AreUpsetsOf, FitsRun, is_bit_of, is_place_of, areas_of_part}
+use Rattle.upset_files.specs.Reading.{fitted_line, place_spelled, upsets_read}
+use Rattle.upset_files.specs.Spelling.{place_text, upsets_text}
+use Rattle.upset_files.specs.declared.fault.UpsetCause.{UpsetCause}
+use Rattle.upset_files.specs.declared.fault.UpsetCause.TheVariants.{TooMany}
+use Rattle.upset_files.specs.declared.fault.UpsetFault.TheVariants as fault
+use Rattle.upset_files.specs.declared.reading.TheConstants.{UPSETS}
+use Rattle.upset_model.specs.declared.place.Place.{Place}
+use Rattle.upset_model.specs.declared.place.Place.TheVariants.{Conditions, ExecutionDeadline, Global, HardwareDeadline, Mask, MemoryByte, Npc, Pc, Pending, TrapBase, Windowed, YRegister}
+use Rattle.upset_model.specs.declared.place.UpsetLine.{UpsetLine}
+
+-- a place that has a spelling: the registers g1 to g7 and w0 to w127, those with a name, and a byte with an address of 32 bits
+abbrev pub IsSpelledPlace : Place → Type 0
+IsSpelledPlace (Global n) = (1 ≤ n) × (n < 8)
+IsSpelledPlace (Windowed n) = n < 128
+IsSpelledPlace Pc = Unit {0}
+IsSpelledPlace Npc = Unit {0}
+IsSpelledPlace YRegister = Unit {0}
+IsSpelledPlace Conditions = Unit {0}
+IsSpelledPlace HardwareDeadline = Unit {0}
+IsSpelledPlace ExecutionDeadline = Unit {0}
+IsSpelledPlace TrapBase = Unit {0}
+IsSpelledPlace Mask = Unit {0}
+IsSpelledPlace Pending = Unit {0}
+IsSpelledPlace (MemoryByte address) = address < 2 ^ 32
+
+-- a line that has a spelling: its place has one, and its numbers have 64 bits
+pub record IsSpelledLine (line : UpsetLine) : Type 0 where
+  pub tick : line.tick < 2 ^ 64
+  pub part : line.part < 2 ^ 64
+  pub place : IsSpelledPlace line.place
+  pub bit : line.bit < 2 ^ 64
+
+-- a word is a place exactly where it is its spelling
+abbrev pub PlacesAreSpelled : Type 0
+PlacesAreSpelled = (word : List ℕ) (place : Place) → (place_spelled word ≡ Some place) ↔ (IsSpelledPlace place × (word ≡ place_text place))
+
+-- two lists of lines that are spelled alike are equal
+abbrev pub UpsetsHaveOneSpelling : Type 0
+UpsetsHaveOneSpelling =
+    (one other : List UpsetLine) → AllByRecursion IsSpelledLine one → AllByRecursion IsSpelledLine other
+    → upsets_text one ≡ upsets_text other → one ≡ other
+
+-- the upsets of a text are read, where partitions and ticks can be counted with 64 bits
+abbrev pub UpsetsAreRead : Type 0
+UpsetsAreRead =
+    (conf : Conf) (ticks : ℕ) (text : List ℕ) (lines : List UpsetLine) → length conf.parts ≤ 2 ^ 64 → ticks ≤ 2 ^ 64
+    → AreUpsetsOf conf ticks text lines → upsets_read conf ticks text ≡ Ok lines
+
+-- what is read of a text are its upsets
+abbrev pub ReadUpsetsAreSpelled : Type 0
+ReadUpsetsAreSpelled =
+    (conf : Conf) (ticks : ℕ) (text : List ℕ) (lines : List UpsetLine) → upsets_read conf ticks text ≡ Ok lines → AreUpsetsOf conf ticks text lines
+
+-- a partition of a system may be struck at just the places and bits that fit it
+abbrev pub PlacesAreThose : Type 0
+PlacesAreThose =
+    (system : System) (p : ℕ) (place : Place) (bit : ℕ)
+    → is_place (view_of system p) place bit ≡ (is_place_of (areas_of_part system.conf p) place && is_bit_of place bit)
+
+-- so the places of upsets that fit may be struck
+abbrev pub UpsetsMayStrike : Type 0
+UpsetsMayStrike =
+    (system : System) (ticks before : ℕ) (line : UpsetLine) → FitsRun system.conf ticks before line
+    → is_place (view_of system line.part) line.place line.bit ≡ true
+
+-- the tick of the last line, or this one where there is none
+abbrev pub last_tick : ℕ → List UpsetLine → ℕ
+last_tick before [] = before
+last_tick before (line ∷ lines) = last_tick line.tick lines
+
+-- what is wrong with the line that begins here, after these that fit: there are no more, or it is this
+abbrev pub IsWrongAfter : Conf → ℕ → List UpsetLine → List ℕ → UpsetCause → Type 0
+IsWrongAfter conf ticks lines rest cause =
+    ((length lines ≡ UPSETS) × (cause ≡ TooMany)) ⊎ ((length lines < UPSETS) × (fitted_line conf ticks (last_tick 0 lines) rest ≡ Err cause))
+
+-- a line with this number is the first that is wrong: all before it are spelled and fit, and this is what is wrong with it
+pub record IsFirstWrong (conf : Conf) (ticks : ℕ) (text : List ℕ) (number : ℕ) (cause : UpsetCause) : Type 0 where
+  pub lines : List UpsetLine
+  pub rest : List ℕ
+  pub spelled : text ≡ upsets_text lines ++ rest
+  pub fit : AllFit conf ticks 0 lines
+  pub number_is : number ≡ length lines + 1
+  pub begins : 0 < length rest
+  pub wrong : IsWrongAfter conf ticks lines rest cause
+
+-- a fault is that of the first line that is wrong
+abbrev pub FaultsAreFirst : Type 0
+FaultsAreFirst =
+    (conf : Conf) (ticks : ℕ) (text : List ℕ) (number : ℕ) (cause : UpsetCause) → upsets_read conf ticks text ≡ Err (fault.Line number cause)
+    → IsFirstWrong conf ticks text number cause

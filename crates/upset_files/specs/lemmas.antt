@@ -1,0 +1,2 @@
+pub mod LineTerms
+pub mod NumberTerms
