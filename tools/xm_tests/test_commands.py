@@ -358,19 +358,23 @@ XM ticks = 54000
 no SUSPEND
 XM PLAN 1 times 1
 P1 COLD
+P0 succeeds
+sensor succeeds
 """
 UNMET = [
     ("no HM", "3 found, the first is [8011] P1 HM XM_HM_EV_SPARC_DIVIDE_EXCEPTION 40180184 XM_HM_AC_HALT"),
     ("P2 CON times 8", "7 found"), ("P2 TRACE", "0 found"), ("P1 resets > 0", "resets is 0"), ("P2 ends ready", "ends is idle"),
     ("P0 within 4ms of P1 HM CON sensor*", "after [8011] the first is at [12508], 4497 us later"), ("P7 ends idle", "there is no P7"),
     ("P0 within 1s of P1 HALT CON sensor*", "after [44624] none comes"), ("P0 within 1s of P2 HM CON", "what it is measured from does not come"),
+    ("all succeed", "P2 ends idle"), ("P2 succeeds", "P2 ends idle"), ("P7 succeeds", "there is no P7"),
 ]  # fmt: skip
 BAD_LINES = [
     ("P1", "a kind of line is missing at the end"), ("P1 WHAT", "WHAT is no kind of line: CON, TRACE, HM, PLAN, HALT, SUSPEND, RESUME, COLD, WARM"),
     ("nobody HM", "nobody is no partition: P0, P1 .., XM, with --names SYSTEM also a name of it"), ("P1 within 3 of [0] HM", "3 is no time: 20ms, 500us, 1s"),
     ("P1 CON x times", "a number is missing at the end"), ("P1 CON x at three", "after `at` comes `least` or `most`"), ("P1 ends running", "running is no state in which P1 ends"),
     ("XM resets 0", "XM has no resets at its end"), ('P1 CON "x', "No closing quotation"),
-    ("P1 HALT more", "more does not belong here"), ("XM exec 3", "XM has no exec at its end"), ("P1 plan 1", "P1 has no plan at its end"),
+    ("P1 HALT more", "more does not belong here"), ("all succeed more", "more does not belong here"),
+    ("XM succeeds", "succeeds is no kind of line: CON, TRACE, HM, PLAN, HALT, SUSPEND, RESUME, COLD, WARM"), ("XM exec 3", "XM has no exec at its end"), ("P1 plan 1", "P1 has no plan at its end"),
 ]  # fmt: skip
 
 
@@ -378,9 +382,9 @@ def test_expectations_that_are_met(supervisor: Path) -> None:
     (supervisor / "met").write_text(MET)
     done = xm(supervisor, "expect", "report.txt", "met", "--names", "out/system.xmp", "--junit", "junit.xml")
     assert (done.status, done.err) == (0, "")
-    assert [line for line in done.out.splitlines() if ": met: " not in line] == ["report.txt: 16 met, 0 not met"]
+    assert [line for line in done.out.splitlines() if ": met: " not in line] == ["report.txt: 18 met, 0 not met"]
     suite = ElementTree.parse(supervisor / "junit.xml").getroot().find("testsuite")
-    assert suite is not None and (suite.get("tests"), suite.get("failures")) == ("16", "0")
+    assert suite is not None and (suite.get("tests"), suite.get("failures")) == ("18", "0")
 
 
 @pytest.mark.parametrize("words, reason", UNMET)
@@ -391,6 +395,45 @@ def test_an_expectation_that_is_not_met(supervisor: Path, words: str, reason: st
     assert done.out.splitlines() == [f"unmet:1: not met: {words}: {reason}", "report.txt: 0 met, 1 not met"]
     failure = ElementTree.parse(supervisor / "junit.xml").getroot().find("testsuite/testcase/failure")
     assert failure is not None and failure.get("message") == reason
+
+
+# Two partitions, of which the first has 2 ms of each frame and the second one the next 2 ms.
+ENDS = """\
+SYSTEM parts=2 plans=1 ticks=28000
+{}[16445] P0 HALT
+[18445] P1 HALT
+END P0 halted resets={} exec=40 pc=4010004c
+END P1 halted resets=0 exec=40 pc=4018004c
+END XM running plan=0 clock=28000 ticks=28000
+"""
+ERROR = "[{}] P0 HM XM_HM_EV_PARTITION_ERROR 00000003 XM_HM_AC_{}\n"
+SUCCESSES = [
+    ("", 0, None),
+    (ERROR.format(4400, "IGNORE"), 0, "[4400] P0 HM XM_HM_EV_PARTITION_ERROR 00000003 XM_HM_AC_IGNORE"),
+    (ERROR.format(4400, "PARTITION_WARM_RESET") + "[4400] P0 WARM\n", 1, None),
+    (ERROR.format(16445, "HALT"), 0, "[16445] P0 HM XM_HM_EV_PARTITION_ERROR 00000003 XM_HM_AC_HALT"),
+    (ERROR.format(16445, "HALT").replace("PARTITION_ERROR", "SPARC_DATA_ACCESS"), 0, "[16445] P0 HM XM_HM_EV_SPARC_DATA_ACCESS 00000003 XM_HM_AC_HALT"),
+    ("[4400] P0 HM XM_HM_EV_SPARC_DATA_ACCESS 00000003 XM_HM_AC_IGNORE\n", 0, None),
+]  # fmt: skip
+
+
+@pytest.mark.parametrize("lines, resets, reason", SUCCESSES)
+def test_whether_a_partition_succeeds(tmp_path: Path, lines: str, resets: int, reason: str | None) -> None:
+    (tmp_path / "report.txt").write_text(ENDS.format(lines, resets))
+    (tmp_path / "all").write_text("all succeed\n")
+    done = xm(tmp_path, "expect", "report.txt", "all")
+    found = f"not met: all succeed: {reason}" if reason else "met: all succeed"
+    assert (done.status, done.err, done.out.splitlines()[0]) == (1 if reason else 0, "", f"all:1: {found}")
+
+
+def test_a_partition_that_another_one_halts(tmp_path: Path) -> None:
+    """Whose slot it is, the system says: without it an order to the partition is not seen."""
+    (tmp_path / "report.txt").write_text(ENDS.format("[13445] P1 HALT\n", 0).replace("[18445] P1 HALT\n", ""))
+    (tmp_path / "all").write_text("all succeed\n")
+    assert xm(tmp_path, "expect", "report.txt", "all").status == 0
+    done = xm(tmp_path, "expect", "report.txt", "all", "--names", str(SYSTEMS / "queue/queue.xml"))
+    assert (done.status, done.err) == (1, "")
+    assert done.out.splitlines()[0] == "all:1: not met: all succeed: [13445] P1 HALT, in no slot of P1"
 
 
 @pytest.mark.parametrize("words, reason", BAD_LINES)

@@ -4,12 +4,15 @@ import fnmatch
 import re
 import shlex
 from bisect import bisect_left
-from collections.abc import Callable
+from collections.abc import Callable, Sequence
 from dataclasses import dataclass
 
+from xm_tools.course import Course
 from xm_tools.failure import Unusable
+from xm_tools.following import course_of
 from xm_tools.report import CHANGES, OWN, WHOLE, Line, Report
-from xm_tools.values import TIMES, measured
+from xm_tools.system import System
+from xm_tools.values import ACTION, EVENT, TIMES, measured
 
 KINDS = (*OWN, *WHOLE, *CHANGES)
 TEXTED = (*OWN, *WHOLE)
@@ -111,11 +114,49 @@ def ends_of(report: Report, owner: str) -> dict[str, str] | None:
     return {"ends": end.state, "resets": str(end.resets), "exec": str(end.executed)}
 
 
+def failure_of(report: Report, partition: int, course: Course | None) -> str | None:
+    """Why a partition did not halt by itself with the status 0; that it halted in a slot of its own is asked of the course."""
+    owner, end = f"P{partition}", report.ends[partition]
+    if end.state != "halted":
+        return f"{owner} ends {end.state}"
+    lines = report.lines_of(partition)
+    changes = [place for place, line in enumerate(lines) if line.kind in CHANGES]
+    if not changes or lines[changes[-1]].kind != "HALT":
+        return f"{owner} has no line of its halt"
+    halt = lines[changes[-1]]
+    since = changes[-2] if len(changes) > 1 else 0
+    for line in lines[since:]:
+        if line.kind == "HM" and (line.text.startswith(f"{EVENT}PARTITION_ERROR ") or is_its_halt(line, halt)):
+            return line.shown()
+    is_foreign = course is not None and course.is_sure and not any(course.slots_of(partition, halt.tick, halt.tick + 1))
+    return f"{halt.shown()}, in no slot of {owner}" if is_foreign else None
+
+
+def is_its_halt(line: Line, halt: Line) -> bool:
+    """Whether a health event is what halted the partition."""
+    return line.tick == halt.tick and line.text.endswith(f" {ACTION}HALT")
+
+
+def succeeded(owner: str | None, system: System | None) -> Callable[[Report], str | None]:
+    """A partition, or each for None, halted by itself with the status 0."""
+
+    def unmet(report: Report) -> str | None:
+        course = course_of(report, system) if system else None
+        chosen: Sequence[int] = range(len(report.ends)) if owner is None else [int(owner[1:])]
+        if chosen[-1] >= len(report.ends):
+            return f"there is no {owner}"
+        failures = [found for partition in chosen if (found := failure_of(report, partition, course))]
+        return "; ".join(failures) or None
+
+    return unmet
+
+
 class Parser:
     """Reads the words of one line."""
 
-    def __init__(self, place: str, words: list[str], names: dict[str, str]) -> None:
-        self.place, self.words, self.names = place, words, names
+    def __init__(self, place: str, words: list[str], system: System | None) -> None:
+        self.place, self.words, self.system = place, words, system
+        self.names = {name: f"P{number}" for number, name in system.names.items()} if system else {}
 
     def fail(self, reason: str) -> Unusable:
         return Unusable(f"{self.place}: {reason}")
@@ -159,6 +200,9 @@ class Parser:
         if self.peek() == "no":
             self.take("no")
             return none_of(self.pattern(None))
+        if self.words[:2] == ["all", "succeed"]:
+            del self.words[:2]
+            return succeeded(None, self.system)
         owner = self.owner()
         word = self.peek()
         if word == "no":
@@ -166,6 +210,9 @@ class Parser:
             return none_of(self.pattern(owner))
         if word == "within":
             return self.within(owner)
+        if word == "succeeds" and owner != "XM":
+            self.take("succeeds")
+            return succeeded(owner, self.system)
         if word in ("ends", "resets", "exec", "plan", "clock", "ticks"):
             return self.ended(owner)
         return self.counted(self.pattern(owner))
@@ -212,8 +259,8 @@ class Parser:
         return counted(pattern, ">=", 1)
 
 
-def expectations_of(path: str, text: str, names: dict[str, str]) -> list[Expectation]:
-    """The expectations of a file's text. What follows a # is no part of a line; `names` has the P-number of each name."""
+def expectations_of(path: str, text: str, system: System | None) -> list[Expectation]:
+    """The expectations of a file's text. What follows a # is no part of a line; the system, if there is one, has the names."""
     found = []
     for number, line in enumerate(text.splitlines(), 1):
         place = f"{path}:{number}"
@@ -222,7 +269,7 @@ def expectations_of(path: str, text: str, names: dict[str, str]) -> list[Expecta
         except ValueError as error:
             raise Unusable(f"{place}: {error}") from None
         if words:
-            parser = Parser(place, words, names)
+            parser = Parser(place, words, system)
             unmet = parser.expectation()
             parser.end()
             found.append(Expectation(number, line.partition("#")[0].strip() if '"' not in line else line.strip(), unmet))

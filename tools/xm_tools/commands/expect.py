@@ -7,11 +7,14 @@ Compares a report with expectations, one a line of FILE; what follows a # is no 
   P3 CON "wheels: *" times 4                     as many of them; or `at least 4`, `at most 4`
   P3 within 20ms of [16005] CON "wheels: *"      one comes at most 20 ms after a tick
   P3 within 20ms of P0 CON "go *" CON "wheels*"  one comes at most 20 ms after each line of another kind
+  all succeed                                    every partition halted by itself with status 0; `P3 succeeds` for one
   P2 ends idle                                   how it ends; for XM running or halted
   P0 resets <= 2                                 a number of its END line: resets, exec; of XM plan, clock, ticks
 
-Kinds are CON, TRACE, HM, PLAN, HALT, SUSPEND, RESUME, COLD and WARM. With --names partitions may be named as the description
-or container SYSTEM names them. Each expectation is printed with what came instead; --junit writes the results for a build
+Kinds are CON, TRACE, HM, PLAN, HALT, SUSPEND, RESUME, COLD and WARM. A partition succeeds if it ends halted, no health event
+halted it, and it has no PARTITION_ERROR since its last reset or start: events that are not logged are not seen. With --names
+partitions may be named as the description or container SYSTEM names them, and one that another partition halted does not succeed
+either. Each expectation is printed with what came instead; --junit writes the results for a build
 server. The exit status is 1 where one is not met.
 """
 
@@ -45,9 +48,8 @@ def junit(results: list[tuple[Expectation, str | None]], report: str, path: str)
 def run(given: list[str]) -> int:
     words = words_of(USAGE, given, 2, 2, ("--names", "--junit"))
     report, path = words.plain
-    system = words.value("--names")
-    names = {name: f"P{number}" for number, name in read_system(system).names.items()} if system else {}
-    expectations = expectations_of(path, text_of(path), names)
+    named = words.value("--names")
+    expectations = expectations_of(path, text_of(path), read_system(named) if named else None)
     found_report = read_report(report)
     results = [(expectation, expectation.unmet(found_report)) for expectation in expectations]
     for expectation, unmet in results:
