@@ -2,9 +2,12 @@
 """Writes the small systems that show most as data of `case_suite`: their containers, calls and the model's reports.
 
 usage: book.py FOLDER
+       book.py --upsets FOLDER
 
-FOLDER is crates/case_suite/data. The files are those of BOOKS.
+FOLDER is crates/case_suite/data. The files are those of BOOKS. With --upsets it is the file of the cases with upsets alone,
+upsets.toml.
 """
+import hashlib
 import re
 import struct
 import sys
@@ -13,9 +16,11 @@ import textwrap
 from pathlib import Path
 
 from box import ACTIONS, EVENTS, Part, container, image_file
-from cases import CASES, CORES, RESETS, all_cases
-from model import CALLS, RESET_NAMES, run_words
-from shown import BOOKS
+from cases import (
+    CASES, CORES, MOST_UPSETS, REFUSED_TICKS, REFUSED_UPSETS, RESETS, UPSETS, all_cases, many_upsets, two_that_loop,
+)
+from model import CALLS, RESET_NAMES, Refusal, run_words
+from shown import BOOKS, UPSET_BOOK
 
 LEGEND = """\
 The containers and the reports are those of examples/model, a second simulator in Python that was written from the
@@ -37,8 +42,14 @@ named by its trap type, and at 0x2000 the table of traps. Its area is writable u
 Containers whose configurations differ in few bytes have their front in common, up to the images, with that of partition 0
 where it only loops. Bytes 8 and 9 are the container's length, the others what the lines above the container say. Of each
 image there are its head, the words of each segment in lines of their own, and its digest."""
+UPSET_LEGEND = """\
+The rows have the file of upsets, `u`. The report is that of the second simulator, by the state of the partition that the
+upsets leave; a core file has it whole. Registers of window 7, which is the first one: w112 to w119 are %o0 to %o7, w120 to
+w127 %l0 to %l7. Systems that are alike have one container, whose listing stands once."""
 MOST_CHANGES = 8
+MOST_REPORT = 8000  # of a longer one a row has the digest
 CORE = "c"  # the name of a case's core file
+UPSET_FILE = "u"  # that of its upsets
 
 
 class Fronts:
@@ -159,7 +170,9 @@ def file_entry(name, lines):
 
 
 def text_value(text):
-    return '"' + text.replace("\\", "\\\\").replace('"', '\\"').replace("\n", "\\n") + '"'
+    for found, escape in (("\\", "\\\\"), ('"', '\\"'), ("\n", "\\n"), ("\r", "\\r"), ("\t", "\\t")):
+        text = text.replace(found, escape)
+    return f'"{text}"'
 
 
 def input_name(name, number):
@@ -178,9 +191,15 @@ def core_words(name):
 def core_entry(name, words):
     """The core file that the model gives, by its length and the bytes that are not zero."""
     content = outcome(name, words)[1][CORE]
-    places = " ".join(f"[{place},_{byte:#04x}]," for place, byte in enumerate(content) if byte)
+    source = ['hex = ""', f"length = {len(content)}"]
+    return bytes_entry(core_name(name), source, [(place, byte) for place, byte in enumerate(content) if byte])
+
+
+def bytes_entry(name, source, changes):
+    """A file by the lines that say what it is made of, and the places and values of its bytes that differ from that."""
+    places = " ".join(f"[{place},_{byte:#04x}]," for place, byte in changes)
     lines = [f"  {line}".replace("_", " ") for line in textwrap.wrap(places, 116)]
-    return ["[[file]]", f'name = "{core_name(name)}"', 'hex = ""', f"length = {len(content)}", "bytes = [", *lines, "]", ""]
+    return ["[[file]]", f'name = "{name}"', *source, *(["bytes = [", *lines, "]"] if lines else []), ""]
 
 
 def case_files(name, fronts):
@@ -221,6 +240,9 @@ def outcome(name, words):
         (Path(folder) / f"{name}.box").write_bytes(container(system))
         for number, values in inputs.items():
             (Path(folder) / input_name(name, number)).write_bytes(struct.pack(f">{len(values)}I", *values))
+        if name in UPSETS:
+            (Path(folder) / UPSET_FILE).write_text(UPSETS[name])
+            words = [*words, "--upset", UPSET_FILE]
         return run_words([f"{name}.box", *words], Path(folder), RESETS.get(name, ()))
 
 
@@ -237,13 +259,131 @@ def book(title, groups):
     return "".join(line + "\n" for line in lines)
 
 
+# Upsets.
+
+
+def upsets_value(text):
+    """How the file of upsets is made; of many lines the last one, with others that are alike before it."""
+    first, last = text.partition("\n")[0] + "\n", text[text.rstrip("\n").rfind("\n") + 1 :]
+    count = text.count("\n") - last.count("\n")
+    if count < 100:
+        return f'{{ name = "{UPSET_FILE}", text = {text_value(text)} }}'
+    insert = f"{{ text = {text_value(first)}, from = 0, to = {count}, before = {text_value(last)} }}"
+    return f'{{ name = "{UPSET_FILE}", text = {text_value(last)}, insert = {insert} }}'
+
+
+def differing(content, other, piece=1024):
+    """The places of the bytes that differ, and their values; pieces that are the same are passed over whole."""
+    return [(place, content[place]) for start in range(0, len(content), piece)
+            if content[start : start + piece] != other[start : start + piece]
+            for place in range(start, min(start + piece, len(content))) if content[place] != other[place]]  # fmt: skip
+
+
+class Boxes:
+    """The containers of cases with upsets; systems that are alike have one, with the name of the first."""
+
+    def __init__(self):
+        self.fronts, self.names = Fronts(), {}
+        self.cores = {"": b""}
+
+    def files(self, name):
+        """The entries of a case's files that no case before it has."""
+        system, _, inputs = CASES[name]
+        content, lines = container(system), []
+        if content not in self.names:
+            self.names[content] = f"{name.removeprefix('upset_')}.box"
+            lines = [f"{self.names[content]}:", *settings(system), *listed(system)]
+            lines = self.fronts.container_entry(self.names[content], system, lines)
+        for number, words in inputs.items():
+            lines += file_entry(input_name(name, number), [" ".join(f"{word:08x}" for word in words)])
+        return lines + (self.core_entry(name) if name in CORES else [])
+
+    def words(self, name):
+        """The options of a case but for its upsets."""
+        _, words, inputs = CASES[name]
+        return [*words, *(word for number in inputs for word in ("--input", f"{number}={input_name(name, number)}")), *core_words(name)]
+
+    def core_entry(self, name):
+        """The core file by the bytes that differ from an earlier one, of which that with the fewest is taken, or from zeros."""
+        content = outcome(name, self.words(name))[1][CORE]
+        near = {known: differing(content, other.ljust(len(content), b"\0"))
+                for known, other in self.cores.items() if len(other) in (0, len(content))}  # fmt: skip
+        known = min(near, key=lambda known: (len(near[known]), known))
+        self.cores[core_name(name)] = content
+        source = [f'of = "{known}"'] if known else ['hex = ""', f"length = {len(content)}"]
+        return bytes_entry(core_name(name), source, near[known])
+
+    def row(self, name, shows):
+        system, _, inputs = CASES[name]
+        box, words = self.names[container(system)], self.words(name)
+        files = ", ".join(f'"{file}"' for file in [box, *(input_name(name, number) for number in inputs)])
+        report = outcome(name, words)[0]
+        long = len(report) > MOST_REPORT
+        out = f'out_md5 = "{hashlib.md5(report.encode()).hexdigest()}"' if long else f"out = {text_value(report)}"
+        core = f', same = {{ {CORE} = "{core_name(name)}" }}' if name in CORES else ""
+        call = " ".join(["run", box, "--upset", UPSET_FILE, *words])
+        made = upsets_value(UPSETS[name])
+        return f'  {{ shows = "{shows}", call = "{call}", file = [{files}], make = {made}, {out}{core} }},'
+
+
+def refused_rows(box):
+    """What is refused, with the model's line."""
+    texts = REFUSED_UPSETS | {f"{MOST_UPSETS + 1} lines": "".join(f"{line}\n" for line in many_upsets(MOST_UPSETS + 1))}
+    with tempfile.TemporaryDirectory() as folder:
+        (Path(folder) / box).write_bytes(container(two_that_loop()))
+        for shows, text in texts.items():
+            (Path(folder) / UPSET_FILE).write_bytes(text.encode())
+            try:
+                run_words([box, "--ticks", str(REFUSED_TICKS), "--upset", UPSET_FILE], Path(folder))
+            except Refusal as refusal:
+                fault = str(refusal).removeprefix(f"{UPSET_FILE}: ")
+                yield f'  {{ shows = "{shows}", make = {upsets_value(text)}, refused = "{fault}" }},'
+            else:
+                sys.exit(f"{shows}: not refused")
+
+
+WRONG_WORDS = {
+    "two files": f"--ticks 5 --upset {UPSET_FILE} --upset {UPSET_FILE}", "no file": "--ticks 5 --upset",
+    "an option instead of the file": "--upset --ticks 5", "an empty name": "--ticks 5 --upset ", "no length": f"--upset {UPSET_FILE}",
+}
+
+
+def refused_groups():
+    box = "loops.box"
+    yield from Fronts().container_entry(box, two_that_loop(), [f"{box}: both partitions loop"])
+    yield from ["[[group]]", 'name = "files of upsets that are refused"']
+    yield f'call = "run {box} --ticks {REFUSED_TICKS} --upset {UPSET_FILE} --core 0={CORE}"'
+    yield from [f'file = ["{box}"]', f'of_file = "{UPSET_FILE}"', "case = [", *refused_rows(box), "]", ""]
+    yield from ["[[group]]", 'name = "words of runs with upsets"', f'file = ["{box}"]']
+    yield f'make = {{ name = "{UPSET_FILE}", text = "1 0 y 0\\n" }}'
+    yield "case = ["
+    for shows, words in WRONG_WORDS.items():
+        yield f'  {{ shows = "{shows}", call = "run {box} {words}", usage = true }},'
+    err = text_value("xm_run: none: cannot read\n")
+    yield f'  {{ shows = "a file that is not there", call = "run {box} --ticks 5 --upset none", status = "ReadFault", err = {err} }},'
+    yield "]"
+
+
+def upset_book(title, groups):
+    lines, boxes = comment([title, *LEGEND.splitlines(), *UPSET_LEGEND.splitlines()]), Boxes()
+    for name, rows in groups.items():
+        lines += ["", *(line for case in rows for line in boxes.files(case)), "[[group]]", f'name = "{name}"', "case = ["]
+        lines += [*(boxes.row(case, shows) for case, shows in rows.items()), "]"]
+    return "".join(f"{line}\n" for line in [*lines, "", *refused_groups()])
+
+
 def main():
-    if len(sys.argv) != 2:
+    words = [word for word in sys.argv[1:] if word != "--upsets"]
+    if len(words) != 1:
         print(__doc__, file=sys.stderr)
         return 2
     all_cases()
+    if "--upsets" in sys.argv:
+        file, title, groups = UPSET_BOOK
+        (Path(words[0]) / file).write_text(upset_book(title, groups))
+        return 0
     for file, (title, groups) in BOOKS.items():
-        (Path(sys.argv[1]) / file).write_text(book(title, groups))
+        (Path(words[0]) / file).write_text(book(title, groups))
     return 0
 
 

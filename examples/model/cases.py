@@ -5,7 +5,8 @@ usage: cases.py FOLDER [--cores] [NAME ..]
 
 For each case, or for those that are named, it writes into the folder: NAME.box, the container; NAME.args, the words
 behind `run BOX`, one a line; NAME.out, the report; and the input files that the words name. With --cores the words
-also ask for the core file NAME.P.core of each partition P, and NAME.P.core.want is what it has to be.
+also ask for the core file NAME.P.core of each partition P, and NAME.P.core.want is what it has to be. Cases with upsets, and
+with resets between ticks, are written only where they are named.
 """
 import random
 import struct
@@ -33,6 +34,7 @@ A = {name: number for number, name in enumerate(ACTIONS)}
 E = {name: number for number, name in enumerate(EVENTS)}
 CASES = {}
 CORES = {}  # the partition whose core file a case has, too
+UPSETS = {}  # the file of upsets that a case has, as text
 RESETS = {}  # those between the ticks of a case: the tick's number, a partition or None for all, the mode, the status
 
 
@@ -47,6 +49,7 @@ class Program(Guest):
         super().__init__(start(number))
         self.handlers = []
         self.strings = {}
+        self.read_only = []
         self.end, self.last = self.base + WRITABLE, self.base + ALL
 
     @listed(lambda number, *arguments: f"ask {number}({', '.join(map(shown_operand, arguments))})")
@@ -113,6 +116,8 @@ class Program(Guest):
         self.at(self.base + TABLE).label("table")
         for trap, _ in sorted(self.handlers, key=lambda handler: handler[0]):
             self.at(self.base + TABLE + 16 * trap).branch("a", f"handler {trap}").nop()
+        if self.read_only:
+            self.at(self.base + WRITABLE).label("read-only").put(*self.read_only)
         content = self.bytes()
         if only_loops:
             content = content[:DATA]
@@ -1253,6 +1258,320 @@ def between_cases():
     between("windows", make(windows), "--ticks 300", (40, 0, 1, 0))
 
 
+# Upsets. Window 7 is the current one at first: its outs are w112 to w119, its locals w120 to w127.
+
+
+def out(number):
+    return f"w{112 + number}"
+
+
+def local(number):
+    return f"w{120 + number}"
+
+
+def byte(address):
+    return f"{address:08x}"
+
+
+def bit_of(address, bit):
+    """A bit of the word at an address, as a byte and its bit."""
+    return f"{byte(address + 3 - bit // 8)} {bit % 8}"
+
+
+def place_of(label, number=0):
+    """The address of a name that every partition's memory has."""
+    program = Program(number)
+    program.image()
+    return program.labels[label]
+
+
+def upset(name, system, length, *lines, core=None, inputs=None):
+    """A case with the lines of a file of upsets, and the partition whose core file it has, too."""
+    case(f"upset_{name}", system, length, inputs)
+    UPSETS[f"upset_{name}"] = "".join(f"{line}\n" for line in lines)
+    if core is not None:
+        CORES[f"upset_{name}"] = core
+
+
+# Each place with its first and its last bit.
+PLACES = [
+    ("g1", 0, 31), ("g7", 0, 31), ("w0", 0, 31), ("w127", 0, 31), ("pc", 2, 31), ("npc", 2, 31), ("y", 0, 31), ("icc", 0, 3),
+    ("hw", 0, 62), ("exec", 0, 62), ("tbr", 12, 31), ("mask", 0, 31), ("pending", 0, 31),
+    *[(byte(address), 0, 7) for address in (start(1), END1 - 1, END1, LAST1 - 1)],
+]
+
+
+def place_upsets():
+    """Of a partition that waits for its slot: the core file has all that the upset changed."""
+    waits = make(Program(0), Program(1))
+    flips = [f"1 {place} {bit}" for place, *bits in PLACES for bit in bits]
+    for line in flips:
+        _, place, bit = line.split()
+        upset(f"place_{place}_{bit}", waits, "--ticks 20", f"10 {line}", core=1)
+    upset("places_all", waits, "--ticks 20", *[f"10 {line}" for line in flips], core=1)
+    upset("places_twice", waits, "--ticks 20", *[f"10 {line}" for line in [*flips, *flips]], core=1)
+    in_slot = [f"600 {line}" for line in flips if "pc" not in line]
+    upset("places_in_slot", waits, "--ticks 700", *in_slot, core=1)
+
+
+def counting(number=0):
+    """It adds 1 to %l1 and prints it, in rounds of nine ticks: the ADD is the partition's third word, and the call its ninth."""
+    program = Program(number).set("shown", "l0").label("again").op("add", "l1", 1, "l1").mem("st", "l1", "l0")
+    return program.show("shown").branch("a", "again").nop()
+
+
+ADD = FIRST + 8  # in ticks 2, 11, 20, 29 and so on
+DELAY = FIRST + 40
+
+
+def instruction_upsets():
+    """Bit 21 of an ADD makes it a SUB, 13 its number a register, 30 a load, and 31 no instruction; 24 makes none of a NOP."""
+    counts = make(counting())
+    upset("add_to_sub", counts, "--ticks 60", f"18 0 {bit_of(ADD, 21)}", core=0)
+    upset("add_to_sub_in_its_tick", counts, "--ticks 60", f"20 0 {bit_of(ADD, 21)}")
+    upset("add_to_sub_in_the_tick_after", counts, "--ticks 60", f"21 0 {bit_of(ADD, 21)}")
+    upset("add_to_sub_and_back", counts, "--ticks 60", f"18 0 {bit_of(ADD, 21)}", f"30 0 {bit_of(ADD, 21)}", core=0)
+    upset("add_before_its_first_tick", counts, "--ticks 60", f"0 0 {bit_of(ADD, 1)}")
+    upset("operand", counts, "--ticks 60", f"18 0 {bit_of(ADD, 0)}")
+    upset("operand_to_a_register", counts, "--ticks 60", f"18 0 {bit_of(ADD, 13)}")
+    upset("destination", counts, "--ticks 60", f"18 0 {bit_of(ADD, 26)}", core=0)
+    upset("to_a_load", counts, "--ticks 60", f"18 0 {bit_of(ADD, 30)}")
+    upset("to_no_instruction", counts, "--ticks 60", f"18 0 {bit_of(ADD, 31)}")
+    upset("delay_slot_to_no_instruction", counts, "--ticks 60", f"18 0 {bit_of(DELAY, 24)}")
+    passes = make(counting(), actions={(0, "SPARC_ILLEGAL_INSTRUCTION"): "IGNORE"})
+    upset("to_no_instruction_passed_over", passes, "--ticks 60", f"18 0 {bit_of(ADD, 31)}", f"30 0 {bit_of(ADD, 31)}")
+    for mode, action in (("warm", "PARTITION_WARM_RESET"), ("cold", "PARTITION_COLD_RESET")):
+        resets = make(counting(), actions={(0, "SPARC_ADDRESS_NOT_ALIGNED"): action})
+        upset(f"to_a_load_and_{mode}_reset", resets, "--ticks 60", f"18 0 {bit_of(ADD, 30)}", core=0)
+    far = Program(0).set("shown", "l0").set("read-only", "l2").label("again").jmpl("l2", 0, "o7").nop().mem("st", "l1", "l0")
+    far.show("shown").branch("a", "again").nop()
+    far.read_only = [arithmetic("add", "l1", 1, "l1"), arithmetic("jmpl", "o7", 8, "g0"), sethi(0, "g0")]
+    upset("read_only_instruction", make(far), "--ticks 60", f"30 0 {bit_of(END0, 21)}", core=0)
+
+
+def register_upsets():
+    counts = make(counting())
+    upset("register", counts, "--ticks 60", f"18 0 {local(1)} 8", f"37 0 {local(1)} 31")
+    upset("pointer", counts, "--ticks 60", f"18 0 {local(0)} 6", core=0)
+    upset("pointer_at_an_odd_byte", counts, "--ticks 60", f"18 0 {local(0)} 0")
+    upset("pointer_out_of_the_area", counts, "--ticks 60", f"18 0 {local(0)} 16")
+    upset("both_program_counters", counts, "--ticks 60", "20 0 pc 2", "20 0 npc 3")
+    upset("pc_out_of_the_area", counts, "--ticks 60", "20 0 pc 31")
+    upset("npc_out_of_the_area", counts, "--ticks 60", "20 0 npc 31")
+    upset("number_of_a_call", counts, "--ticks 60", f"26 0 {out(0)} 0")
+    for bit, clear in enumerate(("cc", "vc", "ne", "pos")):
+        waits = Program(0).op("orcc", "g0", 1, "g1").label("again").branch(clear, "again").nop().show("four")
+        upset(f"condition_{bit}", make(waits), "--ticks 40", f"20 0 icc {bit}", core=0)
+    read = Program(0).set("shown", "l0").label("again").put(read_y("l1")).mem("st", "l1", "l0").show("shown")
+    upset("y", make(read.branch("a", "again").nop()), "--ticks 60", "15 0 y 0", "40 0 y 31")
+    stores = Program(0).set(5, "g7").set("room", "l0").label("again").mem("st", "g1", "l0").mem("st", "g7", "l0", 4)
+    system = make(stores.show("room", 8).branch("a", "again").nop())
+    upset("globals", system, "--ticks 60", "15 0 g7 0", "15 0 g7 1", "40 0 g7 31", "40 0 g1 0")
+
+
+def deep():
+    """Ten windows deep and back, a SAVE every eight ticks from tick 6 on: the seventh, in tick 54, spills window 7. On its way
+    back each prints its number."""
+    program = Program(0).stack().call_to("deep").nop().loop().label("deep").save().op("add", "g2", 1, "g2").mov("g2", "l0")
+    program.cmp("g2", 10).branch("e", "back").nop().call_to("deep").nop()
+    program.label("back").set("shown", "g1").mem("st", "l0", "g1").show("shown").jmpl("i7", 8)
+    return program.restore()
+
+
+def window_upsets():
+    system = make(deep())
+    upset("stack_pointer", system, "--ticks 300", f"8 0 {out(6)} 6", core=0)
+    upset("stack_pointer_in_the_tick_of_the_spill", system, "--ticks 300", f"54 0 {out(6)} 6", core=0)
+    upset("stack_pointer_at_an_odd_word", system, "--ticks 300", f"8 0 {out(6)} 2", core=0)
+    upset("stack_pointer_out_of_the_area", system, "--ticks 300", f"8 0 {out(6)} 20", core=0)
+    # In tick 100 the windows of the first three rounds are spilled. The frame pointer of the fourth is %o6 of window 4.
+    upset("frame_pointer", system, "--ticks 300", "100 0 w70 6", core=0)
+    upset("frame_pointer_at_an_odd_word", system, "--ticks 300", "100 0 w70 2", core=0)
+    upset("frame_pointer_out_of_the_area", system, "--ticks 300", "100 0 w70 20", core=0)
+    upset("saved_window", system, "--ticks 300", f"100 0 {bit_of(FIRST + STACK - 96, 0)}", core=0)
+    upset("window_before_its_spill", system, "--ticks 300", "50 0 w104 4", core=0)
+    upset("return_address", system, "--ticks 300", f"100 0 {out(7)} 2", core=0)
+
+
+def interrupt_upsets():
+    """Interrupt 7, which nothing else raises."""
+    hears = lambda unmasked=1 << 7, enabled=True: Program(1).on(INTERRUPT + 7, say_time, back).ready(unmasked, enabled)
+    open_one, masked = make(Program(0), hears()), make(Program(0), hears(0))
+    upset("pending", open_one, "--ticks 700", "600 1 pending 7", core=1)
+    upset("pending_in_other_slot", open_one, "--ticks 1700", "1200 1 pending 7")
+    upset("pending_in_a_gap", open_one, "--ticks 1700", "970 1 pending 7")
+    upset("pending_masked", masked, "--ticks 700", "600 1 pending 7", core=1)
+    upset("pending_disabled", make(Program(0), hears(enabled=False)), "--ticks 700", "600 1 pending 7", core=1)
+    upset("pending_and_unmasked", masked, "--ticks 700", "600 1 pending 7", "620 1 mask 7")
+    upset("unmasked_and_pending", masked, "--ticks 700", "600 1 mask 7", "600 1 pending 7")
+    upset("masked_and_pending", open_one, "--ticks 700", "600 1 mask 7", "600 1 pending 7", core=1)
+    upset("pending_twice", open_one, "--ticks 700", "600 1 pending 7", "600 1 pending 7", core=1)
+    both = hears(1 << 7 | 1 << 9).on(INTERRUPT + 9, say("nine"), back)
+    upset("pending_two", make(Program(0), both), "--ticks 700", "600 1 pending 9", "600 1 pending 7")
+    last = Program(1).on(INTERRUPT + 31, say_time, back).ready()
+    upset("pending_31", make(Program(0), last), "--ticks 700", "600 1 mask 31", "600 1 pending 31")
+    slots = make(Program(0), Program(1).on(INTERRUPT + 5, say_time, back).ready(1 << 5))
+    upset("pending_slot_start", slots, "--ticks 1700", "1499 1 pending 5", "1500 1 pending 5")
+    upset("pending_slot_start_after_it", slots, "--ticks 1700", "1501 1 pending 5")
+    table = start(1) + TABLE
+    upset("table", open_one, "--ticks 700", "590 1 tbr 12", "600 1 pending 7")
+    upset("table_out_of_the_area", open_one, "--ticks 700", "590 1 tbr 31", "600 1 pending 7")
+    upset("table_back_in_time", open_one, "--ticks 700", "590 1 tbr 31", "600 1 pending 7", "600 1 tbr 31")
+    upset("entry_of_the_table", open_one, "--ticks 700", f"590 1 {bit_of(table + 16 * (INTERRUPT + 7), 23)}", "600 1 pending 7")
+    upset("handler", open_one, "--ticks 700", f"590 1 {bit_of(start(1) + HANDLERS, 24)}", "600 1 pending 7")
+
+
+def timer_upsets():
+    hears = lambda: Program(1).on(INTERRUPT, say_time, back).on(INTERRUPT + 1, say_time, back).ready(3)
+    none = make(Program(0), hears())
+    armed = lambda clock, deadline, interval: make(Program(0), hears().call(13, clock, 0, deadline, 0, interval))
+    upset("timer_armed_in_the_past", none, "--ticks 1000", "600 1 hw 9", core=1)
+    upset("timer_armed_for_later", none, "--ticks 1700", "600 1 hw 10", "600 1 hw 9", core=1)
+    upset("timer_armed_for_its_tick", none, "--ticks 1000", "768 1 hw 9", "768 1 hw 8")
+    upset("timer_armed_far_away", none, "--ticks 1000", "600 1 hw 62", core=1)
+    upset("timer_disarmed", armed(0, 640, 100), "--ticks 1000", "600 1 hw 7", "600 1 hw 9", core=1)
+    upset("timer_disarmed_and_armed", armed(0, 640, 100), "--ticks 1000", *[f"600 1 hw {bit}" for bit in (7, 9, 7, 9)], core=1)
+    upset("timer_sooner", armed(0, 640, 0), "--ticks 700", "600 1 hw 7", core=1)
+    upset("timer_later", armed(0, 640, 0), "--ticks 1700", "600 1 hw 10")
+    upset("timer_with_interval", armed(0, 640, 100), "--ticks 1000", "600 1 hw 5", core=1)
+    upset("timer_due_in_its_tick", armed(0, 640, 0), "--ticks 700", "640 1 hw 10", core=1)
+    upset("timer_due_in_the_tick_before", armed(0, 640, 100), "--ticks 1000", "641 1 hw 2", core=1)
+    upset("timer_in_other_slot", armed(0, 640, 0), "--ticks 1700", "600 1 hw 10", "1200 1 hw 7", core=1)
+    upset("execution_timer_armed", none, "--ticks 700", "550 1 exec 6", core=1)
+    upset("execution_timer_armed_in_other_slot", none, "--ticks 1700", "1200 1 exec 8", core=1)
+    upset("execution_timer_sooner", armed(1, 80, 25), "--ticks 700", "550 1 exec 4", core=1)
+    upset("execution_timer_disarmed", armed(1, 64, 25), "--ticks 700", "550 1 exec 6", core=1)
+
+
+def memory_upsets():
+    four = place_of("four")
+    shows = make(Program(0).label("again").show("four", 4).branch("a", "again").nop())
+    upset("byte", shows, "--ticks 60", f"20 0 {byte(four)} 0", f"20 0 {byte(four + 3)} 7", f"40 0 {byte(four)} 0")
+    far = Program(0).set("read-only", "l0").label("again").call(32, "l0", 4).branch("a", "again").nop()
+    far.read_only = [0x61626364]
+    upset("read_only_byte", make(far), "--ticks 60", f"20 0 {byte(END0)} 1", f"40 0 {byte(END0 + 3)} 1", core=0)
+    sends = with_ports(0).label("again").ask(21, 2, "four", 4).wait(40).branch("a", "again").nop()
+    takes = with_ports(1).label("again").ask(22, 2, "room", 8).show("room", 8).wait(30).branch("a", "again").nop()
+    messages = make(sends, takes)
+    upset("byte_of_a_message", messages, "--ticks 2000", f"60 0 {byte(four)} 0")
+    upset("byte_of_a_message_that_is_sent", messages, "--ticks 2000", f"480 0 {byte(four)} 0")
+    upset("byte_of_a_message_that_is_taken", messages, "--ticks 2000", f"592 1 {byte(place_of('room', 1))} 1")
+    wide = Guest(0).loop()
+    upset("bytes_at_both_ends", wide_system(wide), "--ticks 100", "50 0 ffffffff 0", "50 0 00000000 7", core=0)
+
+
+def state_upsets():
+    """Of partitions that are halted, suspended or idle: in a slot of their own, in one of the other, and in a gap."""
+    flips = ["g1 0", f"{local(0)} 31", "pending 0", "mask 0", "hw 10", "exec 1", f"{byte(place_of('four', 1))} 5", "pc 31", "tbr 31"]
+    for state, call in (("halted", 2), ("suspended", 4)):
+        for place, tick in (("own_slot", 600), ("other_slot", 1100), ("gap", 970)):
+            lines = [f"{tick} 1 {line}" for line in flips]
+            upset(f"{state}_in_{place}", make(Program(0), Program(1).call(call, 1)), "--ticks 1700", *lines, core=1)
+    sleeps = lambda unmasked=0: make(Program(0), says_time((Program(1).call(31, unmasked) if unmasked else Program(1)).call(7)))
+    for place, tick in (("own_slot", 600), ("other_slot", 1100), ("gap", 970)):
+        upset(f"idle_in_{place}", sleeps(), "--ticks 1700", *[f"{tick} 1 {line}" for line in flips[:-2]], core=1)
+    upset("idle_is_woken", sleeps(1 << 7), "--ticks 700", "600 1 pending 7", core=1)
+    upset("idle_is_not_woken", sleeps(), "--ticks 700", "600 1 pending 7", core=1)
+    upset("idle_is_woken_by_what_waited", sleeps(), "--ticks 700", "550 1 pending 7", "600 1 mask 7")
+    upset("idle_is_woken_by_the_slot_that_began", sleeps(), "--ticks 700", "600 1 mask 5")
+    upset("idle_is_woken_by_a_timer", sleeps(1), "--ticks 700", "600 1 hw 9", "600 1 hw 7", core=1)
+    upset("idle_has_no_execution_clock", sleeps(2), "--ticks 900", "600 1 exec 4", core=1)
+    upset("idle_in_the_last_tick_of_a_slot", sleeps(1 << 7), "--ticks 1700", "949 1 pending 7", core=1)
+    upset("idle_after_the_last_tick_of_a_slot", sleeps(1 << 7), "--ticks 1700", "950 1 pending 7", core=1)
+    hears = lambda bit: Program(1).on(INTERRUPT + bit, say_time, back).ready(1 << bit).call(4, 1).ask(1)
+    resumes = lambda: Program(0).wait(470).ask(5, 1)
+    upset("suspended_and_resumed", make(resumes(), hears(7)), "--ticks 1700", "700 1 pending 7", core=1)
+    upset("suspended_with_a_timer", make(resumes(), hears(0)), "--ticks 1700", "700 1 hw 9", "701 1 hw 10", core=1)
+    for mode, name in ((0, "cold"), (1, "warm")):
+        halts, resets = counts(1).call(2, 1), Program(0).wait(460).ask(3, 1, mode, 0)
+        lines = [f"980 1 {line}" for line in (f"{byte(place_of('shown', 1))} 4", "hw 3", "g3 3")]
+        upset(f"halted_before_a_{name}_reset", make(resets, halts), "--ticks 1700", *lines, core=1)
+        own = make(Program(0), counts(1).wait(30).call(3, 1, mode, 0))
+        upset(f"before_its_own_{name}_reset", own, "--ticks 620", *[line.replace("980", "520") for line in lines], core=1)
+
+
+def says_time(program):
+    say_time(program)
+    return program
+
+
+def order_upsets():
+    """In which ticks, in which order, and whom they do not reach."""
+    both = make(counting(), counting(1))
+    upset("none", both, "--ticks 40")
+    upset("in_tick_0", both, "--ticks 40", f"0 0 {local(1)} 3", f"0 1 {local(1)} 3", core=1)
+    upset("in_the_last_tick", both, "--ticks 40", f"39 0 {local(1)} 3", core=0)
+    upset("in_the_only_tick", both, "--ticks 1", "0 0 y 0", core=0)
+    upset("in_the_last_tick_of_frames", both, "--frames 2", "1999 1 y 0", core=1)
+    upset("around_a_line", both, "--ticks 40", "7 0 y 0", "8 0 y 1", "9 0 y 2")
+    upset("of_both_in_one_tick", both, "--ticks 600", f"520 1 {local(1)} 3", f"520 0 {local(1)} 3", "520 1 y 3", core=0)
+    upset("same_bit_twice", both, "--ticks 40", f"18 0 {local(1)} 3", f"18 0 {local(1)} 3", core=0)
+    upset("same_bit_in_two_ticks", both, "--ticks 60", f"18 0 {local(1)} 3", f"36 0 {local(1)} 3", core=0)
+    upset("of_the_other_in_the_slot", both, "--ticks 700", f"520 0 {local(1)} 4", "540 0 pc 31", f"600 0 {local(0)} 2", core=0)
+    asks = make(Program(0).call(14, 2, "room"))
+    upset("around_another_plan", asks, "--ticks 1100", "999 0 y 0", "1000 0 y 1", "1000 1 y 2")
+    halts = make(Program(0).nop(23).call(9))
+    upset("around_a_halt_of_all", halts, "--ticks 100", "23 0 y 0", "24 0 y 1", "24 1 y 2", "25 0 y 3", "99 1 y 4", core=1)
+    for event, action in (("maintenance", "SWITCH_TO_MAINTENANCE"), ("halt", "HYPERVISOR_HALT"), ("reset", "HYPERVISOR_WARM_RESET"),
+                          ("suspension", "SUSPEND")):
+        broken = make(Program(0).nop(40), counting(1), actions={(0, "SPARC_ILLEGAL_INSTRUCTION"): action})
+        lines = [f"20 0 {bit_of(FIRST + 4 * 30, 24)}", "30 1 y 0", "31 1 y 1", "31 0 y 2"]
+        upset(f"causes_a_{event}", broken, "--ticks 60", *lines, core=1)
+    for mode, name in ((0, "cold"), (1, "warm")):
+        resets = make(once(Program(0).wait(50), lambda program: program.call(10, mode)), counts(1))
+        lines = [f"40 1 {byte(place_of('shown', 1))} 1", "40 1 y 1", "300 1 y 2", f"300 1 {byte(place_of('shown', 1))} 2"]
+        upset(f"around_a_{name}_reset_of_all", resets, "--ticks 700", *lines, core=1, inputs={0: [1]})
+    watches = Program(0).set("four", "l2").label("again").mem("ld", "l3", "l2").show("four").branch("a", "again").nop()
+    recovers = make(watches, counting(1), actions={(0, "SPARC_DATA_ACCESS"): "PARTITION_WARM_RESET"})
+    upset("recovered_by_the_health_table", recovers, "--ticks 600", f"30 0 {local(2)} 30", core=1)
+
+
+MOST_UPSETS = 4096
+
+
+def many_upsets(count):
+    """This number of lines, of which the last one alone is not undone by the one before it."""
+    return ["5 0 y 0"] * (count - 1) + ["6 0 y 1"]
+
+
+def upset_cases():
+    for group in (place_upsets, instruction_upsets, register_upsets, window_upsets, interrupt_upsets, timer_upsets, memory_upsets,
+                  state_upsets, order_upsets):
+        group()
+    upset("lines_4096", make(counting()), "--ticks 10", *many_upsets(MOST_UPSETS), core=0)
+
+
+# Files of upsets that are refused, for a run of 50 ticks of two partitions that loop: what each shows, and its lines.
+REFUSED_TICKS = 50
+
+
+def two_that_loop():
+    return make(Program(0), Program(1))
+
+
+REFUSED_UPSETS = {
+    "a word": "y\n", "a line without its line feed": "5 0 y 0", "a second line without it": "5 0 y 0\n6 1 y 0",
+    "an empty line": "5 0 y 0\n\n", "a blank before a line": " 5 0 y 0\n", "a blank after a line": "5 0 y 0 \n",
+    "two blanks": "5 0  y 0\n", "a tabulator": "5 0\ty 0\n", "a carriage return": "5 0 y 0\r\n", "three words": "5 0 y\n",
+    "five words": "5 0 y 0 0\n", "a tick with a needless zero": "05 0 y 0\n", "a tick with a sign": "-5 0 y 0\n",
+    "a tick past 64 bits": "18446744073709551616 0 y 0\n", "a partition by its name": "5 P0 y 0\n", "a bit in hexadecimal": "5 0 y 0x1\n",
+    "a bit with a needless zero": "5 0 y 01\n",
+    "global register 0": "5 0 g0 0\n", "global register 8": "5 0 g8 0\n", "window register 128": "5 0 w128 0\n",
+    "a register with a needless zero": "5 0 w01 0\n", "a register by its name": "5 0 o6 0\n", "the window number": "5 0 cwp 0\n",
+    "the execution clock": "5 0 clock 0\n", "the invalid window": "5 0 inv 0\n", "a place in capitals": "5 0 PC 2\n",
+    "an address of seven digits": "5 0 4010000 0\n", "an address of nine digits": "5 0 040100000 0\n",
+    "an address in capitals": "5 0 4010400A 0\n", "an address with 0x": "5 0 0x401000 0\n",
+    "no partition": "5 2 y 0\n", "partition 32": "5 32 y 0\n",
+    "the byte before the first area": f"5 0 {byte(FIRST - 1)} 0\n", "the byte after the last area": f"5 0 {byte(LAST0)} 0\n",
+    "a byte of the other partition": f"5 0 {byte(start(1))} 0\n", "the last byte of all": "5 0 ffffffff 0\n",
+    **{f"bit {bit} of {place}": f"5 0 {place} {bit}\n" for place, *bits in (
+        ("g1", 32), ("w0", 32), ("pc", 0, 1, 32), ("npc", 0, 1, 32), ("y", 32), ("icc", 4), ("hw", 63), ("exec", 63), ("tbr", 0, 11, 32),
+        ("mask", 32), ("pending", 32), (byte(FIRST), 8), (byte(LAST0 - 1), 8)) for bit in bits},
+    "falling ticks": "5 0 y 0\n4 0 y 0\n", "ticks that fall late": "1 0 y 0\n5 0 y 0\n5 1 y 0\n4 1 y 0\n",
+    "the tick after the last one": f"{REFUSED_TICKS - 1} 0 y 0\n{REFUSED_TICKS} 0 y 0\n", "a tick far away": "4000000000 0 y 0\n",
+}
+
+
 def system_cases():
     case("token_ring", token_ring(), "--frames 6")
     case("no_ticks", make(Program(0)), "--ticks 0")
@@ -1277,7 +1596,7 @@ def system_cases():
 
 def all_cases():
     for group in (order_calls, status_calls, plan_calls, port_calls, trace_calls, other_calls, timer_cases, idle_cases,
-                  health_cases, reset_cases, between_cases, processor_cases, size_cases, system_cases):
+                  health_cases, reset_cases, between_cases, upset_cases, processor_cases, size_cases, system_cases):
         group()
 
 
@@ -1287,6 +1606,9 @@ def write_case(folder, name, with_cores):
     for number, content in inputs.items():
         (folder / f"{name}.{number}.in").write_bytes(struct.pack(f">{len(content)}I", *content))
         words = [*words, "--input", f"{number}={name}.{number}.in"]
+    if name in UPSETS:
+        (folder / f"{name}.upsets").write_text(UPSETS[name])
+        words = [*words, "--upset", f"{name}.upsets"]
     if with_cores:
         for number in range(len(system.parts)):
             words = [*words, "--core", f"{number}={name}.{number}.core"]
@@ -1305,7 +1627,7 @@ def main():
     folder, names = Path(words[0]), words[1:]
     folder.mkdir(parents=True, exist_ok=True)
     all_cases()
-    names = names or [name for name in CASES if name not in RESETS]
+    names = names or [name for name in CASES if name not in RESETS and name not in UPSETS]
     for name in names:
         write_case(folder, name, "--cores" in sys.argv)
     print(f"{len(names)} cases")

@@ -1,11 +1,11 @@
 #!/usr/bin/env python3
 """A second simulator of the partitioning hypervisor, written apart from the program, to compare the program with it.
 
-usage: model.py BOX --ticks N [--input P=FILE ..] [--core P=FILE ..]
-       model.py BOX --frames N [--input P=FILE ..] [--core P=FILE ..]
+usage: model.py BOX --ticks N [--input P=FILE ..] [--core P=FILE ..] [--upset FILE]
+       model.py BOX --frames N [--input P=FILE ..] [--core P=FILE ..] [--upset FILE]
 
 It reads a container, runs its partitions one tick after the other, and prints the report. What is written to the consoles of
-UART N goes to uartN.out.
+UART N goes to uartN.out. With --upset bits of the partitions flip before ticks, as `upsets.py` says.
 """
 import re
 import struct
@@ -17,6 +17,7 @@ from processor import (
     ACCESS, COPROCESSOR, DIVISION, FETCH, FLOAT, ILLEGAL, OVERFLOW, PRIVILEGED, TAGGED, UNALIGNED, UNDERFLOW,
     Memory, Processor, StackFault, Trap, UnalignedReturn,
 )
+from upsets import flip, read_upsets
 
 WORD = 0xFFFFFFFF
 KEPT = 64
@@ -170,6 +171,7 @@ class Machine:
         self.plan, self.frame_start, self.asked = 0, 0, None
         self.resets = 0
         self.halted = False
+        self.upsets = []  # those that are to come
         self.lines = []
         self.uarts = [b""] * 8
 
@@ -196,7 +198,15 @@ class Machine:
 
     # One tick.
 
+    def strike(self):
+        """The upsets of the tick that begins, in their order, whatever the state of their partitions."""
+        while self.upsets and self.upsets[0].tick == self.done:
+            upset = self.upsets.pop(0)
+            self.say_of(self.parts[upset.part], upset.shown())
+            flip(self.parts[upset.part], upset.place, upset.bit)
+
     def tick(self):
+        self.strike()
         self.order = None  # upon another partition: the partition and what is done to it
         self.whole = None  # "HALT", or the mode of a reset of all
         self.maintenance = False
@@ -771,16 +781,20 @@ def number_of(word, most):
 
 
 def read_words(words):
-    """The container's name, the unit and the number of the length, and the files of the two options."""
+    """The container's name, the unit and the number of the length, the files of the two options and that of the upsets."""
     if not words or not words[0] or words[0].startswith("--") or len(words) % 2 == 0:
         raise Usage
-    length, files = None, {"--input": {}, "--core": {}}
+    length, files, upsets = None, {"--input": {}, "--core": {}}, None
     options = list(zip(words[1::2], words[2::2]))
     for option, word in options:
         if option in ("--ticks", "--frames"):
             if length is not None:
                 raise Usage
             length = option, number_of(word, MOST_TICKS)
+        elif option == "--upset":
+            if upsets is not None or not word or word.startswith("--"):
+                raise Usage
+            upsets = word
         elif option in files:
             number, _, name = word.partition("=")
             number = number_of(number, 31)
@@ -792,7 +806,7 @@ def read_words(words):
     if length is None:
         raise Usage
     order = [word.split("=", 1) for option, word in options if option in files]
-    return words[0], length, files, [(int(number), name) for number, name in order]
+    return words[0], length, {**files, "--upset": upsets}, [(int(number), name) for number, name in order]
 
 
 def bytes_of(folder, name):
@@ -828,7 +842,17 @@ def prepared(words, folder):
     ticks = count * system.plans[0].frame if unit == "--frames" else count
     if ticks > MOST_TICKS:
         raise Refusal(f"{box}: ticks asked={ticks}")
-    return Machine(system, inputs), ticks, files["--core"]
+    machine = Machine(system, inputs)
+    if files["--upset"] is not None:
+        machine.upsets = upsets_in(folder, files["--upset"], system, ticks)
+    return machine, ticks, files["--core"]
+
+
+def upsets_in(folder, name, system, ticks):
+    try:
+        return read_upsets(bytes_of(folder, name), system.parts, ticks)
+    except Fault as fault:
+        raise Refusal(f"{name}: {fault}") from None
 
 
 def run_words(words, folder=Path(), resets=()):
