@@ -369,7 +369,7 @@ UNMET = [
     ("all succeed", "P2 ends idle"), ("P2 succeeds", "P2 ends idle"), ("P7 succeeds", "there is no P7"),
 ]  # fmt: skip
 BAD_LINES = [
-    ("P1", "a kind of line is missing at the end"), ("P1 WHAT", "WHAT is no kind of line: CON, TRACE, HM, PLAN, HALT, SUSPEND, RESUME, COLD, WARM"),
+    ("P1", "a kind of line is missing at the end"), ("P1 WHAT", "WHAT is no kind of line: CON, TRACE, HM, UPSET, PLAN, HALT, SUSPEND, RESUME, COLD, WARM"),
     ("nobody HM", "nobody is no partition: P0, P1 .., XM, with --names SYSTEM also a name of it"), ("P1 within 3 of [0] HM", "3 is no time: 20ms, 500us, 1s"),
     ("P1 CON x times", "a number is missing at the end"), ("P1 CON x at three", "after `at` comes `least` or `most`"), ("P1 ends running", "running is no state in which P1 ends"),
     ("XM resets 0", "XM has no resets at its end"), ('P1 CON "x', "No closing quotation"),

@@ -102,7 +102,7 @@ class Dump:
         self.head.append(f"$scope module {self.words.get(partition, f'P{partition}')} $end")
         self.declare(partition, "reg", 2, "state")
         self.number(0, partition, "state", 0)
-        for name in ("CON", "HM", "TRACE"):
+        for name in ("CON", "HM", "TRACE", "UPSET"):
             self.declare(partition, "event", 1, name)
         self.declare(partition, "string", 1, "text")
         if has_slots:

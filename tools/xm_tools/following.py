@@ -14,6 +14,7 @@ OF_ALL = {
     "HYPERVISOR_COLD_RESET": "COLD", "HYPERVISOR_WARM_RESET": "WARM", "HYPERVISOR_HALT": "HALT", MAINTENANCE: "PLAN 1",
 }  # fmt: skip
 RESETS = ("COLD", "WARM")
+BYTE_DIGITS = 8  # of the place of an upset that is a byte
 # The state after a change of a partition, and the states in which the change is made.
 STATE_CHANGES = {
     "HALT": (HALTED, (READY, SUSPENDED)),
@@ -45,6 +46,7 @@ class Follower:
         self.number = 1  # of the line that is taken
         self.tick: int | None = None
         self.runner: int | None = None  # the partition that runs in the tick
+        self.is_begun = False  # whether the tick has a line that is no upset
         self.following: list[str] = []  # the lines that have to come next
         self.is_expected = False  # whether the line was one of those
 
@@ -101,6 +103,10 @@ class Follower:
             if line.shown() != wanted:
                 raise self.fail(f"not the line that has to follow: {wanted}")
         self.go_to(line.tick)
+        if line.kind == "UPSET":
+            self.take_upset(line)
+            return
+        self.is_begun = True
         if line.partition is None:
             self.take_of_all(line)
         elif line.kind in STATE_CHANGES:
@@ -110,9 +116,18 @@ class Follower:
 
     def go_to(self, tick: int) -> None:
         if tick != self.tick:
-            self.tick, self.runner = tick, self.runner_in(tick)
+            self.tick, self.runner, self.is_begun = tick, self.runner_in(tick), False
         elif self.course.starts[-1][0] > tick and not self.is_expected:
             raise self.fail("a line of a tick after the last one of that tick")
+
+    def take_upset(self, line: Line) -> None:
+        """An upset strikes before its tick, whichever state its partition has and whosever slot it is."""
+        if self.is_begun:
+            raise self.fail("an upset after another line of its tick")
+        place = line.text.split(" ")[0]
+        areas = self.system.partitions[line.partition or 0].areas
+        if len(place) == BYTE_DIGITS and not any(area.start <= int(place, 16) < area.end for area in areas):
+            raise self.fail(f"{place} is in no area of {line.owner}")
 
     def take_own(self, line: Line, partition: int) -> None:
         if self.is_sure() and self.runner != partition:

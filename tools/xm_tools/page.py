@@ -30,7 +30,7 @@ MARKS = {
     "HM": ("health event", "diamond", "#d00000", 0.3), "SUSPEND": ("SUSPEND", "triangle-left", "#b36b00", 0.0),
     "RESUME": ("RESUME", "triangle-right", "#b36b00", 0.0), "HALT": ("HALT", "x", "#000000", 0.0),
     "COLD": ("COLD reset", "triangle-up", "#0072b2", 0.0), "WARM": ("WARM reset", "triangle-up", "#d55e00", 0.0),
-    "PLAN": ("another plan", "line-ns-open", "#007a5e", 0.0),
+    "PLAN": ("another plan", "line-ns-open", "#007a5e", 0.0), "UPSET": ("upset", "star", "#c2185b", 0.0),
 }  # fmt: skip
 
 

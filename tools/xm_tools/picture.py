@@ -32,6 +32,7 @@ MARKS = {
     "HALT": ("X", "#000000", 0, "HALT"),
     "COLD": ("^", "#0072b2", 0, "COLD reset"),
     "WARM": ("^", "#d55e00", 0, "WARM reset"),
+    "UPSET": ("*", "#c2185b", 0.31, "upset: a bit flips before the tick"),
 }
 # How lines across all rows are drawn: their style, their colour, and what the legend says.
 LINES = {

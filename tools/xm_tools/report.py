@@ -23,15 +23,26 @@ OWN = {
     "CON": re.compile(f"{BYTE}+"),
     "TRACE": re.compile("[0-9a-f]{8} [0-9a-f]{16}"),
     "HM": re.compile(f"{EVENT}([A-Z_]+) [0-9a-f]{{8}} {ACTION}([A-Z_]+)"),
+    "UPSET": re.compile(f"(g[1-7]|w{NUMBER}|[0-9a-f]{{8}}|pc|npc|y|icc|hw|exec|tbr|mask|pending) bit {NUMBER}"),
 }
+# The bits of the places of upsets that are not those of a word: the first, and the one after the last.
+BITS = {"pc": (2, 32), "npc": (2, 32), "icc": (0, 4), "hw": (0, 63), "exec": (0, 63), "tbr": (12, 32)}
+MOST_WINDOWED = 127
 WHOLE = {"PLAN": re.compile(NUMBER)}
-NO_TEXT = {"CON": "no console text", "TRACE": "no trace", "HM": "no health event", "PLAN": "no line of a report"}
+NO_TEXT = {"CON": "no console text", "TRACE": "no trace", "HM": "no health event", "UPSET": "no upset", "PLAN": "no line of a report"}
 ESCAPE = re.compile(r"\\(\\|n|x[0-9a-f]{2})")
 
 
 @functools.cache
 def event_names() -> frozenset[str]:
     return frozenset(event.name for event in reference().events)
+
+
+def is_upset(found: re.Match[str]) -> bool:
+    """Whether the place of an upset has its bit."""
+    place, register, bit = found[1], found[2], int(found[3])
+    first, end = BITS.get(place, (0, 8) if len(place) == 8 else (0, 32))
+    return first <= bit < end and (register is None or int(register) <= MOST_WINDOWED)
 
 
 @dataclass(frozen=True, slots=True)
@@ -152,6 +163,8 @@ class Reader:
             return NO_TEXT[line.kind]
         if line.kind == "HM" and (found[1] not in event_names() or found[2] not in reference().actions):
             return "no health event"
+        if line.kind == "UPSET" and not is_upset(found):
+            return "no upset"
         if line.kind == "PLAN" and int(line.text) >= self.report.plans:
             return f"{line.text} is no plan"
         if line.kind == "CON" and len(line.text) > CONSOLE_BYTES and len(line.written()) > CONSOLE_BYTES:

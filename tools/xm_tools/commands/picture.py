@@ -14,7 +14,8 @@ Time runs from left to right, a partition a row:
   as far as it is neither halted nor suspended. A bar without a dark one may have been used in part, or in all;
 - thin bars are the ticks in which it is halted or suspended;
 - marks stand in the middle of their tick: halts, suspensions, resumptions and resets of the partition, health events
-  that are logged, console calls, traces. In the tick of one of the last three it ran;
+  that are logged, console calls, traces. In the tick of one of the last three it ran. A star is an upset: a bit of the
+  partition flipped before the tick, whether it ran or not;
 - lines across all rows stand at the end of their tick: switches of the plan, resets and halts of the hypervisor. Above
   the rows is said what each is, and which plan the picture begins with;
 - dotted lines are the beginnings of major frames, where there are at most 200.
