@@ -1,14 +1,16 @@
 """The page of a run: what stands in it, and what a browser without a window makes of it."""
 
 import html
+import importlib
 import re
 import shutil
 import subprocess
 from pathlib import Path
+from typing import Any
 
 import pytest
 
-from conftest import SYSTEMS, built, files_with, xm
+from conftest import SYSTEMS, built, files_with, suite, xm
 from xm_tools.course import Interval
 from xm_tools.description import read_description
 from xm_tools.following import course_of
@@ -16,6 +18,9 @@ from xm_tools.page import Message, Page, embedded
 from xm_tools.report import read_report
 from xm_tools.script import Cue, Script, Traffic, read_script, spelled
 
+model: Any = importlib.import_module("model")
+rows: Any = importlib.import_module("rows")
+upsets: Any = importlib.import_module("upsets")
 BROWSER = shutil.which("chromium")
 SUPERVISOR_LINES = 33
 
@@ -123,6 +128,45 @@ def test_orders_are_arrows_too(supervisor: Path) -> None:
     cues = (Cue(0, 12859), Cue(0, order="warm", status=1), Cue(0, 41140), Cue(0, traffic=Traffic("take", 0)))
     shown.scripts.append(Script(1, cues))
     assert shown.messages() == [Message(12859, 0, 1, "[12859] order warm 1")]
+
+
+@pytest.fixture
+def struck(tmp_path: Path) -> Path:
+    """A folder with a system of two partitions, and the report that the second simulator gives of a run with upsets of both."""
+    system = rows.demo()
+    machine = model.Machine(system)
+    machine.upsets = [
+        upsets.Upset(5, 1, "w127", 31),
+        upsets.Upset(5, 0, "40100010", 3),
+        upsets.Upset(1500, 0, "hw", 62),
+        upsets.Upset(3999, 1, "pc", 31),
+    ]
+    (tmp_path / "d.xml").write_text(suite.description_text(system))
+    (tmp_path / "r.txt").write_text(machine.run(4000))
+    return tmp_path
+
+
+def test_upsets_have_marks(struck: Path) -> None:
+    """In and out of the slots of the partition that is struck, with their lines; all else is as without them."""
+    shown = page_of(struck / "d.xml", struck / "r.txt")
+    assert [line.shown() for line in shown.marks(0, "UPSET")] == ["[5] P0 UPSET 40100010 bit 3", "[1500] P0 UPSET hw bit 62"]
+    assert [line.shown() for line in shown.marks(1, "UPSET")] == ["[5] P1 UPSET w127 bit 31", "[3999] P1 UPSET pc bit 31"]
+    assert shown.slots(0) == [Interval(0, 1000), Interval(2000, 3000)] and shown.ran(0) == shown.slots(0)
+
+
+def test_upsets_are_on_the_page(struck: Path) -> None:
+    pytest.importorskip("plotly")
+    assert xm(struck, "view", "d.xml", "r.txt", "u.html").err == ""
+    assert "[1500] P0 UPSET hw bit 62" in (struck / "u.html").read_text()
+
+
+def test_upsets_are_exported_and_expected(struck: Path) -> None:
+    """Each form of an export has them, and an expectation counts them."""
+    assert "5,P1,P1,UPSET,w127 bit 31" in xm(struck, "export", "--csv", "r.txt").out
+    dump = xm(struck, "export", "--vcd", "r.txt").out
+    assert dump.count(" UPSET $end") == 2 and "sw127_bit_31 " in dump
+    (struck / "e.txt").write_text("P1 UPSET times 2\nP0 UPSET \"40100010 bit *\"\nP1 no UPSET \"y *\"\n")
+    assert xm(struck, "expect", "r.txt", "e.txt").status == 0
 
 
 def test_a_run_of_many_slots_is_thinned(tmp_path: Path) -> None:
