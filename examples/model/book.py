@@ -337,7 +337,7 @@ def refused_rows(box):
                 run_words([box, "--ticks", str(REFUSED_TICKS), "--upset", UPSET_FILE], Path(folder))
             except Refusal as refusal:
                 fault = str(refusal).removeprefix(f"{UPSET_FILE}: ")
-                yield f'  {{ shows = "{shows}", make = {upsets_value(text)}, refused = "{fault}" }},'
+                yield f'  {{ shows = "{shows}", make = {upsets_value(text)}, refused = "{fault}", absent = ["{CORE}"] }},'
             else:
                 sys.exit(f"{shows}: not refused")
 
