@@ -14,8 +14,8 @@ Compares a report with expectations, one a line of FILE; what follows a # is no 
 Kinds are CON, TRACE, HM, UPSET, PLAN, HALT, SUSPEND, RESUME, COLD and WARM. A partition succeeds if it ends halted, no health event
 halted it, and it has no PARTITION_ERROR since its last reset or start: events that are not logged are not seen. With --names
 partitions may be named as the description or container SYSTEM names them, and one that another partition halted does not succeed
-either. Each expectation is printed with what came instead; --junit writes the results for a build
-server. The exit status is 1 where one is not met.
+either. Each expectation is printed with what came instead; --junit writes the results for a build server. The exit status is 1
+where one is not met.
 """
 
 from xm_tools.expectations import Expectation, expectations_of
