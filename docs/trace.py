@@ -353,7 +353,7 @@ class Trace:
         outside = [row.id for row in rows if not row.clauses and not any(map(self.is_in_gate, row.cases))]
         return [
             f"{len(rows)} requirements: {len(proved)} have a clause, {len(tried)} a case, {len(both)} both. They cite {len(cited)} clauses and "
-            f"{len(wrong)} of the {len(self.edits)} wrong bodies; the others are of crates inside the program, whose clauses no requirement cites.",
+            f"{len(wrong)} of the {len(self.edits)} wrong bodies. The gate refuses the others, too: {listed([code(each) for each in sorted(self.edits - wrong)])}.",
             "",
             f"No clause, shown by cases alone: {ranges(only) or 'none'}. Of these no case runs in the gate: {ranges(outside) or 'none'}.",
         ]
