@@ -1,10 +1,10 @@
 #!/usr/bin/env python3
 """Writes docs/TRACE.md: each requirement with its definitions, clauses, cases and wrong bodies, from docs/requirements.toml.
 
-usage: trace.py              writes the page
-       trace.py --check      says what is wrong with the table, the pages and TRACE.md; ends with 1 where there is something
-       trace.py --ids        prints each page's section with the ids of its requirements, as the section has to cite them
-       trace.py .. ROOT      the same for another checkout
+usage: requirements.py              writes the page
+       requirements.py --check      says what is wrong with the table, the pages and TRACE.md; ends with 1 where there is something
+       requirements.py --ids        prints each page's section with the ids of its requirements, as the section has to cite them
+       requirements.py .. ROOT      the same for another checkout
 
 A requirement is a table of docs/requirements.toml, named by its id:
 
@@ -361,7 +361,7 @@ class Trace:
 
 HEAD = """# Trace
 
-<!-- Written by docs/trace.py from docs/requirements.toml. Do not edit it: edit the table, and write it again. -->
+<!-- Written by docs/requirements.py from docs/requirements.toml. Do not edit it: edit the table, and write it again. -->
 
 Each requirement with what states it, what promises it, what shows it, and which wrong bodies the gate refuses. A requirement
 stands in the section of the page that its heading links to, which cites its id.
@@ -409,7 +409,7 @@ def main(words: list[str]) -> int:
         return 0
     faults = trace.faults()
     if not path.exists() or path.read_text(encoding="utf-8") != trace.text():
-        faults.append(f"{PAGE} is not what trace.py writes of the table")
+        faults.append(f"{PAGE} is not what requirements.py writes of the table")
     print("".join(fault + "\n" for fault in faults) + f"{len(trace.rows)} requirements, {len(faults)} differences")
     return 1 if faults else 0
 
