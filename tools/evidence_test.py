@@ -67,6 +67,10 @@ def root(tmp_path: Path) -> Path:
         (root / name).parent.mkdir(parents=True, exist_ok=True)
         (root / name).write_text(text, encoding="utf-8")
     set_gate(root, GATE, 0)
+    kit = tmp_path / "bin/rt"
+    kit.parent.mkdir()
+    kit.write_text("#!/bin/sh\necho kit-1 logic dac8208d\n", encoding="utf-8")
+    kit.chmod(0o755)
     return root
 
 
@@ -81,7 +85,7 @@ def set_gate(root: Path, text: str, status: int) -> None:
 @pytest.fixture
 def call(root: Path) -> Call:
     def run(*words: str | Path) -> subprocess.CompletedProcess[str]:
-        return subprocess.run([TOOL, *words], env={**os.environ, "XM_RUN_ROOT": str(root)}, capture_output=True, text=True, check=False)
+        return subprocess.run([TOOL, *words], env={**os.environ, "XM_RUN_ROOT": str(root), "PATH": f"{root.parent}/bin:{os.environ['PATH']}"}, capture_output=True, text=True, check=False)
 
     return run
 
@@ -115,7 +119,7 @@ def test_each_crate_is_proved_or_kept(root: Path, call: Call) -> None:
         ("rooms", "kept", "none", None),
         ("case_suite", "proved", "none", 1),
     ]
-    assert read(root)["kit"]["logic_sha256"] == "dac8208d"
+    assert read(root)["kit"] == {"name": "kit-1 logic dac8208d", "logic_sha256": "dac8208d"}
 
 
 def test_each_clause_has_its_text_and_its_crate(root: Path, call: Call) -> None:
