@@ -13,7 +13,7 @@ use Rattle.xm_report.specs.declared.line.Move.TheVariants as move
 use Rattle.machine_model.specs.Alone.{alone_lines_of, alone_local, alone_step_lines}
 use Rattle.machine_model.specs.Cue.{cue, cue_in}
 use Rattle.machine_model.specs.Emission as emission
-use Rattle.machine_model.specs.Emission.{Act, AllHalted, AllReset, Directed, NoEvent, Sight, WholeEvent, line_of, reach_of}
+use Rattle.machine_model.specs.Emission.{Act, AllHalted, AllReset, NoEvent, WholeEvent, line_of}
 use Rattle.machine_model.specs.Laws.{NeverUponItself, OneTick, part}
 use Rattle.machine_model.specs.Lines.{lines, lines_of, lines_unless, local_lines, order_lines, own, step_lines}
 use Rattle.machine_model.specs.Lists.{all_of}
