@@ -71,6 +71,20 @@ _xm_run_two_words() {
     esac
 }
 
+_xm_run_flows() {
+    local files
+    case $place:${words[2]} in
+        0:-*) _xm_run_words --steering ;;
+        0:*)
+            _xm_run_files xml
+            files=("${COMPREPLY[@]}")
+            _xm_run_words --steering
+            COMPREPLY+=("${files[@]}")
+            ;;
+        1:--steering) _xm_run_files xml ;;
+    esac
+}
+
 _xm_run_xmcparser() {
     local files
     case $place:${words[2]} in
@@ -97,7 +111,7 @@ _xm_run() {
         2:xmpack) _xm_run_words 'build list check' ;;
         2:plan) _xm_run_words 'make check' ;;
         *:xmeformat | *:xmpack | *:plan) _xm_run_two_words ;;
-        2:flows) _xm_run_files xml ;;
+        *:flows) _xm_run_flows ;;
         *:run) _xm_run_run ;;
         *:alone) _xm_run_alone ;;
     esac

@@ -40,7 +40,7 @@ xm_run plan make XML
     Read the system description XML, check it as xmcparser does, make a cyclic plan.
 xm_run plan check XML
     Read and check the system description XML in the same way, and print for each partition whether plan 0 meets its requirement.
-xm_run flows XML
+xm_run flows [--steering] XML
     Read and check the system description XML in the same way, and print a line for each partition.
 xm_run gen NUM
     Generate a system from the seed NUM, at most 4294967295, pack it, unpack the container, run the system.

@@ -6,14 +6,15 @@ usage: groups.py FOLDER
 FOLDER is crates/case_suite/data, the file is groups.toml. The group of a partition is found here by its definition alone: of
 all sets of partitions those are taken that have the partition and that no channel or link enters from outside, and the group is
 what they have in common. Of more than 16 partitions there are too many sets: there it is grown, which is compared with the
-other way for all others.
+other way for all others. Who may steer others is found by the two tables below and the texts of the descriptions: the flag, and
+each answer to a health event whose action reaches all partitions.
 """
 import json
 import sys
 from pathlib import Path
 
 HEADER = """\
-# What `flows` answers. The descriptions and what is printed of them are those of
+# What `flows` and `flows --steering` answer. The descriptions and what is printed of them are those of
 # `examples/model/groups.py crates/case_suite/data`, which writes this file: it takes all sets of partitions that no channel
 # or link enters from outside, and what those with a partition have in common. The lines of a refusal are those of docs/ERRORS.md.
 """
@@ -90,6 +91,39 @@ def lines_of(count, channels, systems):
         covered = "no" if members & set(systems) else "yes"
         lines.append(f"P{p} members={','.join(map(str, sorted(members)))} covered={covered}\n")
     return "".join(lines)
+
+
+# The health events in the order of their numbers, and the actions that reach all partitions and those that do not.
+EVENTS = [
+    "PARTITION_ERROR", "MEM_PROTECTION", "UNEXPECTED_TRAP", "SPARC_ILLEGAL_INSTRUCTION", "SPARC_PRIVILEGED_INSTRUCTION",
+    "SPARC_FP_DISABLED", "SPARC_CP_DISABLED", "SPARC_ADDRESS_NOT_ALIGNED", "SPARC_TAG_OVERFLOW", "SPARC_DIVIDE_EXCEPTION",
+    "SPARC_INSTR_ACCESS", "SPARC_DATA_ACCESS",
+]
+ON_ALL = ["HYPERVISOR_COLD_RESET", "HYPERVISOR_WARM_RESET", "HYPERVISOR_HALT", "SWITCH_TO_MAINTENANCE"]
+ON_ITSELF = ["IGNORE", "SHUTDOWN", "PARTITION_COLD_RESET", "PARTITION_WARM_RESET", "SUSPEND", "HALT", "PROPAGATE"]
+TWO_PLANS = ["</CyclicPlanTable>", "<Plan id='1' majorFrame='1us'><Slot id='0' start='0us' duration='1us' partitionId='0'/></Plan></CyclicPlanTable>"]
+
+
+def steering_lines(count, systems, answers):
+    """The lines of steering; an answer is a partition, an event, an action and whether it is logged."""
+    lines = []
+    for p in range(count):
+        if p in systems:
+            lines.append(f"P{p} steers by=system\n")
+        own = sorted((EVENTS.index(event), event, action) for part, event, action, _ in answers if part == p and action in ON_ALL)
+        lines.extend(f"P{p} steers by=health event=XM_HM_EV_{event} action=XM_HM_AC_{action}\n" for _, event, action in own)
+    return "".join(lines)
+
+
+def steering_changes(count, channels, systems, answers):
+    """What a description with these answers has in the places of the base's marks, and a second plan."""
+    marks = changes(count, channels, systems)
+    for mark in marks:
+        if mark[0].startswith("PORTS"):
+            own = [answer for answer in answers if answer[0] == int(mark[0][5:])]
+            events = "".join(f"<Event name='XM_HM_EV_{event}' action='XM_HM_AC_{action}'{'' if logged else ' log=' + chr(39) + 'no' + chr(39)}/>" for _, event, action, logged in own)
+            mark[1] = (f"<HealthMonitor>{events}</HealthMonitor>" if own else "") + mark[1]
+    return [*marks, TWO_PLANS]
 
 
 def base(count):
@@ -173,6 +207,24 @@ CASES = [
 ]
 
 
+# What each shows, how many partitions, the channels, the system partitions, and the answers to health events.
+STEERERS = [
+    ("nobody", 3, [sampling(0, 1), queuing(1, 2)], [], []),
+    ("a system partition", 2, [], [1], []),
+    ("two system partitions of four", 4, [queuing(0, 3)], [0, 2], []),
+    *((f"the action {action}", 2, [], [], [(1, "SPARC_TAG_OVERFLOW", action, True)]) for action in ON_ALL),
+    *((f"the action {action}, which reaches the partition alone", 2, [], [], [(1, "SPARC_TAG_OVERFLOW", action, True)]) for action in ON_ITSELF),
+    ("an action for each event, in another order", 2, [], [], [(0, event, ON_ALL[k % 4], True) for k, event in reversed(list(enumerate(EVENTS)))]),
+    *((f"an action for {event}", 1, [], [], [(0, event, "HYPERVISOR_HALT", True)]) for event in EVENTS),
+    ("an action that is not logged", 2, [], [], [(0, "UNEXPECTED_TRAP", "SWITCH_TO_MAINTENANCE", False)]),
+    ("actions that reach all between others", 2, [], [], [(1, "PARTITION_ERROR", "HALT", True), (1, "UNEXPECTED_TRAP", "HYPERVISOR_WARM_RESET", True), (1, "SPARC_FP_DISABLED", "IGNORE", True)]),
+    ("a system partition whose table has an action, too", 3, [sampling(0, 1)], [1], [(1, "SPARC_DATA_ACCESS", "HYPERVISOR_COLD_RESET", True)]),
+    ("a system partition and the table of another one", 3, [link(0, 2)], [2], [(0, "MEM_PROTECTION", "HYPERVISOR_HALT", True)]),
+    ("the last of thirty-two partitions", 32, [], [31], [(30, "SPARC_INSTR_ACCESS", "SWITCH_TO_MAINTENANCE", True)]),
+    ("thirty-two system partitions", 32, [], list(range(32)), []),
+]
+
+
 def quoted(value):
     return json.dumps(value, ensure_ascii=False)
 
@@ -217,6 +269,25 @@ def main():
     ]))
     parts.append(group("words that are no groups", {"status": '"Usage"', "fails": "{ files = [0] }"}, [
         words_row(words) for words in (["flows"], ["flows", ""], ["flows", "--x"], ["flows", "--"], ["flows", "demo.xml", "o"], ["flow", "demo.xml"], ["Flows", "demo.xml"], ["--flows", "demo.xml"], ["demo.xml", "flows"])
+    ]))
+    said += steering_lines(2, [0], [])
+    parts.append(group("steerers of the worked description", {"file": '["demo.xml"]'}, [row("a system partition and another one", call='"flows --steering demo.xml"', out=quoted(said))]))
+    rows = []
+    for shows, count, channels, systems, answers in STEERERS:
+        make = f"{{ name = \"x\", of = \"{count} in groups\", replace = {quoted(steering_changes(count, channels, systems, answers))} }}"
+        rows.append(row(shows, make=make, out=quoted(lines_of(count, channels, systems) + steering_lines(count, systems, answers))))
+    parts.append(group("steerers", {"call": '"flows --steering x"'}, rows))
+    parts.append(group("descriptions that give no steerers", {"call": '"flows --steering x"', "of_file": '"x"'}, [
+        row("nothing", make='{ name = "x", text = "" }', refused='"unclosed at=0"'),
+        row("the first broken rule", make=f"{{ name = \"x\", of = \"demo.xml\", replace = {quoted(rule)} }}", refused='"rule number=2 at=46 and=46"'),
+    ]))
+    parts.append(group("steerers where a device fails", {"file": '["demo.xml"]', "call": '"flows --steering demo.xml"'}, [
+        row("the read", fails="{ files = [0] }", status='"ReadFault"', err=quoted("xm_run: demo.xml: cannot read\n")),
+        row("the second call fails", fails="{ out = [1], out_step = 52 }", status='"WriteFault"', out=quoted(said[:52]), err=quoted("xm_run: report: cannot write\n")),
+        row("the call after the last", fails=f"{{ out = [{len(said)}], out_step = 1 }}", out=quoted(said)),
+    ]))
+    parts.append(group("words that are no steerers", {"status": '"Usage"', "fails": "{ files = [0] }"}, [
+        words_row(words) for words in (["flows", "--steering"], ["flows", "--steering", ""], ["flows", "--steering", "--x"], ["flows", "demo.xml", "--steering"], ["flows", "--Steering", "demo.xml"], ["flows", "-steering", "demo.xml"], ["flows", "--steering", "demo.xml", "o"], ["plan", "--steering", "demo.xml"])
     ]))
     (Path(folder) / "groups.toml").write_text("\n".join(parts), encoding="utf-8")
 

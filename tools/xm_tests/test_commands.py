@@ -16,7 +16,9 @@ import pytest
 
 from conftest import ROOT, SECOND, SUPERVISOR, SYSTEMS, XM, built, files_with, program_of_user, xm
 from xm_tools.command import COMMANDS
+from xm_tools.groups import group_of, steering_lines
 from xm_tools.symbols import read_symbols
+from xm_tools.systems import read_system
 
 SENSOR = ROOT / "tools/xm_tests/data/sensor.elf"
 QUEUE = {"producer": "producer.elf", "consumer": "consumer.elf"}
@@ -337,6 +339,15 @@ def test_who_can_steer_whom(tmp_path: Path, whole_program: str) -> None:
         "steers: P1 payload (XM_HM_EV_SPARC_DIVIDE_EXCEPTION XM_HM_AC_SWITCH_TO_MAINTENANCE)",
         "unsteered no",
     ]
+
+
+def test_steering_is_the_program_s(tmp_path: Path, whole_program: str) -> None:
+    """Where the tool finds who can steer, and by what, the program does; both from the same description."""
+    for path in (ROOT / "docs/xm_cf_example.xml", ROOT / "examples/flows/flight.xml", *sorted(SYSTEMS.glob("*/*.xml"))):
+        done = subprocess.run([whole_program, "flows", "--steering", str(path)], cwd=tmp_path, capture_output=True, text=True, check=False)
+        system = read_system(str(path))
+        groups = [group_of(system, partition.number).line() for partition in system.partitions]
+        assert done.stdout.splitlines() == groups + steering_lines(system), path
 
 
 # Expectations and comparisons.

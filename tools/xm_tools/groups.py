@@ -57,3 +57,16 @@ def rights_of(partition: Partition) -> list[str]:
 def steering_of(system: System) -> dict[int, list[str]]:
     """The partitions that can steer others, each with its rights."""
     return {one.number: rights_of(one) for one in system.partitions if rights_of(one)}
+
+
+def steering_lines(system: System) -> list[str]:
+    """The lines that `xm_run flows --steering` adds."""
+    events, actions = reference().events, reference().actions
+    lines = []
+    for one in system.partitions:
+        if one.is_system:
+            lines.append(f"P{one.number} steers by=system")
+        for answer in sorted(one.answers, key=lambda answer: answer.event):
+            if actions[answer.action] in ON_ALL:
+                lines.append(f"P{one.number} steers by=health event={EVENT}{events[answer.event].name} action={ACTION}{actions[answer.action]}")
+    return lines

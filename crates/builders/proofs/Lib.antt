@@ -1,2 +1,3 @@
 pub mod GroupingLemmas
 pub mod PlanningLemmas
+pub mod SteeringLemmas

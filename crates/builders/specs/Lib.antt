@@ -5,6 +5,7 @@ pub mod Makes
 pub mod Parsing
 pub mod Planning
 pub mod Ready
+pub mod Steering
 pub mod Success
 pub mod Printout
 pub mod lemmas

@@ -36,8 +36,8 @@ fn groups_for(alloc: Global, conf: &Conf) -> Result<Vec<u8>, Unmade>
     put_groups(alloc, conf, parts_of(conf)).map_err(|_| Unmade::Memory)
 }
 
-// The lines of the partitions of a configuration, where there is memory for them.
-fn put_groups(alloc: Global, conf: &Conf, parts: &[Part]) -> Result<Vec<u8>, Memory>
+/// The lines of the partitions of a configuration, where there is memory for them.
+pub(crate) fn put_groups(alloc: Global, conf: &Conf, parts: &[Part]) -> Result<Vec<u8>, Memory>
     requires same { parts.now ≡ conf.now.parts }
     requires few { length parts.now ≤ most_parts }
     ensures { IfOk result (λ lines. lines.items ≡ added_by_each (group_line_in conf.now) parts.now) }

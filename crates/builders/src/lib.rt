@@ -5,16 +5,19 @@
 
 mod grouping;
 mod imaging;
+mod law;
 mod made_file;
 mod parsing;
 mod planning;
 mod printout;
 mod scripting;
+mod steering;
 mod success;
 mod unmade;
 mod upgrading;
 
 pub use imaging::{no_container, no_image};
+pub use law::shows_steerers;
 pub use made_file::{MadeFile, make_file};
 pub use printout::{Printout, printout_text};
 pub use scripting::no_script;

@@ -7,6 +7,7 @@ ghost use Rattle.builders.specs.Printout.{printout_text};
 use crate::grouping::groups;
 use crate::imaging::{container_lines, container_verdict, image_lines};
 use crate::planning::{plan_lines, verdicts};
+use crate::steering::steering;
 use crate::unmade::Unmade;
 use std::alloc::Global;
 
@@ -25,6 +26,8 @@ pub enum Printout {
     Verdicts,
     /// The group of each partition of a system description.
     Groups,
+    /// The group of each partition, and by what each may steer others.
+    Steering,
 }
 
 /// The text that is printed of a file.
@@ -32,7 +35,8 @@ pub fn printout_text(alloc: Global, what: Printout, bytes: &[u8]) -> Result<Vec<
     // Called with fewer than 2^32 bytes.
     requires { length bytes.now < 2 ^ 32 }
     // What is printed of an image, of a container, of a container that is only checked, of the plan that a
-    // description's requirements make, of its own plan, and of its groups; or the text of the first fault.
+    // description's requirements make, of its own plan, of its groups, and of these and of who may steer others; or the
+    // text of the first fault.
     ensures { Makes result (printout_text what bytes.now) }
 {
     match what {
@@ -42,5 +46,6 @@ pub fn printout_text(alloc: Global, what: Printout, bytes: &[u8]) -> Result<Vec<
         Printout::Plan => plan_lines(alloc, bytes),
         Printout::Verdicts => verdicts(alloc, bytes),
         Printout::Groups => groups(alloc, bytes),
+        Printout::Steering => steering(alloc, bytes),
     }
 }

@@ -3,7 +3,7 @@ use Rattle.std.proofs.Common.{◌≡◌, ℕ, Bool, true, false, ◌&&◌, if◌
 use Rattle.std.specs.Str.{bytes_eq}
 use Rattle.std.proofs.lemmas.Bool.{and_parts}
 use Rattle.command_line.specs.Grammar.{CommandsAreSpelled, IsFileName, IsRight, words_of}
-use Rattle.command_line.specs.Words.{Command, PartFile, ReplayFiles, RunOption, Bare, Parse, Upgrade, BuildImage, ReadImage, Pack, ListContainer, CheckContainer, MakePlan, CheckPlan, ListGroups, Generate, Run, Replay, are_part_files, are_run_options, asked, bare_of, by_verb, command_by_count, command_of, command_of_more, command_of_one, command_of_three, command_of_two, format_command, generate_for, is_file, of_file, of_files, pack_command, part_files, part_number, plan_command, replay_by, replay_files, replay_command, run_of, run_options, seed_of, ticks_of}
+use Rattle.command_line.specs.Words.{Command, PartFile, ReplayFiles, RunOption, Bare, Parse, Upgrade, BuildImage, ReadImage, Pack, ListContainer, CheckContainer, MakePlan, CheckPlan, ListGroups, ListSteerers, Generate, Run, Replay, are_part_files, are_run_options, asked, bare_of, by_verb, command_by_count, command_of, command_of_more, command_of_one, command_of_three, command_of_two, flows_command, format_command, generate_for, is_file, of_file, of_files, pack_command, part_files, part_number, plan_command, replay_by, replay_files, replay_command, run_of, run_options, seed_of, ticks_of}
 use Rattle.command_line.proofs.OptionLemmas.{reads_run_options, run_options_typed}
 use Rattle.command_line.proofs.PartFileLemmas.{files_named, files_typed_right}
 use Rattle.command_line.proofs.ReplayLemmas.{further_typed, reads_further}
@@ -89,6 +89,17 @@ plan_typed name verb file command is e =
     verb_typed _ verb file (codes "make") (codes "check") MakePlan CheckPlan command
     (λ verb_is right. record { text = cc; right = right }) (λ verb_is right. record { text = cc; right = right }) e
 
+-- what `flows` is asked for besides groups
+flows_typed : (name option file : List ℕ) (command : Command) → name ≡ codes "flows" → flows_command option file ≡ Some command → Typed (name ∷ option ∷ file ∷ []) command
+unfolding flows_command
+flows_typed name option file command is e = ⊎_elim steering none (other (bytes_eq option (codes "--steering")) (of_file ListSteerers file) None command e)
+  where
+    steering : ((bytes_eq option (codes "--steering") ≡ true) × (of_file ListSteerers file ≡ Some command)) → Typed (name ∷ option ∷ file ∷ []) command
+    steering h = (let option_is = named option (codes "--steering") h.0 in file_typed _ ListSteerers file command (λ right. record { text = cc; right = right }) h.1)
+
+    none : None ≡ Some command → Typed (name ∷ option ∷ file ∷ []) command
+    none h = absurd (let no : ⊥ = cc in no)
+
 -- a system that is generated
 seed_typed : (name word : List ℕ) (command : Command) → name ≡ codes "gen" → generate_for (seed_of word) ≡ Some command → Typed (name ∷ word ∷ []) command
 seed_typed name word command is e = at (seed_of word) refl e
@@ -120,15 +131,19 @@ one_typed name first command e =
 two_typed : (name first second : List ℕ) (command : Command) → command_of_two name first second ≡ Some command → Typed (name ∷ first ∷ second ∷ []) command
 unfolding command_of_two
 two_typed name first second command e =
-    ⊎_elim bare (λ h. ⊎_elim parse (λ h. ⊎_elim format (λ h. ⊎_elim pack (λ h. ⊎_elim plan none
-    (other (bytes_eq name (codes "plan")) (plan_command first second) None command h))
+    ⊎_elim bare (λ h. ⊎_elim parse (λ h. ⊎_elim format (λ h. ⊎_elim pack (λ h. ⊎_elim plan (λ h. ⊎_elim flows none
+    (other (bytes_eq name (codes "flows")) (flows_command first second) None command h))
+    (other (bytes_eq name (codes "plan")) (plan_command first second) else_flows command h))
     (other (bytes_eq name (codes "xmpack")) (pack_command first second) else_plan command h))
     (other (bytes_eq name (codes "xmeformat")) (format_command first second) else_pack command h))
     (other (bytes_eq name (codes "xmcparser")) (of_files Parse first second) else_format command h))
     (other (bytes_eq name (codes "bare")) (bare_of (is_file first) first (ticks_of second)) else_parse command e)
   where
+    else_flows : Option Command
+    else_flows = if bytes_eq name (codes "flows") then flows_command first second else None
+
     else_plan : Option Command
-    else_plan = if bytes_eq name (codes "plan") then plan_command first second else None
+    else_plan = if bytes_eq name (codes "plan") then plan_command first second else else_flows
 
     else_pack : Option Command
     else_pack = if bytes_eq name (codes "xmpack") then pack_command first second else else_plan
@@ -153,6 +168,9 @@ two_typed name first second command e =
 
     plan : ((bytes_eq name (codes "plan") ≡ true) × (plan_command first second ≡ Some command)) → Typed (name ∷ first ∷ second ∷ []) command
     plan h = plan_typed name first second command (named name (codes "plan") h.0) h.1
+
+    flows : ((bytes_eq name (codes "flows") ≡ true) × (flows_command first second ≡ Some command)) → Typed (name ∷ first ∷ second ∷ []) command
+    flows h = flows_typed name first second command (named name (codes "flows") h.0) h.1
 
     none : None ≡ Some command → Typed (name ∷ first ∷ second ∷ []) command
     none h = absurd (let no : ⊥ = cc in no)
@@ -276,7 +294,7 @@ reads_replay container part script further right =
 
 -- what is typed for a command asks for it
 reads : (command : Command) → IsRight command → command_of (words_of command) ≡ Some command
-unfolding command_of command_by_count command_of_one command_of_two command_of_three format_command by_verb
+unfolding command_of command_by_count command_of_one command_of_two command_of_three flows_command format_command by_verb
 reads (Bare image ticks) right = rw (is_of_file image right.0, text_ticks (decimal ticks) ticks right.1 refl)
 reads (Parse description output) right = rw (is_of_file description right.0, is_of_file output right.1)
 reads (Upgrade configuration output) right = rw (is_of_file configuration right.0, is_of_file output right.1)
@@ -288,6 +306,7 @@ reads (CheckContainer container) right = rw (is_of_file container right)
 reads (MakePlan description) right = rw (is_of_file description right)
 reads (CheckPlan description) right = rw (is_of_file description right)
 reads (ListGroups description) right = rw (is_of_file description right)
+reads (ListSteerers description) right = rw (is_of_file description right)
 reads (Generate number) right = rw (text_seed (decimal number) number right refl) refl
 reads (Run container options) right = reads_run container options right
 reads (Replay container part script further) right = reads_replay container part script further right

@@ -6,7 +6,7 @@ use Rattle.command_line.specs.declared.commands.Span.{Span}
 use Rattle.command_line.specs.declared.commands.Span.TheVariants.{Frames, Ticks}
 use Rattle.command_line.specs.declared.run_options.FileKind.{FileKind}
 use Rattle.command_line.specs.declared.run_options.FileKind.TheVariants.{Core, Input, Script}
-use Rattle.command_line.specs.Words.{Command, PartFile, ReplayFiles, RunOption, Bare, Parse, Upgrade, BuildImage, ReadImage, Pack, ListContainer, CheckContainer, MakePlan, CheckPlan, ListGroups, Generate, Run, Replay, Length, ForPart, Neither, InputAlone, CoreAlone, InputThenCore, CoreThenInput, command_of, files_in, spans_in, ticks_of}
+use Rattle.command_line.specs.Words.{Command, PartFile, ReplayFiles, RunOption, Bare, Parse, Upgrade, BuildImage, ReadImage, Pack, ListContainer, CheckContainer, MakePlan, CheckPlan, ListGroups, ListSteerers, Generate, Run, Replay, Length, ForPart, Neither, InputAlone, CoreAlone, InputThenCore, CoreThenInput, command_of, files_in, spans_in, ticks_of}
 
 -- a word is this many ticks where it is their number in decimal, and they are not above the limit
 abbrev pub TicksAreDecimal : Type 0
@@ -63,6 +63,7 @@ words_of (CheckContainer container) = codes "xmpack" ∷ codes "check" ∷ conta
 words_of (MakePlan description) = codes "plan" ∷ codes "make" ∷ description ∷ []
 words_of (CheckPlan description) = codes "plan" ∷ codes "check" ∷ description ∷ []
 words_of (ListGroups description) = codes "flows" ∷ description ∷ []
+words_of (ListSteerers description) = codes "flows" ∷ codes "--steering" ∷ description ∷ []
 words_of (Generate number) = codes "gen" ∷ decimal number ∷ []
 words_of (Run container options) = codes "run" ∷ container ∷ flat_map option_words options
 words_of (Replay container part script further) = codes "alone" ∷ container ∷ decimal part ∷ script ∷ further_words further
@@ -113,6 +114,7 @@ IsRight (CheckContainer container) = IsFileName container
 IsRight (MakePlan description) = IsFileName description
 IsRight (CheckPlan description) = IsFileName description
 IsRight (ListGroups description) = IsFileName description
+IsRight (ListSteerers description) = IsFileName description
 IsRight (Generate number) = number ≤ 4294967295
 IsRight (Run container options) = IsFileName container × AreRunOptions options
 IsRight (Replay container part script further) = IsFileName container × (part ≤ 31) × IsFileName script × AreFurther further

@@ -1,7 +1,7 @@
 -- What the program's commands say.
 use Rattle.std.specs.Prelude.{ℕ, List, Option, Some, None}
 use Rattle.command_line.specs.Texts.{texts_of}
-use Rattle.command_line.specs.Words.{Command, PartFile, ReplayFiles, RunOption, Bare, Parse, Upgrade, BuildImage, ReadImage, Pack, ListContainer, CheckContainer, MakePlan, CheckPlan, ListGroups, Generate, Run, Replay, Length, ForPart, Neither, InputAlone, CoreAlone, InputThenCore, CoreThenInput, files_in, part_files, run_options}
+use Rattle.command_line.specs.Words.{Command, PartFile, ReplayFiles, RunOption, Bare, Parse, Upgrade, BuildImage, ReadImage, Pack, ListContainer, CheckContainer, MakePlan, CheckPlan, ListGroups, ListSteerers, Generate, Run, Replay, Length, ForPart, Neither, InputAlone, CoreAlone, InputThenCore, CoreThenInput, files_in, part_files, run_options}
 use Rattle.command_line.specs.declared.commands.Command as code
 use Rattle.command_line.specs.declared.commands.Command.TheVariants as variant
 use Rattle.command_line.specs.declared.part_files.PartFile as file
@@ -56,6 +56,7 @@ seen_command (variant.CheckContainer container) = CheckContainer container.now
 seen_command (variant.MakePlan description) = MakePlan description.now
 seen_command (variant.CheckPlan description) = CheckPlan description.now
 seen_command (variant.ListGroups description) = ListGroups description.now
+seen_command (variant.ListSteerers description) = ListSteerers description.now
 seen_command (variant.Generate number) = Generate number
 seen_command (variant.Run container options) = Run container.now (seen_options options)
 seen_command (variant.Replay container part script further) = Replay container.now part script.now (seen_further further)

@@ -33,7 +33,7 @@ pub data ReplayFiles : Type 0 where
 -- configuration and the images of its partitions are packed into a container; a
 -- container is printed; a container is checked; a cyclic plan is made from the requirements of a system description; the
 -- plan of a system description is checked against its requirements; the groups of the partitions of a system description are
--- printed; a system is generated from a number, and runs; a container runs with options; a partition of a container is replayed alone, by a
+-- printed; these groups are printed, and by what each partition may steer others; a system is generated from a number, and runs; a container runs with options; a partition of a container is replayed alone, by a
 -- script, with further files
 pub data Command : Type 0 where
   Bare : (image : List ℕ) (ticks : ℕ) → Command
@@ -47,6 +47,7 @@ pub data Command : Type 0 where
   MakePlan : (description : List ℕ) → Command
   CheckPlan : (description : List ℕ) → Command
   ListGroups : (description : List ℕ) → Command
+  ListSteerers : (description : List ℕ) → Command
   Generate : (number : ℕ) → Command
   Run : (container : List ℕ) (options : List RunOption) → Command
   Replay : (container : List ℕ) (part : ℕ) (script : List ℕ) (further : ReplayFiles) → Command
@@ -320,6 +321,10 @@ pack_command verb file = by_verb (is_file file) verb (codes "list") (ListContain
 abbrev pub plan_command : List ℕ → List ℕ → Option Command
 plan_command verb file = by_verb (is_file file) verb (codes "make") (MakePlan file) (codes "check") (CheckPlan file)
 
+-- what `flows` is asked to print of a file besides groups
+unfoldable pub flows_command : List ℕ → List ℕ → Option Command
+flows_command option file = if bytes_eq option (codes "--steering") then of_file ListSteerers file else None
+
 -- the number that a system is generated out of
 abbrev pub seed_of : List ℕ → Option ℕ
 seed_of word = number_spelled 4294967295 word
@@ -344,6 +349,7 @@ command_of_two name first second =
     else if bytes_eq name (codes "xmeformat") then format_command first second
     else if bytes_eq name (codes "xmpack") then pack_command first second
     else if bytes_eq name (codes "plan") then plan_command first second
+    else if bytes_eq name (codes "flows") then flows_command first second
     else None
 
 -- the command of a name and three words

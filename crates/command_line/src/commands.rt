@@ -67,6 +67,10 @@ pub enum Command<'a> {
     ListGroups {
         description: &'a str,
     },
+    /// Print, after these groups, by what each partition may steer others.
+    ListSteerers {
+        description: &'a str,
+    },
     /// Generate a system out of this number, and run it.
     Generate {
         number: u32,

@@ -3,7 +3,7 @@
 ghost use Rattle.std.specs.Prelude.{◌≡◌, ◌&&◌};
 ghost use Rattle.command_line.specs.Seen.{command_seen, seen_command};
 ghost use Rattle.command_line.specs.Texts.{texts_of};
-ghost use Rattle.command_line.specs.Words.{Pack, Parse, ListGroups, are_part_files, asked, bare_of, by_verb, command_by_count, command_of, command_of_more, command_of_one, command_of_three, command_of_two, format_command, generate_for, is_file, of_file, of_files, pack_command, part_files, plan_command, replay_by, replay_command, run_of, seed_of, ticks_of, part_number, replay_files};
+ghost use Rattle.command_line.specs.Words.{Pack, Parse, ListGroups, are_part_files, asked, bare_of, by_verb, command_by_count, command_of, command_of_more, command_of_one, command_of_three, command_of_two, flows_command, format_command, generate_for, is_file, of_file, of_files, pack_command, part_files, plan_command, replay_by, replay_command, run_of, seed_of, ticks_of, part_number, replay_files};
 
 use crate::commands::Command;
 use crate::numbers::{part, seed, ticks};
@@ -96,6 +96,8 @@ fn command_of_two<'a>(name: &str, first: &'a str, second: &'a str) -> Option<Com
         pack_command(first, second)
     } else if name == "plan" {
         plan_command(first, second)
+    } else if name == "flows" {
+        flows_command(first, second)
     } else {
         None
     }
@@ -246,6 +248,18 @@ fn format_command<'a>(verb: &str, image: &'a str) -> Option<Command<'a>>
 {
     if verb == "read" && is_file(image) {
         Some(Command::ReadImage { image })
+    } else {
+        None
+    }
+}
+
+/// What `flows` is asked to print of a file besides groups.
+#[tactic(auto, unfolding(crate::specs::Words::flows_command))]
+fn flows_command<'a>(option: &str, description: &'a str) -> Option<Command<'a>>
+    ensures { command_seen result ≡ flows_command option.now description.now }
+{
+    if option == "--steering" && is_file(description) {
+        Some(Command::ListSteerers { description })
     } else {
         None
     }

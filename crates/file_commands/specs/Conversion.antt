@@ -2,7 +2,7 @@
 use Rattle.std.specs.Prelude.{ℕ, List}
 use Rattle.builders.specs.declared.made_file.MadeFile.TheVariants as made
 use Rattle.builders.specs.declared.printout.Printout.TheVariants as printed
-use Rattle.command_line.specs.Words.{Command, Parse, Upgrade, BuildImage, ReadImage, ListContainer, CheckContainer, MakePlan, CheckPlan, ListGroups}
+use Rattle.command_line.specs.Words.{Command, Parse, Upgrade, BuildImage, ReadImage, ListContainer, CheckContainer, MakePlan, CheckPlan, ListGroups, ListSteerers}
 use Rattle.file_commands.specs.declared.converting.Conversion.{Conversion}
 use Rattle.file_commands.specs.declared.converting.Conversion.TheVariants.{File, Report}
 
@@ -17,3 +17,4 @@ command_making (Report printed.Verdict) file = CheckContainer file
 command_making (Report printed.Plan) file = MakePlan file
 command_making (Report printed.Verdicts) file = CheckPlan file
 command_making (Report printed.Groups) file = ListGroups file
+command_making (Report printed.Steering) file = ListSteerers file

@@ -20,12 +20,13 @@ use Rattle.loaded_system.specs.System.{System}
 use Rattle.xm_container.specs.Reading.{unpacked}
 use Rattle.fault_messages.specs.Texts.{box_fault_text}
 use Rattle.fault_messages.specs.declared.fault.BoxFault.{BoxFault}
-use Rattle.command_line.specs.Words.{Command, PartFile, RunOption, Bare, Parse, Upgrade, BuildImage, ReadImage, Pack, ListContainer, CheckContainer, MakePlan, CheckPlan, ListGroups, Generate, Run, Replay, ReplayFiles, cores_in, inputs_in, replay_core, replay_input, span_in, scripts_in}
+use Rattle.command_line.specs.Words.{Command, PartFile, RunOption, Bare, Parse, Upgrade, BuildImage, ReadImage, Pack, ListContainer, CheckContainer, MakePlan, CheckPlan, ListGroups, ListSteerers, Generate, Run, Replay, ReplayFiles, cores_in, inputs_in, replay_core, replay_input, span_in, scripts_in}
 use Rattle.command_line.specs.declared.commands.Span.{Span}
 use Rattle.command_line.specs.declared.commands.Span.TheVariants.{Frames, Ticks}
 use Rattle.file_commands.specs.Denial.{Denial}
 use Rattle.file_commands.specs.Ending.{input_text, length_text, partition_text, ticks_text}
 use Rattle.builders.specs.Grouping.{groups_of}
+use Rattle.builders.specs.Steering.{steering_of}
 use Rattle.builders.specs.Imaging.{container_lines_of, container_verdict_of, image_lines_of, xef_of}
 use Rattle.file_commands.specs.Inputs.{inputs_for, no_inputs}
 use Rattle.file_commands.specs.Packing.{container_of, denial, file_names}
@@ -79,6 +80,7 @@ inputs_of (CheckContainer container) = container ∷ []
 inputs_of (MakePlan description) = description ∷ []
 inputs_of (CheckPlan description) = description ∷ []
 inputs_of (ListGroups description) = description ∷ []
+inputs_of (ListSteerers description) = description ∷ []
 inputs_of (Generate number) = []
 inputs_of (Run container options) = container ∷ file_names (inputs_in options)
 inputs_of (Replay container part script further) = container ∷ script ∷ name_if_any (replay_input further)
@@ -96,6 +98,7 @@ output_of (CheckContainer container) = None
 output_of (MakePlan description) = None
 output_of (CheckPlan description) = None
 output_of (ListGroups description) = None
+output_of (ListSteerers description) = None
 output_of (Generate number) = None
 output_of (Run container options) = None
 output_of (Replay container part script further) = None
@@ -113,6 +116,7 @@ later_of (CheckContainer container) = []
 later_of (MakePlan description) = []
 later_of (CheckPlan description) = []
 later_of (ListGroups description) = []
+later_of (ListSteerers description) = []
 later_of (Generate number) = []
 later_of (Run container options) = file_names (cores_in options) ++ file_names (scripts_in options)
 later_of (Replay container part script further) = name_if_any (replay_core further)
@@ -286,6 +290,7 @@ outcome_of_contents (CheckContainer container) contents = converted container ou
 outcome_of_contents (MakePlan description) contents = converted description outcome_of_print (plan_lines_of (content 0 contents))
 outcome_of_contents (CheckPlan description) contents = converted description outcome_of_print (verdicts_of (content 0 contents))
 outcome_of_contents (ListGroups description) contents = converted description outcome_of_print (groups_of (content 0 contents))
+outcome_of_contents (ListSteerers description) contents = converted description outcome_of_print (steering_of (content 0 contents))
 outcome_of_contents (Generate number) contents = outcome_of_print (generated_text number)
 outcome_of_contents (Run container options) contents = run_outcome container options (content 0 contents) (drop 1 contents)
 outcome_of_contents (Replay container part script further) contents = replay_outcome container part script further (content 0 contents) (content 1 contents) (input_bytes (replay_input further) (content 2 contents))

@@ -11,7 +11,7 @@ use Rattle.xm_base.specs.Options.{on}
 use Rattle.xm_base.specs.declared.limits.TheConstants.{FILE_BYTES, IMAGE_BYTES, TICKS}
 use Rattle.xm_outside.specs.Causes.{counted}
 use Rattle.xm_outside.specs.Files.{Files, OthersStay, stored}
-use Rattle.command_line.specs.Words.{Command, PartFile, RunOption, Bare, Parse, Upgrade, BuildImage, ReadImage, Pack, ListContainer, CheckContainer, MakePlan, CheckPlan, ListGroups, Generate, Run, Replay, ReplayFiles, cores_in, replay_core, replay_input, scripts_in, span_in}
+use Rattle.command_line.specs.Words.{Command, PartFile, RunOption, Bare, Parse, Upgrade, BuildImage, ReadImage, Pack, ListContainer, CheckContainer, MakePlan, CheckPlan, ListGroups, ListSteerers, Generate, Run, Replay, ReplayFiles, cores_in, replay_core, replay_input, scripts_in, span_in}
 use Rattle.xm_container.specs.Reading.{unpacked}
 use Rattle.fault_messages.specs.declared.fault.BoxFault.{BoxFault}
 use Rattle.xm_commands.specs.Answer.{files_saved}
@@ -172,6 +172,7 @@ outcome-denied command contents denial is = at command (first_long (inputs_of co
     at (MakePlan description) None e = made-denied description outcome_of_print _ denial (λ bytes. refl) e
     at (CheckPlan description) None e = made-denied description outcome_of_print _ denial (λ bytes. refl) e
     at (ListGroups description) None e = made-denied description outcome_of_print _ denial (λ bytes. refl) e
+    at (ListSteerers description) None e = made-denied description outcome_of_print _ denial (λ bytes. refl) e
     at (Generate number) None e = absurd (cc)
     at (Run container options) None e = run-denied container options (content 0 contents) (drop 1 contents) denial e
     at (Replay container part script further) None e = replay-denied container part script further (content 0 contents) (content 1 contents) (input_bytes (replay_input further) (content 2 contents)) denial e

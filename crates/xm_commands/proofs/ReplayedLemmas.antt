@@ -17,7 +17,7 @@ use Rattle.machine_model.specs.View.{System, view_of}
 use Rattle.system_state.specs.State.{with_inputs}
 use Rattle.recording_model.specs.Lone.{booted_alone, replay_said}
 use Rattle.recording_model.specs.Replayed.{replay_lines, replayed}
-use Rattle.command_line.specs.Words.{Command, ReplayFiles, Bare, Parse, Upgrade, BuildImage, ReadImage, Pack, ListContainer, CheckContainer, MakePlan, CheckPlan, ListGroups, Generate, Run, Replay, replay_core, replay_input}
+use Rattle.command_line.specs.Words.{Command, ReplayFiles, Bare, Parse, Upgrade, BuildImage, ReadImage, Pack, ListContainer, CheckContainer, MakePlan, CheckPlan, ListGroups, ListSteerers, Generate, Run, Replay, replay_core, replay_input}
 use Rattle.run_commands.specs.Boards.{IsRunTo, LeavesBoard, Plays, said_in_run, ticks_of_run}
 use Rattle.run_commands.specs.Contents.{read_all}
 use Rattle.file_commands.specs.Denial.{Denial}
@@ -165,6 +165,7 @@ are_replayed law e read (Some (CheckContainer container)) before after w plays =
 are_replayed law e read (Some (MakePlan description)) before after w plays = tt
 are_replayed law e read (Some (CheckPlan description)) before after w plays = tt
 are_replayed law e read (Some (ListGroups description)) before after w plays = tt
+are_replayed law e read (Some (ListSteerers description)) before after w plays = tt
 are_replayed law e read (Some (Generate number)) before after w plays = tt
 are_replayed law e read (Some (Run container options)) before after w plays = tt
 are_replayed law e read (Some (Replay container part script further)) before after w plays = replayed_so law e read container part script further before after w plays

@@ -24,7 +24,7 @@ use Rattle.machine_model.specs.Machine.{Machine, booted_part, run, start}
 use Rattle.machine_model.specs.Partition.{PartitionState}
 use Rattle.machine_model.specs.View.{System, view_of}
 use Rattle.system_state.specs.State.{part_at, with_inputs}
-use Rattle.command_line.specs.Words.{Command, PartFile, RunOption, Bare, Parse, Upgrade, BuildImage, ReadImage, Pack, ListContainer, CheckContainer, MakePlan, CheckPlan, ListGroups, Generate, Run, Replay, cores_in, inputs_in, span_in, scripts_in}
+use Rattle.command_line.specs.Words.{Command, PartFile, RunOption, Bare, Parse, Upgrade, BuildImage, ReadImage, Pack, ListContainer, CheckContainer, MakePlan, CheckPlan, ListGroups, ListSteerers, Generate, Run, Replay, cores_in, inputs_in, span_in, scripts_in}
 use Rattle.run_commands.specs.lemmas.Cores.{AreForPartitions}
 use Rattle.file_commands.specs.Denial.{Denial}
 use Rattle.file_commands.specs.Ending.{Ending, Done, Usage, ReadFault, Refused, WriteFaultReport, WriteFaultFile, UartFault, NoMemory, length_text, status_of, ticks_text}
@@ -324,6 +324,7 @@ command_by Did Shows (CheckContainer container) contents before after are receiv
 command_by Did Shows (MakePlan description) contents before after are receives never shows is = tt
 command_by Did Shows (CheckPlan description) contents before after are receives never shows is = tt
 command_by Did Shows (ListGroups description) contents before after are receives never shows is = tt
+command_by Did Shows (ListSteerers description) contents before after are receives never shows is = tt
 command_by Did Shows (Generate number) contents before after are receives never shows is = tt
 command_by Did Shows (Replay container part script further) contents before after are receives never shows is = tt
 command_by Did Shows (Run container options) contents before after are receives never shows is = container_by Did Shows container options contents before after are receives never shows is
@@ -381,6 +382,7 @@ lost_alone (CheckContainer container) contents before after w = tt
 lost_alone (MakePlan description) contents before after w = tt
 lost_alone (CheckPlan description) contents before after w = tt
 lost_alone (ListGroups description) contents before after w = tt
+lost_alone (ListSteerers description) contents before after w = tt
 lost_alone (Generate number) contents before after w = tt
 lost_alone (Replay container part script further) contents before after w = tt
 lost_alone (Run container options) contents before after w = absurd (let some : IsSome {T = List ℕ} None = w.output in cc)

@@ -16,7 +16,7 @@ use Rattle.machine_model.specs.Lines.{end_line, own, report}
 use Rattle.machine_model.specs.Machine.{run, start}
 use Rattle.machine_model.specs.View.{System, view_of}
 use Rattle.system_state.specs.State.{with_inputs}
-use Rattle.command_line.specs.Words.{Command, PartFile, RunOption, Bare, Parse, Upgrade, BuildImage, ReadImage, Pack, ListContainer, CheckContainer, MakePlan, CheckPlan, ListGroups, Generate, Run, Replay, cores_in, replay_core, replay_input, span_in, scripts_in}
+use Rattle.command_line.specs.Words.{Command, PartFile, RunOption, Bare, Parse, Upgrade, BuildImage, ReadImage, Pack, ListContainer, CheckContainer, MakePlan, CheckPlan, ListGroups, ListSteerers, Generate, Run, Replay, cores_in, replay_core, replay_input, span_in, scripts_in}
 use Rattle.file_commands.specs.Inputs.{inputs_for, no_inputs}
 use Rattle.file_commands.specs.Outcome.{Output, content, core_output, first_long, input_bytes, name_if_any, script_output, ticks_asked}
 use Rattle.run_commands.specs.Contents.{read_all}
@@ -111,6 +111,7 @@ CommandAlone Shows contents (CheckContainer container) before after = Unit {0}
 CommandAlone Shows contents (MakePlan description) before after = Unit {0}
 CommandAlone Shows contents (CheckPlan description) before after = Unit {0}
 CommandAlone Shows contents (ListGroups description) before after = Unit {0}
+CommandAlone Shows contents (ListSteerers description) before after = Unit {0}
 CommandAlone Shows contents (Generate number) before after = Unit {0}
 CommandAlone Shows contents (Run container options) before after = ContainerAlone Shows contents container options before after
 CommandAlone Shows contents (Replay container part script further) before after = Unit {0}
@@ -142,6 +143,7 @@ ReplaysRun status (CheckContainer container) before after = Unit {0}
 ReplaysRun status (MakePlan description) before after = Unit {0}
 ReplaysRun status (CheckPlan description) before after = Unit {0}
 ReplaysRun status (ListGroups description) before after = Unit {0}
+ReplaysRun status (ListSteerers description) before after = Unit {0}
 ReplaysRun status (Generate number) before after = Unit {0}
 ReplaysRun status (Run container options) before after = Unit {0}
 ReplaysRun status (Replay container part script further) before after =

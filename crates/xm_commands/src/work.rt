@@ -13,10 +13,10 @@ ghost use Rattle.command_line.specs.Words.{command_of};
 use crate::generating::generate;
 use crate::replaying::replay_container;
 use builders::MadeFile::{self, Configuration, Upgraded};
-use builders::Printout::{self, Container, Groups, Plan, Verdict, Verdicts};
+use builders::Printout::{self, Container, Groups, Plan, Steering, Verdict, Verdicts};
 use command_line::Command::{
-    Bare, BuildImage, CheckContainer, CheckPlan, Generate, ListContainer, ListGroups, MakePlan,
-    Pack, Parse, ReadImage, Replay, Run, Upgrade,
+    Bare, BuildImage, CheckContainer, CheckPlan, Generate, ListContainer, ListGroups, ListSteerers,
+    MakePlan, Pack, Parse, ReadImage, Replay, Run, Upgrade,
 };
 use command_line::{Command, Words, command, grammar};
 use file_commands::Conversion::{File, Report};
@@ -96,6 +96,7 @@ fn do_command<'a, S: Store, O: Sink>(
         MakePlan { description } => convert(alloc, Report(Plan), description, files, out),
         CheckPlan { description } => convert(alloc, Report(Verdicts), description, files, out),
         ListGroups { description } => convert(alloc, Report(Groups), description, files, out),
+        ListSteerers { description } => convert(alloc, Report(Steering), description, files, out),
         Generate { number } => generate(alloc, number, out),
         Run { container, options } => {
             run_container(alloc, container, options, files, out, board)

@@ -25,6 +25,7 @@ reads_one (Report printed.Verdict) file = refl
 reads_one (Report printed.Plan) file = refl
 reads_one (Report printed.Verdicts) file = refl
 reads_one (Report printed.Groups) file = refl
+reads_one (Report printed.Steering) file = refl
 
 -- what is made of a file with these bytes, and the outcome of that
 abbrev pub conversion_outcome : Conversion → List ℕ → List ℕ → Outcome
@@ -42,6 +43,7 @@ converts (Report printed.Verdict) file contents = refl
 converts (Report printed.Plan) file contents = refl
 converts (Report printed.Verdicts) file contents = refl
 converts (Report printed.Groups) file contents = refl
+converts (Report printed.Steering) file contents = refl
 
 -- where the file is not too long, what is done with what is made is what the command does
 pub command_outcome : (e : Ending) (made_of : Conversion) (file bytes : List ℕ) (before after : Outside) → length bytes ≤ FILE_BYTES → HasOutcome e (conversion_outcome made_of file bytes) before after

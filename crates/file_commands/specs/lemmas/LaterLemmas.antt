@@ -9,7 +9,7 @@ use Rattle.loaded_system.specs.System.{System}
 use Rattle.machine_model.specs.Machine.{Machine}
 use Rattle.machine_model.specs.View.{System as Booted}
 use Rattle.system_state.specs.State.{with_inputs}
-use Rattle.command_line.specs.Words.{Command, PartFile, RunOption, Bare, Parse, Upgrade, BuildImage, ReadImage, Pack, ListContainer, CheckContainer, MakePlan, CheckPlan, ListGroups, Generate, Run, Replay, ReplayFiles, cores_in, replay_core, replay_input, scripts_in, span_in}
+use Rattle.command_line.specs.Words.{Command, PartFile, RunOption, Bare, Parse, Upgrade, BuildImage, ReadImage, Pack, ListContainer, CheckContainer, MakePlan, CheckPlan, ListGroups, ListSteerers, Generate, Run, Replay, ReplayFiles, cores_in, replay_core, replay_input, scripts_in, span_in}
 use Rattle.builders.specs.Ready.{Replay as Readied, Unready, replay_of}
 use Rattle.file_commands.specs.Denial.{Denial}
 use Rattle.file_commands.specs.Ending.{length_text, ticks_text}
@@ -149,6 +149,7 @@ later-named command contents = at command (first_long (inputs_of command) conten
     at (MakePlan description) None = inr (made-later description outcome_of_print _ (λ bytes. refl))
     at (CheckPlan description) None = inr (made-later description outcome_of_print _ (λ bytes. refl))
     at (ListGroups description) None = inr (made-later description outcome_of_print _ (λ bytes. refl))
+    at (ListSteerers description) None = inr (made-later description outcome_of_print _ (λ bytes. refl))
     at (Generate number) None = inr refl
     at (Run container options) None = run-later container options (content 0 contents) (drop 1 contents)
     at (Replay container part script further) None = replay-later container part script further (content 0 contents) (content 1 contents) (input_bytes (replay_input further) (content 2 contents))

@@ -1,7 +1,7 @@
 -- The calls of the store for files, and the file that a command writes before its report: it is the one that its words name.
 use Rattle.std.proofs.Common.{◌≡◌, ℕ, Bool, true, false, nat_lt, ◌==◌, ◌||◌, if◌then◌else◌, List, [], ◌∷◌, length, drop, Option, Some, None, Result, Ok, Err, refl, ap}
 use Rattle.xm_base.specs.declared.limits.TheConstants.{IMAGE_BYTES, TICKS}
-use Rattle.command_line.specs.Words.{Command, PartFile, RunOption, Bare, Parse, Upgrade, BuildImage, ReadImage, Pack, ListContainer, CheckContainer, MakePlan, CheckPlan, ListGroups, Generate, Run, Replay, ReplayFiles, cores_in, replay_core, replay_input, scripts_in, span_in}
+use Rattle.command_line.specs.Words.{Command, PartFile, RunOption, Bare, Parse, Upgrade, BuildImage, ReadImage, Pack, ListContainer, CheckContainer, MakePlan, CheckPlan, ListGroups, ListSteerers, Generate, Run, Replay, ReplayFiles, cores_in, replay_core, replay_input, scripts_in, span_in}
 use Rattle.xm_container.specs.Reading.{unpacked}
 use Rattle.fault_messages.specs.declared.fault.BoxFault.{BoxFault}
 use Rattle.loaded_system.specs.Bare.{bare_system}
@@ -119,6 +119,7 @@ output-named command contents output is = at command (first_long (inputs_of comm
     at (MakePlan description) None e = absurd (reported-output description _ output e)
     at (CheckPlan description) None e = absurd (reported-output description _ output e)
     at (ListGroups description) None e = absurd (reported-output description _ output e)
+    at (ListSteerers description) None e = absurd (reported-output description _ output e)
     at (Generate number) None e = absurd (cc)
     at (Run container options) None e = absurd (run-output container options (content 0 contents) (drop 1 contents) output e)
     at (Replay container part script further) None e = absurd (replay-output container part script further (content 0 contents) (content 1 contents) (input_bytes (replay_input further) (content 2 contents)) output e)

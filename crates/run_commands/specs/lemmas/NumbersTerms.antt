@@ -2,7 +2,7 @@
 use Rattle.std.specs.Prelude.{◌≡◌, ℕ, List, ◌∷◌, Option, Some, None}
 use Rattle.xm_outside.specs.Files.{Files}
 use Rattle.machine_model.specs.Cue.{script}
-use Rattle.command_line.specs.Words.{Command, RunOption, Bare, Parse, Upgrade, BuildImage, ReadImage, Pack, ListContainer, CheckContainer, MakePlan, CheckPlan, ListGroups, Generate, Run, Replay, inputs_in}
+use Rattle.command_line.specs.Words.{Command, RunOption, Bare, Parse, Upgrade, BuildImage, ReadImage, Pack, ListContainer, CheckContainer, MakePlan, CheckPlan, ListGroups, ListSteerers, Generate, Run, Replay, inputs_in}
 use Rattle.file_commands.specs.Outcome.{first_long}
 use Rattle.file_commands.specs.Packing.{file_names}
 use Rattle.run_commands.specs.Numbers.{ReceivesIn, ReceivesOf}
@@ -25,6 +25,7 @@ CommandReceives (CheckContainer container) known = Unit {0}
 CommandReceives (MakePlan description) known = Unit {0}
 CommandReceives (CheckPlan description) known = Unit {0}
 CommandReceives (ListGroups description) known = Unit {0}
+CommandReceives (ListSteerers description) known = Unit {0}
 CommandReceives (Generate number) known = Unit {0}
 CommandReceives (Run container options) known = ReceivesOf container options known
 CommandReceives (Replay container part script further) known = Unit {0}

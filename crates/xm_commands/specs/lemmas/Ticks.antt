@@ -20,6 +20,7 @@ HasTicks (words.CheckContainer container) = ⊤
 HasTicks (words.MakePlan description) = ⊤
 HasTicks (words.CheckPlan description) = ⊤
 HasTicks (words.ListGroups description) = ⊤
+HasTicks (words.ListSteerers description) = ⊤
 HasTicks (words.Generate number) = ⊤
 HasTicks (words.Run container options) = count_of (span_in (seen_options options)) ≤ TICKS
 HasTicks (words.Replay container part script further) = ⊤

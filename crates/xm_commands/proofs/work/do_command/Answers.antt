@@ -64,6 +64,12 @@ returns-in-ListGroups-clause-accounted g c =
     let file = c.in-ListGroups.description.now in
     rw c.in-ListGroups.is (still_accounted (ending_of c.convert-in-ListGroups.result) (command_making made_of file) _ _ (record { places = _; marks = _ }) (converted_runs made_of file) c.convert-in-ListGroups.ensures)
 
+pub returns-in-ListSteerers-clause-accounted : goal.returns-in-ListSteerers-clause-accounted
+returns-in-ListSteerers-clause-accounted g c =
+    let made_of = (Report printed.Steering) in
+    let file = c.in-ListSteerers.description.now in
+    rw c.in-ListSteerers.is (still_accounted (ending_of c.convert-in-ListSteerers.result) (command_making made_of file) _ _ (record { places = _; marks = _ }) (converted_runs made_of file) c.convert-in-ListSteerers.ensures)
+
 pub returns-in-Pack-clause-accounted : goal.returns-in-Pack-clause-accounted
 returns-in-Pack-clause-accounted g c = rw c.in-Pack.is (still_accounted (ending_of c.pack_files.result) (Pack c.in-Pack.configuration.now c.in-Pack.output.now (seen_files c.in-Pack.images)) _ _ (record { places = _; marks = _ }) (pack_runs c.in-Pack.configuration.now c.in-Pack.output.now (seen_files c.in-Pack.images)) c.pack_files.ensures)
 
