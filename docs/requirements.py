@@ -39,7 +39,10 @@ ROOT = Path(__file__).resolve().parent.parent
 TABLE = "docs/requirements.toml"
 PAGE = "docs/TRACE.md"
 # Every clause of a public call of these crates stands for a requirement.
-TOP = ["file_commands", "run_commands", "xm_commands", "xm_alone", "xm_machine", "machine_laws", "flow_laws", "upset_model"]
+TOP = [
+    *("file_commands", "run_commands", "xm_commands", "xm_alone", "xm_machine"),
+    *("machine_laws", "work_laws", "flow_laws", "upset_model", "upset_laws"),
+]
 # The program that does the cases of crates/case_suite/data.
 DATA = "crates/case_suite/data"
 OUTSIDE = "bench/"
