@@ -385,7 +385,7 @@ BAD_LINES = [
     ("P1 CON x times", "a number is missing at the end"), ("P1 CON x at three", "after `at` comes `least` or `most`"), ("P1 ends running", "running is no state in which P1 ends"),
     ("XM resets 0", "XM has no resets at its end"), ('P1 CON "x', "No closing quotation"),
     ("P1 HALT more", "more does not belong here"), ("all succeed more", "more does not belong here"),
-    ("XM succeeds", "succeeds is no kind of line: CON, TRACE, HM, PLAN, HALT, SUSPEND, RESUME, COLD, WARM"), ("XM exec 3", "XM has no exec at its end"), ("P1 plan 1", "P1 has no plan at its end"),
+    ("XM succeeds", "succeeds is no kind of line: CON, TRACE, HM, UPSET, PLAN, HALT, SUSPEND, RESUME, COLD, WARM"), ("XM exec 3", "XM has no exec at its end"), ("P1 plan 1", "P1 has no plan at its end"),
 ]  # fmt: skip
 
 
