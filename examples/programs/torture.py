@@ -23,7 +23,7 @@ from programs import LIBRARY, PLACE, Outcome, must, outcome, slots_for  # noqa: 
 ARCHIVE = Path("/usr/src/gcc-12/gcc-12.2.0-dfsg.tar.xz")
 SOURCES = PLACE / "torture"
 AT_ONCE = 32
-TICKS = 400_000_000
+TICKS = 4_000_000_000
 # The areas of a partition in KB: stack, data and code.
 AREAS = (128, 256, 128)
 LEFT_OUT = {
