@@ -58,7 +58,7 @@ class Command:
         return "apt-get" in self.words
 
     def measures(self) -> bool:
-        first = self.words.split()[0]
+        first = next(word for word in self.words.split() if "=" not in word)
         return first == "rt" or first.startswith("bench/") or first.endswith("pages.py") or first == "tools/check"
 
 
