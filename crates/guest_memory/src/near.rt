@@ -28,6 +28,13 @@ pub(crate) struct Found {
     pub(crate) read_only: bool,
 }
 
+/// Which areas are looked at. The loop of instructions looks at the first two alone, so that its code stays short.
+#[derive(Clone, Copy, Debug)]
+pub(crate) enum Look {
+    FirstTwo,
+    Third,
+}
+
 /// The first two areas of a partition, and another to which an access was made. Most accesses are to these, and are made without a
 /// search.
 #[derive(Clone, Copy, Debug)]
@@ -118,9 +125,21 @@ impl Near {
         }
     }
 
-    // Where the byte at an address lies, where one of the three has it.
+    // Where the byte at an address lies, where one of those looked at has it.
     #[inline(always)]
-    fn find(&self, address: u32) -> Option<Found>
+    fn find(&self, look: Look, address: u32) -> Option<Found>
+        requires { AreSpots self.now }
+        ensures { IfSome result (λ found. IsNear address found self.now) }
+    {
+        match look {
+            Look::FirstTwo => self.find_in_two(address),
+            Look::Third => self.find_in_third(address),
+        }
+    }
+
+    // The same of the first two.
+    #[inline(always)]
+    fn find_in_two(&self, address: u32) -> Option<Found>
         requires { AreSpots self.now }
         ensures { IfSome result (λ found. IsNear address found self.now) }
     {
@@ -128,46 +147,64 @@ impl Near {
             Some(self.first.found(address))
         } else if self.second.has(address) {
             Some(self.second.found(address))
-        } else if self.third.has(address) {
+        } else {
+            None
+        }
+    }
+
+    // The same of the third.
+    #[inline(always)]
+    fn find_in_third(&self, address: u32) -> Option<Found>
+        requires { AreSpots self.now }
+        ensures { IfSome result (λ found. IsNear address found self.now) }
+    {
+        if self.third.has(address) {
             Some(self.third.found(address))
         } else {
             None
         }
     }
 
-    /// The word that a fetch answers, where it is found in one of the three.
+    /// The word that a fetch answers, where it is found in one of those looked at.
     #[inline(always)]
-    pub(crate) fn fetched(&self, whole: &[u8], address: u32) -> Option<u32>
+    pub(crate) fn fetched(&self, look: Look, whole: &[u8], address: u32) -> Option<u32>
         requires { AreWithin self.now whole.now }
         ensures { (table : Placed) → IsNearOf self.now table → IsPartOf table whole.now → IfSome result (λ word. Ok word ≡ fetched (listed table.entries) (memory_of_part table whole.now) address) }
     {
         if address % 4 != 0 {
             return None;
         }
-        match self.find(address) {
+        match self.find(look, address) {
             Some(found) => Some(word(whole, found.byte)),
             None => None,
         }
     }
 
-    /// The value that a load answers, where it is found in one of the three.
+    /// The value that a load answers, where it is found in one of those looked at.
     #[inline(always)]
-    pub(crate) fn loaded(&self, whole: &[u8], address: u32, size: Size) -> Option<u64>
+    pub(crate) fn loaded(&self, look: Look, whole: &[u8], address: u32, size: Size) -> Option<u64>
         requires { AreWithin self.now whole.now }
         ensures { (table : Placed) → IsNearOf self.now table → IsPartOf table whole.now → IfSome result (λ value. Ok value ≡ loaded (listed table.entries) (memory_of_part table whole.now) address size) }
     {
         if address % size.bytes() != 0 {
             return None;
         }
-        match self.find(address) {
+        match self.find(look, address) {
             Some(found) => Some(value_at(whole, found.byte, size)),
             None => None,
         }
     }
 
-    /// Stores a value, where its place is found in one of the three and may be written. The answer is whether it did.
+    /// Stores a value, where its place is found in one of those looked at and may be written. The answer is whether it did.
     #[inline(always)]
-    pub(crate) fn stored(&self, whole: &mut [u8], address: u32, size: Size, value: u64) -> bool
+    pub(crate) fn stored(
+        &self,
+        look: Look,
+        whole: &mut [u8],
+        address: u32,
+        size: Size,
+        value: u64,
+    ) -> bool
         requires { AreWithin self.now whole.old }
         ensures done { OnTrue result ((table : Placed) → IsNearOf self.now table → IsPartOf table whole.old → IsStored table whole.old whole.new address value size) }
         ensures bytes { OnTrue result (AllBytes whole.new) }
@@ -176,7 +213,7 @@ impl Near {
         if address % size.bytes() != 0 {
             return false;
         }
-        match self.find(address) {
+        match self.find(look, address) {
             Some(found) => {
                 if found.read_only {
                     false

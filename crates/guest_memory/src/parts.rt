@@ -9,7 +9,7 @@ ghost use Rattle.guest_memory.specs.Loading.{LiesInAreas, areas_with_image};
 ghost use Rattle.guest_memory.specs.Memories.{answer_by, first_refused};
 ghost use Rattle.guest_memory.specs.Near.{IsNearOf};
 
-use crate::near::Near;
+use crate::near::{Look, Near};
 use crate::outside::Outside;
 use crate::range::load_image;
 use crate::space;
@@ -17,7 +17,7 @@ use crate::table::Table;
 use guest_bus::{BusFault, Size};
 use xef_images::Xef;
 
-/// Stores a value where nothing refuses it. An area that is none of those looked at first is one of them then.
+/// Stores a value where nothing refuses it.
 #[inline(always)]
 pub(crate) fn store(
     near: &mut Near,
@@ -36,7 +36,33 @@ pub(crate) fn store(
     ensures bytes { AllBytes whole.new }
     ensures near { IsNearOf near.new table.now }
 {
-    if near.stored(whole, address, size, value) {
+    if near.stored(Look::FirstTwo, whole, address, size, value) {
+        return Ok(());
+    }
+    store_elsewhere(near, table, whole, address, size, value)
+}
+
+// The same where neither of the first two areas has its place. An area that is not the third either is the third then.
+#[cold]
+#[inline(never)]
+fn store_elsewhere(
+    near: &mut Near,
+    table: &Table,
+    whole: &mut [u8],
+    address: u32,
+    size: Size,
+    value: u64,
+) -> Result<(), BusFault>
+    requires near { IsNearOf near.old table.now }
+    requires part { IsPartOf table.now whole.old }
+    requires few { length whole.old < 4294967296 }
+    ensures fault { Stores result (store_fault (listed table.now.entries) address size) }
+    ensures memory { memory_of_part table.now whole.new ≡ after_store (listed table.now.entries) (memory_of_part table.now whole.old) address size value }
+    ensures others { SameAround table.now whole.old whole.new }
+    ensures bytes { AllBytes whole.new }
+    ensures near { IsNearOf near.new table.now }
+{
+    if near.stored(Look::Third, whole, address, size, value) {
         return Ok(());
     }
     *near = table.near_at(address);

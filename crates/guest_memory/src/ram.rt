@@ -15,7 +15,7 @@ use crate::access::Access;
 use crate::bytes::part;
 use crate::entry::Entry;
 use crate::find::place_in;
-use crate::near::Near;
+use crate::near::{Look, Near};
 use crate::outside::Outside;
 use crate::range::refused;
 use crate::table::Table;
@@ -214,9 +214,9 @@ impl Ram {
         ensures value { result ≡ fetched (areas_at self.now.selected self.now) (map_at self.now.selected self.now) address }
         ensures memories { AreMemories self.now }
     {
-        match self.near.fetched(&self.bytes, address) {
+        match self.near.fetched(Look::FirstTwo, &self.bytes, address) {
             Some(word) => Ok(word),
-            None => self.search_and_fetch(address),
+            None => self.fetch_elsewhere(address),
         }
     }
 
@@ -227,15 +227,39 @@ impl Ram {
         ensures memories { AreMemories self.old }
         ensures unchanged { self.new ≡ self.old }
     {
-        match self.near.loaded(&self.bytes, address, size) {
+        match self.near.loaded(Look::FirstTwo, &self.bytes, address, size) {
+            Some(value) => Ok(value),
+            None => self.load_elsewhere(address, size),
+        }
+    }
+
+    /// The same where neither of the first two areas has the address.
+    #[cold]
+    #[inline(never)]
+    fn fetch_elsewhere(&self, address: u32) -> Result<u32, BusFault>
+        ensures value { result ≡ fetched (areas_at self.now.selected self.now) (map_at self.now.selected self.now) address }
+    {
+        match self.near.fetched(Look::Third, &self.bytes, address) {
+            Some(word) => Ok(word),
+            None => self.search_and_fetch(address),
+        }
+    }
+
+    /// The same where neither of the first two areas has the address.
+    #[cold]
+    #[inline(never)]
+    fn load_elsewhere(&mut self, address: u32, size: Size) -> Result<u64, BusFault>
+        ensures value { result ≡ loaded_at (areas_at self.old.selected self.old) (map_at self.old.selected self.old) address size }
+        ensures unchanged { self.new ≡ self.old }
+    {
+        match self.near.loaded(Look::Third, &self.bytes, address, size) {
             Some(value) => Ok(value),
             None => self.remember_and_load(address, size),
         }
     }
 
     /// The word that a fetch in the selected partition's memory answers, by a search.
-    #[cold]
-    #[inline(never)]
+    #[inline(always)]
     fn search_and_fetch(&self, address: u32) -> Result<u32, BusFault>
         ensures value { result ≡ fetched (areas_at self.now.selected self.now) (map_at self.now.selected self.now) address }
     {

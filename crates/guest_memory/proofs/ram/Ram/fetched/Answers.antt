@@ -21,4 +21,4 @@ returns-in-Some c =
     }
 
 pub returns-in-None : goal.returns-in-None
-returns-in-None c = record { value = c.search_and_fetch.ensures.value; memories = rw (← c.self.view_is) c.self.invariant.kept.memories }
+returns-in-None c = record { value = c.fetch_elsewhere.ensures.value; memories = rw (← c.self.view_is) c.self.invariant.kept.memories }

@@ -23,4 +23,4 @@ returns-in-Some c =
     }
 
 pub returns-in-None : goal.returns-in-None
-returns-in-None c = record { value = c.remember_and_load.ensures.value; memories = rw (← c.self.view_is) c.self.invariant.kept.memories; unchanged = c.remember_and_load.ensures.unchanged }
+returns-in-None c = record { value = c.load_elsewhere.ensures.value; memories = rw (← c.self.view_is) c.self.invariant.kept.memories; unchanged = c.load_elsewhere.ensures.unchanged }
