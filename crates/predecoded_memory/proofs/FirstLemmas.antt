@@ -8,11 +8,12 @@ use Rattle.guest_bus.specs.Memory.{Area}
 use Rattle.guest_memory.specs.Loading.{memory_areas}
 use Rattle.guest_memory.specs.Memories.{AreMemories, Memories, areas_at, map_at}
 use Rattle.predecoded_memory.specs.lemmas.SharesTerms.{AreEmpty, empty_row}
-use Rattle.predecoded_memory.specs.Shares.{AreKept, AreParts, ArePartRows, first_address, share_for}
+use Rattle.predecoded_memory.specs.Shares.{AreKept, AreParts, ArePartRows, first_address, share_for, widest}
 use Rattle.predecoded_memory.specs.declared.share.PartRows.{PartRows}
 use Rattle.predecode.specs.lemmas.KeptLemmas.{empty_kept}
 use Rattle.predecode.specs.Rows.{AreRegisterNumbers}
 use Rattle.predecode.specs.declared.rows.Row.{Row}
+use Rattle.predecoded_memory.proofs.ShareLemmas.{shares_fit}
 
 -- the rows of this many partitions, those of each after those of the ones before it
 pub record AreFirstParts (share count : ℕ) (areas : List (List Area)) (parts : List PartRows) : Type 0 where
@@ -54,11 +55,12 @@ empty_numbers = record {
 }
 
 -- empty rows are kept of all words
-pub first_kept : (m : Memories) (rows : List Row) (parts : List PartRows) (share : ℕ) (own : PartRows) → AreMemories m → m.selected ≡ 0 → AreEmpty rows → length rows ≡ 1048576 → share ≡ share_for (length m.areas) → AreParts share m.areas parts → slice_get parts 0 ≡ Some own → AreKept m rows parts share 0 own
+pub first_kept : (m : Memories) (rows : List Row) (parts : List PartRows) (share : ℕ) (own : PartRows) → AreMemories m → m.selected ≡ 0 → AreEmpty rows → length rows ≡ length m.areas * share → share ≡ share_for (length m.areas) (widest 0 m.areas) → AreParts share m.areas parts → slice_get parts 0 ≡ Some own → AreKept m rows parts share 0 own
 first_kept m rows parts share own are selected empty whole shared known first = record {
   are = are;
   shared = shared;
   whole = whole;
+  few = let fits = shares_fit (length m.areas) (widest 0 m.areas) in omega (arith, whole, ap (λ (n : ℕ). length m.areas * n) shared, fits);
   known = known;
   current = subst (λ (n : ℕ). ArePartRows share (n * share) (areas_at n m) own) (sym selected) (known.each 0 own first);
   each = λ p below k row few there.

@@ -1,34 +1,47 @@
 -- Words of the selected partition that have rows.
-use Rattle.std.proofs.Common.{◌≡◌, ◌≢◌, ℕ, ◌+◌, ◌-◌, ◌*◌, ◌<◌, ◌≤◌, List, length, length-set, set, max, Some, Ok, sym, ap, ◌∙◌, ⊎_elim, subst, arith}
-use Rattle.std.specs.Prelude.{slice_get}
+use Rattle.std.proofs.Common.{◌≡◌, ◌≢◌, ℕ, zero, suc, ◌+◌, ◌-◌, ◌*◌, ◌<◌, ◌≤◌, List, [], ◌∷◌, length, length-set, get_or, set, max, Some, Ok, refl, sym, ap, ◌∙◌, ⊎_elim, subst, arith}
+use Rattle.std.specs.Prelude.{remove, slice_get}
 use Rattle.std.proofs.lemmas.Bool.{cases_eq}
 use Rattle.std.proofs.lemmas.List.Edits.{length-remove}
 use Rattle.std.proofs.lemmas.Nat.{same_from_place}
 use Rattle.std.proofs.lemmas.Option.{same_Some}
 use Rattle.guest_bus.specs.Access.{fetched}
+use Rattle.guest_bus.specs.Memory.{Area}
 use Rattle.guest_bus.specs.Words.{word_address}
 use Rattle.guest_bus.specs.declared.words.Words.{Words}
 use Rattle.guest_memory.specs.Memories.{AreMemories, Memories, areas_at, map_at, others_of}
-use Rattle.predecoded_memory.specs.Shares.{AreKept, LieNumbered, base_of, first_address, share_for, share_of}
+use Rattle.predecoded_memory.specs.Shares.{AreKept, LieNumbered, base_of, first_address, share_for, share_of, span_of, widest}
 use Rattle.predecoded_memory.specs.declared.share.PartRows.{PartRows}
 use Rattle.predecode.specs.Kept.{IsKeptRow, IsRowFor}
 use Rattle.predecode.specs.lemmas.KeptLemmas.{made_kept}
 use Rattle.predecode.specs.declared.rows.Row.{Row}
 use Rattle.predecoded_memory.proofs.EmptiedLemmas.{get_set_other, get_set_same}
 
--- the share of the selected partition is determined by the others
-share_is : (m : Memories) → AreMemories m → share_of (others_of m) ≡ share_for (length m.areas)
-share_is m are = ap share_for (length-remove m.areas m.selected are.selected)
+-- the widest of all is the widest of one and the others
+widest_apart : (most : ℕ) (all : List (List Area)) (p : ℕ) → p < length all → widest (max most (span_of (get_or all p []))) (remove all p) ≡ widest most all
+widest_apart most [] p below = absurd (omega (arith, below))
+widest_apart most (areas ∷ all) zero below = refl
+widest_apart most (areas ∷ all) (suc p) below =
+    let turned : max (max most (span_of (get_or all p []))) (span_of areas) ≡ max (max most (span_of areas)) (span_of (get_or all p [])) = omega arith in
+    ap (λ (n : ℕ). widest n (remove all p)) turned ∙ widest_apart (max most (span_of areas)) all p (omega (arith, below))
+
+-- the share of the selected partition is determined by its areas and the others
+share_is : (m : Memories) → AreMemories m → share_of (areas_at m.selected m) (others_of m) ≡ share_for (length m.areas) (widest 0 m.areas)
+share_is m are =
+    let least : span_of (areas_at m.selected m) ≡ max 0 (span_of (areas_at m.selected m)) = omega arith in
+    ap (λ (n : ℕ). share_for n (widest (span_of (areas_at m.selected m)) (remove m.areas m.selected))) (length-remove m.areas m.selected are.selected)
+    ∙ ap (λ (n : ℕ). share_for (length m.areas) (widest n (remove m.areas m.selected))) least
+    ∙ ap (share_for (length m.areas)) (widest_apart 0 m.areas m.selected are.selected)
 
 -- so are the numbers of its rows
-base_is : (m : Memories) (rows : List Row) (parts : List PartRows) (share top : ℕ) (own : PartRows) → AreKept m rows parts share top own → m.selected * share ≡ base_of (others_of m)
+base_is : (m : Memories) (rows : List Row) (parts : List PartRows) (share top : ℕ) (own : PartRows) → AreKept m rows parts share top own → m.selected * share ≡ base_of (areas_at m.selected m) (others_of m)
 base_is m rows parts share top own is = ap (λ (n : ℕ). m.selected * n) (is.shared ∙ sym (share_is m is.are))
 
 -- the words of the current partition lie there
 pub numbered_lie : (m : Memories) (rows : List Row) (parts : List PartRows) (share top : ℕ) (own : PartRows) → AreKept m rows parts share top own → LieNumbered (areas_at m.selected m) (others_of m) own.words
 numbered_lie m rows parts share top own is =
     let base = base_is m rows parts share top own is in
-    let shared : share ≡ share_of (others_of m) = is.shared ∙ sym (share_is m is.are) in
+    let shared : share ≡ share_of (areas_at m.selected m) (others_of m) = is.shared ∙ sym (share_is m is.are) in
     record {
       begin = is.current.begin ∙ base;
       under = omega (arith, is.current.under, base, shared);
@@ -42,7 +55,7 @@ row_there m rows parts share top own words place row is lie from under there =
     subst (λ (a : ℕ). IsKeptRow row (areas_at m.selected m) (map_at m.selected m) a) (sym (lie.address place from under))
     (is.each m.selected is.are.selected (place - words.begin) row below (ap (slice_get rows) here ∙ there))
   where
-    shared : share ≡ share_of (others_of m)
+    shared : share ≡ share_of (areas_at m.selected m) (others_of m)
     shared = is.shared ∙ sym (share_is m is.are)
 
     here : m.selected * share + (place - words.begin) ≡ place
@@ -52,10 +65,10 @@ row_there m rows parts share top own words place row is lie from under there =
     below = omega (arith, lie.begin, lie.under, from, under, shared)
 
 -- so it lies within all rows
-pub place_fits : (m : Memories) (rows : List Row) (parts : List PartRows) (share top : ℕ) (own : PartRows) (words : Words) (place : ℕ) → AreKept m rows parts share top own → own.words.begin + share ≤ 1048576 → LieNumbered (areas_at m.selected m) (others_of m) words → place < words.end → place < length rows
+pub place_fits : (m : Memories) (rows : List Row) (parts : List PartRows) (share top : ℕ) (own : PartRows) (words : Words) (place : ℕ) → AreKept m rows parts share top own → own.words.begin + share ≤ length rows → LieNumbered (areas_at m.selected m) (others_of m) words → place < words.end → place < length rows
 place_fits m rows parts share top own words place is fits lie under =
-    let shared : share ≡ share_of (others_of m) = is.shared ∙ sym (share_is m is.are) in
-    omega (arith, lie.under, under, shared, is.current.begin, base_is m rows parts share top own is, fits, is.whole)
+    let shared : share ≡ share_of (areas_at m.selected m) (others_of m) = is.shared ∙ sym (share_is m is.are) in
+    omega (arith, lie.under, under, shared, is.current.begin, base_is m rows parts share top own is, fits)
 
 -- a row that is made of the word there
 pub made_there : (m : Memories) (rows : List Row) (parts : List PartRows) (share top : ℕ) (own : PartRows) (place word : ℕ) (row : Row) → AreKept m rows parts share top own → place < share → own.words.begin + place < length rows
@@ -64,6 +77,7 @@ made_there m rows parts share top own place word row is below within found made 
   are = is.are;
   shared = is.shared;
   whole = length-set rows (own.words.begin + place) row ∙ is.whole;
+  few = omega (arith, length-set rows (own.words.begin + place) row, is.few);
   known = is.known;
   current = is.current;
   each = λ q inside k now few there. ⊎_elim (same q k now few there) (other q inside k now few there) (cases_eq (q * share + k) (own.words.begin + place));

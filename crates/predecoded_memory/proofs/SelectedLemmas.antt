@@ -18,10 +18,10 @@ use Rattle.predecoded_memory.proofs.KeptLemmas.{first_low, first_whole, mapped_k
 use Rattle.predecoded_memory.proofs.ShareLemmas.{share_fits}
 
 -- the share of the selected partition ends within all rows
-pub selected_fits : (old : Memories) (rows : List Row) (parts : List PartRows) (share top : ℕ) (own : PartRows) → AreKept old rows parts share top own → own.words.begin + share ≤ 1048576
+pub selected_fits : (old : Memories) (rows : List Row) (parts : List PartRows) (share top : ℕ) (own : PartRows) → AreKept old rows parts share top own → own.words.begin + share ≤ length rows
 selected_fits old rows parts share top own is =
-    let fits = share_fits old.selected share (length old.areas) is.are.selected is.shared in
-    rw is.current.begin fits
+    let fits = share_fits old.selected share (length old.areas) is.are.selected in
+    omega (arith, is.current.begin, is.whole, fits)
 
 -- its rows are kept of its memory
 own_rows : (old : Memories) (rows : List Row) (parts : List PartRows) (share top : ℕ) (own : PartRows) → AreKept old rows parts share top own → AreKeptRows rows own.words.begin share (areas_at old.selected old) (map_at old.selected old) own.first
@@ -34,7 +34,7 @@ own_free : (old : Memories) (rows : List Row) (parts : List PartRows) (share top
 own_free old rows parts share top own is = subst (λ (b : ℕ). AreUnmade rows b top share) (sym is.current.begin) (is.free old.selected is.are.selected)
 
 -- the top lies within all rows
-pub top_fits : (old : Memories) (rows : List Row) (parts : List PartRows) (share top : ℕ) (own : PartRows) → AreKept old rows parts share top own → own.words.begin + top ≤ 1048576
+pub top_fits : (old : Memories) (rows : List Row) (parts : List PartRows) (share top : ℕ) (own : PartRows) → AreKept old rows parts share top own → own.words.begin + top ≤ length rows
 top_fits old rows parts share top own is = omega (arith, is.high, selected_fits old rows parts share top own is)
 
 -- a memory that is left as it was

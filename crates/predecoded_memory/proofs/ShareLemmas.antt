@@ -1,7 +1,7 @@
 -- Which rows of a share are those of words that are written.
 use Rattle.std.proofs.Common.{◌≡◌, ◌⊎◌, ℕ, ◌+◌, ◌-◌, ◌*◌, ◌/◌, ◌%◌, ◌^◌, ◌<◌, ◌≤◌, min, inl, inr, ⊎_elim, arith, div-mul-le_self}
 use Rattle.std.proofs.lemmas.Bool.{cases_lt}
-use Rattle.std.proofs.lemmas.Nat.{row_fits_turned}
+use Rattle.std.proofs.lemmas.Nat.{mul-le, row_fits_turned}
 use Rattle.std.specs.Int.{byte_len}
 use Rattle.guest_bus.specs.Access.{width_of}
 use Rattle.guest_bus.specs.declared.bus.Size.{Size}
@@ -9,17 +9,15 @@ use Rattle.guest_bus.specs.declared.bus.Size.TheVariants.{One, Two, Four, Eight}
 use Rattle.predecoded_memory.specs.lemmas.SharesTerms.{IsReached, word_after, words_written}
 use Rattle.predecoded_memory.specs.Shares.{share_for}
 
--- all shares together are no more than all rows
-pub shares_fit : (count : ℕ) → count * share_for count ≤ 1048576
+-- all shares together are few
+pub shares_fit : (count wide : ℕ) → count * share_for count wide ≤ 1048576
 unfolding share_for
-shares_fit count = omega (arith, div-mul-le_self 1048576 count)
+shares_fit count wide =
+    omega (arith, div-mul-le_self 1048576 count, mul-le count (min (1048576 / count) wide) count (1048576 / count) (omega arith) (omega arith))
 
--- so is that of each partition
-pub share_fits : (p share count : ℕ) → p < count → share ≡ share_for count → p * share + share ≤ 1048576
-share_fits p share count below is =
-    let all : share_for count * count ≤ 1048576 = omega (arith, shares_fit count) in
-    let one = row_fits_turned p (share_for count) (share_for count) count below (omega arith) in
-    rw is (omega (arith, all, one))
+-- that of each partition ends within all of them
+pub share_fits : (p share count : ℕ) → p < count → p * share + share ≤ count * share
+share_fits p share count below = omega (arith, row_fits_turned p share share count below (omega arith))
 
 -- a word of a share is apart from bytes that are written, or one of the words that are emptied
 pub reached_or_apart : (first address count size k : ℕ) → first % 4 ≡ 0 → first ≤ 2 ^ 32 → address < 2 ^ 32 → address % 4 + size ≤ 4 * count

@@ -1,5 +1,5 @@
 -- The rows of each partition, and which words they are of.
-use Rattle.std.specs.Prelude.{◌≡◌, ℕ, ◌+◌, ◌-◌, ◌*◌, ◌/◌, ◌<◌, ◌≤◌, List, [], ◌∷◌, Some, length, min, slice_get, slice_index_or}
+use Rattle.std.specs.Prelude.{◌≡◌, ℕ, ◌+◌, ◌-◌, ◌*◌, ◌/◌, ◌<◌, ◌≤◌, List, [], ◌∷◌, Some, length, max, min, slice_get, slice_index_or}
 use Rattle.guest_bus.specs.Memory.{Area, Others}
 use Rattle.guest_bus.specs.Words.{AreWords, word_address}
 use Rattle.guest_bus.specs.declared.words.Words.{Words}
@@ -18,16 +18,30 @@ abbrev pub first_address : List Area → ℕ
 first_address [] = 0
 first_address (area ∷ areas) = lowest area.start areas
 
--- how many words of each of this many partitions have rows
-unfoldable pub share_for : ℕ → ℕ
-share_for count = 1048576 / count
+-- the highest end of areas, or this address, where none ends after it
+abbrev pub highest : ℕ → List Area → ℕ
+highest most [] = most
+highest most (area ∷ areas) = highest (max most (area.start + area.size)) areas
+
+-- how many words lie from the lowest address of areas to the highest end
+unfoldable pub span_of : List Area → ℕ
+span_of areas = (highest 0 areas - first_address areas) / 4
+
+-- the most words that lie so of one of these partitions, or this many, where none has more
+abbrev pub widest : ℕ → List (List Area) → ℕ
+widest most [] = most
+widest most (areas ∷ others) = widest (max most (span_of areas)) others
+
+-- how many words of each of this many partitions have rows, where the widest has this many words
+unfoldable pub share_for : ℕ → ℕ → ℕ
+share_for count wide = min (1048576 / count) wide
 
 -- the share of the selected partition, and how many rows stand before it
-abbrev pub share_of : Others → ℕ
-share_of others = share_for (length others.areas + 1)
+abbrev pub share_of : List Area → Others → ℕ
+share_of areas others = share_for (length others.areas + 1) (widest (span_of areas) others.areas)
 
-abbrev pub base_of : Others → ℕ
-base_of others = others.number * share_of others
+abbrev pub base_of : List Area → Others → ℕ
+base_of areas others = others.number * share_of areas others
 
 -- each place of the words is the number of a row, the first of which is that of the word at an address
 abbrev pub AreNumbered : ℕ → Words → Type 0
@@ -48,8 +62,8 @@ pub record AreParts (share : ℕ) (areas : List (List Area)) (parts : List PartR
 
 -- the words that have rows of the share of the selected partition
 pub record LieNumbered (areas : List Area) (others : Others) (words : Words) : Type 0 where
-  pub begin : words.begin ≡ base_of others
-  pub under : words.end ≤ base_of others + share_of others
+  pub begin : words.begin ≡ base_of areas others
+  pub under : words.end ≤ base_of areas others + share_of areas others
   pub address : AreNumbered (first_address areas) words
 
 -- the rows of a share from its top on are empty
@@ -60,8 +74,9 @@ AreUnmade rows base top share = (k : ℕ) (row : Row) → top ≤ k → k < shar
 -- partition is current
 pub record AreKept (memories : Memories) (rows : List Row) (parts : List PartRows) (share top : ℕ) (own : PartRows) : Type 0 where
   pub are : AreMemories memories
-  pub shared : share ≡ share_for (length memories.areas)
-  pub whole : length rows ≡ 1048576
+  pub shared : share ≡ share_for (length memories.areas) (widest 0 memories.areas)
+  pub whole : length rows ≡ length memories.areas * share
+  pub few : length rows ≤ 1048576
   pub known : AreParts share memories.areas parts
   pub current : ArePartRows share (memories.selected * share) (areas_at memories.selected memories) own
   pub each : (p : ℕ) → p < length memories.areas → AreKeptRows rows (p * share) share (areas_at p memories) (map_at p memories) (first_address (areas_at p memories))

@@ -36,7 +36,7 @@ fn empty_rows(rows: &mut [Row], begin: usize, count: usize)
 #[inline(always)]
 pub(crate) fn empty_words(rows: &mut [Row], base: usize, top: usize, place: usize, count: usize)
     requires top { base + top ≤ length rows.old }
-    requires few { length rows.old ≡ 1048576 }
+    requires few { length rows.old ≤ 1048576 }
     requires place { place < 2 ^ 30 }
     requires count { count < 2 ^ 63 }
     ensures { AreReached base top place count rows.old rows.new }
@@ -57,7 +57,7 @@ pub(crate) fn empty_words(rows: &mut [Row], base: usize, top: usize, place: usiz
 #[inline(never)]
 fn empty_part(rows: &mut [Row], base: usize, top: usize, place: usize, count: usize)
     requires top { base + top ≤ length rows.old }
-    requires few { length rows.old ≡ 1048576 }
+    requires few { length rows.old ≤ 1048576 }
     requires place { place < 2 ^ 30 }
     requires count { count < 2 ^ 63 }
     ensures { AreReached base top place count rows.old rows.new }
@@ -88,7 +88,7 @@ fn reached(top: usize, place: usize, count: usize) -> (usize, usize)
 #[inline(always)]
 pub(crate) fn empty_stored(rows: &mut [Row], base: usize, top: usize, place: usize, size: Size)
     requires top { base + top ≤ length rows.old }
-    requires few { length rows.old ≡ 1048576 }
+    requires few { length rows.old ≤ 1048576 }
     requires place { place < 2 ^ 30 }
     ensures { AreReached base top place (words_written size) rows.old rows.new }
 {

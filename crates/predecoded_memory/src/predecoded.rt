@@ -7,10 +7,10 @@ ghost use Rattle.guest_memory.specs.Flips.{with_flipped};
 ghost use Rattle.guest_memory.specs.Loading.{LiesInAreas, area_of, areas_with_image, memory_areas, zeros_in};
 ghost use Rattle.guest_memory.specs.Memories.{AreMemories, ArePlaced, SameElsewhere, answer_by, areas_at, first_refused, map_at, others_of, with_map, with_selected};
 ghost use Rattle.predecoded_memory.specs.lemmas.SharesTerms.{AreEmpty};
-ghost use Rattle.predecoded_memory.specs.Shares.{AreParts, ArePartRows, LieNumbered, first_address, lowest};
+ghost use Rattle.predecoded_memory.specs.Shares.{AreParts, ArePartRows, LieNumbered, first_address, highest, lowest, span_of, widest};
 
 use crate::emptied::{empty_stored, empty_words};
-use crate::share::{PartRows, ROWS, numbered, share_for, word_after};
+use crate::share::{PartRows, numbered, share_for, word_after};
 use guest_bus::{Bus, BusFault, HasWords, Size, Words};
 use guest_memory::{Outside, Ram};
 use predecode::{HasRows, Row, row_for};
@@ -29,7 +29,7 @@ pub struct PredecodedRam {
     rows: Vec<Row>,
     // Where those of each partition are.
     parts: Vec<PartRows>,
-    // The number of words of each partition that have rows.
+    // The number of words of each partition that have rows: no more than the widest has.
     share: usize,
     // The number of first rows of each partition that may have been made: all rows after them are empty.
     top: usize,
@@ -63,9 +63,9 @@ impl PredecodedRam {
         let ram = Ram::new(alloc, conf)?;
         proof! { let _zeros = ram.selected(); }
         let described = parts_of(conf);
-        let share = share_for(described.len());
+        let share = share_for(described.len(), widest(described));
         let parts = rows_of(alloc, described, share)?;
-        let rows = empty_rows(alloc, ROWS)?;
+        let rows = empty_rows(alloc, described.len() * share)?;
         let own = parts[0];
         Ok(PredecodedRam {
             ram,
@@ -323,6 +323,45 @@ fn rows_of(alloc: Global, parts: &[Part], share: usize) -> Result<Vec<PartRows>,
         base += share;
     }
     Ok(found)
+}
+
+// How many words the widest of these partitions has.
+fn widest(parts: &[Part]) -> usize
+    ensures { result ≡ widest 0 (map memory_areas parts.now) }
+{
+    let mut most = 0;
+    for part in parts {
+        most = most.max(span_in(part));
+    }
+    most
+}
+
+// How many words lie from the lowest address of a partition to the end of its last area.
+#[tactic(auto, unfolding(guest_memory::specs::Loading::memory_areas))]
+fn span_in(part: &Part) -> usize
+    ensures { result ≡ span_of (memory_areas part.now) }
+{
+    span_of(&part.areas)
+}
+
+// The same by its areas.
+#[tactic(auto, unfolding(crate::specs::Shares::span_of))]
+fn span_of(areas: &[Area]) -> usize
+    ensures { result ≡ span_of (map area_of areas.now) }
+{
+    let first = u64::from(first_address(areas));
+    (highest(areas).saturating_sub(first) / 4) as usize
+}
+
+// Where the last of areas ends.
+fn highest(areas: &[Area]) -> u64
+    ensures { result ≡ highest 0 (map area_of areas.now) }
+{
+    let mut most = 0;
+    for area in areas {
+        most = most.max(u64::from(area.start) + u64::from(area.size));
+    }
+    most
 }
 
 // Where those of a partition are, before which this many others stand.

@@ -16,16 +16,16 @@ pub(crate) struct PartRows {
     pub(crate) words: Words,
 }
 
-/// The number of rows, for all partitions together.
-pub(crate) const ROWS: usize = 0x10_0000;
+// The most rows, for all partitions together.
+const MOST: usize = 0x10_0000;
 
-/// How many words of each of this many partitions have rows.
+/// How many words of each of this many partitions have rows, where the widest has this many words.
 #[tactic(auto, unfolding(crate::specs::Shares::share_for))]
-pub(crate) fn share_for(count: usize) -> usize
+pub(crate) fn share_for(count: usize, wide: usize) -> usize
     requires { 0 < count }
-    ensures { result ≡ share_for count }
+    ensures { result ≡ share_for count wide }
 {
-    ROWS / count
+    (MOST / count).min(wide)
 }
 
 /// How many words after the first one another stands, by its address.

@@ -14,8 +14,8 @@ empty_words-requires-clause-top c =
     let below = rw (← c.self.view_is) at c.requires in
     let here = rw c.from.ensures at c.index-part.ensures in
     let part = part_at c.self.inside.ram c.self.inside.rows.items c.self.inside.parts.items c.self.inside.share c.self.inside.top c.self.inside.own c.args.p c.index-part.result.now c.self.invariant below here in
-    let whole : length c.deref_mut.result.now ≡ 1048576 = ap length c.deref_mut.ensures.value ∙ c.self.invariant.whole in
-    omega (arith, whole, part.begin, c.self.invariant.high, share_fits c.args.p c.self.inside.share (length c.self.inside.ram.areas) below c.self.invariant.shared)
+    let whole : length c.deref_mut.result.now ≡ length c.self.inside.rows.items = ap length c.deref_mut.ensures.value in
+    omega (arith, whole, part.begin, c.self.invariant.whole, c.self.invariant.high, share_fits c.args.p c.self.inside.share (length c.self.inside.ram.areas) below)
 
 pub invariant_of-self : goal.invariant_of-self
 invariant_of-self c =

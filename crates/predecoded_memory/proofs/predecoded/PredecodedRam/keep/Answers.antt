@@ -11,11 +11,11 @@ use Rattle.predecoded_memory.proofs.predecoded.PredecodedRam.keep.Goals as goal
 
 pub overflow_add-self-inside : goal.overflow_add-self-inside
 overflow_add-self-inside c =
-    omega (arith, c.if-place-self.true, selected_fits c.self.inside.ram c.self.inside.rows.items c.self.inside.parts.items c.self.inside.share c.self.inside.top c.self.inside.own c.self.invariant)
+    omega (arith, c.if-place-self.true, c.self.invariant.few, selected_fits c.self.inside.ram c.self.inside.rows.items c.self.inside.parts.items c.self.inside.share c.self.inside.top c.self.inside.own c.self.invariant)
 
 pub put_row-requires : goal.put_row-requires
 put_row-requires c =
-    let whole : length c.deref_mut.result.now ≡ 1048576 = ap length c.deref_mut.ensures.value ∙ c.self.invariant.whole in
+    let whole : length c.deref_mut.result.now ≡ length c.self.inside.rows.items = ap length c.deref_mut.ensures.value in
     omega (arith, whole, c.if-place-self.true, selected_fits c.self.inside.ram c.self.inside.rows.items c.self.inside.parts.items c.self.inside.share c.self.inside.top c.self.inside.own c.self.invariant)
 
 pub invariant_of-self : goal.invariant_of-self
@@ -24,7 +24,7 @@ invariant_of-self c =
     let counted : length c.put_row.new.rows ≡ c.self.inside.rows.len = ap length c.put_row.ensures ∙ length-set c.deref_mut.result.now (c.self.inside.own.words.begin + (c.args.address - c.self.inside.own.first) / 4) c.row_for.result ∙ c.deref_mut.ensures.len in
     let all : (with_items c.self.inside.rows c.put_row.new.rows).items ≡ c.put_row.new.rows = with_items_is c.self.inside.rows c.put_row.new.rows counted in
     let within : c.self.inside.own.words.begin + (c.args.address - c.self.inside.own.first) / 4 < length c.self.inside.rows.items =
-    omega (arith, c.self.invariant.whole, c.if-place-self.true, selected_fits c.self.inside.ram c.self.inside.rows.items c.self.inside.parts.items c.self.inside.share c.self.inside.top c.self.inside.own c.self.invariant) in
+    omega (arith, c.if-place-self.true, selected_fits c.self.inside.ram c.self.inside.rows.items c.self.inside.parts.items c.self.inside.share c.self.inside.top c.self.inside.own c.self.invariant) in
     let here : c.args.address ≡ c.self.inside.own.first + 4 * ((c.args.address - c.self.inside.own.first) / 4) = omega (arith, c.if-address-self.true, c.if-offset-eq0.true) in
     let found = rw (← c.self.view_is) at c.requires in
     subst (λ (top : ℕ). AreKept c.self.inside.ram (with_items c.self.inside.rows c.put_row.new.rows).items c.self.inside.parts.items c.self.inside.share top c.self.inside.own) (sym c.max-self-inside.ensures)

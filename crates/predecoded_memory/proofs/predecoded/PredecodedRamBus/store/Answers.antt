@@ -10,7 +10,7 @@ use Rattle.predecoded_memory.proofs.predecoded.PredecodedRamBus.store.Goals as g
 
 pub empty_stored-requires-clause-top : goal.empty_stored-requires-clause-top
 empty_stored-requires-clause-top c =
-    let whole : length c.deref_mut.result.now ≡ 1048576 = ap length c.deref_mut.ensures.value ∙ c.self.invariant.whole in
+    let whole : length c.deref_mut.result.now ≡ length c.self.inside.rows.items = ap length c.deref_mut.ensures.value in
     omega (arith, whole, top_fits c.self.inside.ram c.self.inside.rows.items c.self.inside.parts.items c.self.inside.share c.self.inside.top c.self.inside.own c.self.invariant)
 
 pub invariant_of-self : goal.invariant_of-self
