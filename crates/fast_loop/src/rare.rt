@@ -23,14 +23,15 @@ pub(crate) fn rare(own: &mut Processor, row: &Row) -> Step
     ensures step { (areas : List Area) (memory : Memory) → IsRowStep result row.now areas own.old own.new memory memory }
     ensures used { Uses result row.now }
 {
-    if row.kind < kinds::SAVE {
-        if row.kind == kinds::WRY {
-            write_y(own, row)
-        } else {
-            read_y(own, row)
-        }
-    } else if row.kind < kinds::CALL {
-        if row.kind == kinds::SAVE {
+    // Calls, jumps and branches that may annul are the most frequent of these, so they come to their test first.
+    if row.kind < kinds::CALL {
+        if row.kind < kinds::SAVE {
+            if row.kind == kinds::WRY {
+                write_y(own, row)
+            } else {
+                read_y(own, row)
+            }
+        } else if row.kind == kinds::SAVE {
             save(own, row)
         } else {
             restore(own, row)
