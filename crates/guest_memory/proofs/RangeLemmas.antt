@@ -60,6 +60,13 @@ all_from-none allowed address (suc count) = at (allowed address) (all_from-none 
 pub all_allowed : (allowed : ℕ → Bool) (address count : ℕ) → first_refused allowed address count ≡ None → all_from allowed address count ≡ true
 all_allowed allowed address count none = all_from-none allowed address count ∙ ap (λ (found : Option ℕ). not (is_some found)) none
 
+-- where all are allowed, none is refused
+pub none_refused : (allowed : ℕ → Bool) (address count : ℕ) → all_from allowed address count ≡ true → first_refused allowed address count ≡ None
+none_refused allowed address zero all = refl
+none_refused allowed address (suc count) all =
+    let parts = and_parts (allowed address) (all_from allowed (suc address) count) all in
+    rw (parts.0) (none_refused allowed (suc address) count parts.1)
+
 -- an access to an address that may not be read is not allowed
 pub nothing_allowed : (access : Access) (areas : List Area) (q : ℕ) → is_readable areas q ≡ false → allows_byte access areas q ≡ false
 nothing_allowed Read areas q none = none

@@ -1,6 +1,6 @@
 //! The memories of all partitions.
 
-ghost use Rattle.std.specs.Prelude.{◌≡◌, ◌+◌, ◌<◌, ◌↔◌, false, true, All, IfOk, IsNone, OnErr, OnOk, length, map, replicate};
+ghost use Rattle.std.specs.Prelude.{◌≡◌, ◌+◌, ◌<◌, ◌↔◌, false, true, All, IfOk, IfSome, IsNone, OnErr, OnOk, length, map, replicate};
 ghost use Rattle.std.specs.FinMap.{get};
 ghost use Rattle.guest_bus.specs.Access.{fetched, loaded as loaded_at};
 ghost use Rattle.guest_bus.specs.Memory.{all_from, bytes_at, is_readable, is_writable, with_bytes};
@@ -17,7 +17,7 @@ use crate::entry::Entry;
 use crate::find::place_in;
 use crate::near::{Look, Near};
 use crate::outside::Outside;
-use crate::range::refused;
+use crate::range::are_allowed;
 use crate::table::Table;
 use crate::{flip, parts, space};
 use guest_bus::{Bus, BusFault, HasWords, Size};
@@ -108,6 +108,16 @@ impl Ram {
         space::copy_in(self.entries(p), self.part(p), address, into)
     }
 
+    /// This many bytes of a partition's memory from an address on, where one area has all of them.
+    pub fn bytes(&self, p: PartId, address: u32, size: u32) -> Option<&[u8]>
+        // Called for a partition that exists.
+        requires { p < length self.now.areas }
+        // The bytes of the range, or none: where no area has all of them.
+        ensures value { IfSome result (λ bytes. bytes.now ≡ bytes_at (map_at p self.now) address size) }
+    {
+        space::bytes(self.entries(p), self.part(p), address, size as usize)
+    }
+
     /// Writes bytes to a partition's memory from an address on, where all of them may be written.
     pub fn copy_out(&mut self, p: PartId, address: u32, from: &[u8]) -> Result<(), Outside>
         // Called for a partition that exists.
@@ -130,7 +140,7 @@ impl Ram {
         // Whether all of a range may be read.
         ensures value { result ≡ all_from (is_readable (areas_at p self.now)) address size }
     {
-        refused(self.entries(p), Access::Read, address, size as usize).is_none()
+        are_allowed(self.entries(p), Access::Read, address, size as usize)
     }
 
     /// Whether this many bytes of a partition's memory from an address on may be written.
@@ -140,7 +150,7 @@ impl Ram {
         // Whether all of a range may be written.
         ensures value { result ≡ all_from (is_writable (areas_at p self.now)) address size }
     {
-        refused(self.entries(p), Access::Write, address, size as usize).is_none()
+        are_allowed(self.entries(p), Access::Write, address, size as usize)
     }
 
     /// Loads an image into a partition's memory, and makes all other bytes of it zero.

@@ -3,7 +3,7 @@
 ghost use Rattle.std.specs.Prelude.{◌≡◌, ◌+◌, ◌<◌, ◌≤◌, ◌^◌, true, false, IfSome, IsNone, length, take};
 ghost use borrow.Rule.Slice.PartMut.{put_mid};
 ghost use Rattle.guest_bus.specs.Memory.{all_from, bytes_at, is_readable, with_bytes};
-ghost use Rattle.guest_memory.specs.lemmas.FlatTerms.{IsSpace};
+ghost use Rattle.guest_memory.specs.lemmas.FlatTerms.{IsSpace, StandsInArea};
 ghost use Rattle.guest_memory.specs.Flat.{listed, memory_in};
 ghost use Rattle.guest_memory.specs.Loading.{LiesInAreas, areas_with_image};
 ghost use Rattle.guest_memory.specs.Memories.{ArePlaced, first_refused};
@@ -11,7 +11,7 @@ ghost use Rattle.guest_memory.specs.lemmas.MemoriesTerms.{allows_byte};
 
 use crate::access::Access;
 use crate::bytes::{clear, part, write_at};
-use crate::entry::Entry;
+use crate::entry::{Entry, Place};
 use crate::find::place_of;
 use xef_images::Xef;
 
@@ -33,6 +33,52 @@ fn room(entries: &[Entry], access: Access, address: u64) -> Option<usize>
         }
         None => None,
     }
+}
+
+/// Where the byte at an address lies, where its area has this many bytes from it on, and allows them.
+#[inline(always)]
+pub(crate) fn place_within(
+    entries: &[Entry],
+    access: Access,
+    address: u32,
+    count: usize,
+) -> Option<Place>
+    requires { ArePlaced (listed entries.now) }
+    ensures allowed { IfSome result (λ place. all_from (allows_byte access (listed entries.now)) address count ≡ true) }
+    ensures stands { IfSome result (λ place. StandsInArea address count place entries.now) }
+{
+    match place_of(entries, u64::from(address)) {
+        Some(place) => {
+            if place.room < count {
+                None
+            } else if access.is_refused(place.read_only) {
+                None
+            } else {
+                Some(place)
+            }
+        }
+        None => None,
+    }
+}
+
+/// Whether this many bytes from an address on are allowed.
+#[inline(always)]
+pub(crate) fn are_allowed(entries: &[Entry], access: Access, address: u32, count: usize) -> bool
+    requires { ArePlaced (listed entries.now) }
+    ensures { result ≡ all_from (allows_byte access (listed entries.now)) address count }
+{
+    place_within(entries, access, address, count).is_some()
+        || is_none_refused(entries, access, address, count)
+}
+
+/// The same, by a search for the first that is not allowed.
+#[cold]
+#[inline(never)]
+fn is_none_refused(entries: &[Entry], access: Access, address: u32, count: usize) -> bool
+    requires { ArePlaced (listed entries.now) }
+    ensures { result ≡ all_from (allows_byte access (listed entries.now)) address count }
+{
+    refused(entries, access, address, count).is_none()
 }
 
 /// The first of this many addresses from one on that is not allowed.

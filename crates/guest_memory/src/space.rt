@@ -1,6 +1,6 @@
 //! The memory of one partition.
 
-ghost use Rattle.std.specs.Prelude.{◌≡◌, ◌↔◌, false, IsNone, OnErr, OnOk, length};
+ghost use Rattle.std.specs.Prelude.{◌≡◌, ◌+◌, ◌≤◌, ◌↔◌, false, IsNone, OnErr, OnOk, length, take, drop, IfSome};
 ghost use Rattle.std.specs.FinMap.{get};
 ghost use Rattle.std.specs.Int.{byte_len};
 ghost use Rattle.guest_bus.specs.Access.{Stores, after_store, fetched, loaded, store_fault, width_of};
@@ -10,11 +10,11 @@ ghost use Rattle.guest_memory.specs.lemmas.FlatTerms.{IsSpace, FindsPlace};
 ghost use Rattle.guest_memory.specs.Memories.{ArePlaced, answer_by, first_refused};
 
 use crate::access::Access;
-use crate::bytes::{byte_at, put_value, value_at, word};
+use crate::bytes::{byte_at, part, put_value, value_at, word, write_at};
 use crate::entry::{Entry, Place};
 use crate::find::place_of;
 use crate::outside::Outside;
-use crate::range::{read, refused, write};
+use crate::range::{place_within, read, refused, write};
 use guest_bus::{BusFault, Size};
 
 /// The byte at an address.
@@ -112,8 +112,56 @@ pub(crate) fn store(
     }
 }
 
+/// This many bytes from an address on, where one area has all of them.
+pub(crate) fn bytes<'a>(
+    entries: &[Entry],
+    bytes: &'a [u8],
+    address: u32,
+    count: usize,
+) -> Option<&'a [u8]>
+    requires { IsSpace entries.now bytes.now }
+    ensures { IfSome result (λ found. found.now ≡ bytes_at (memory_in (listed entries.now) bytes.now) address count) }
+{
+    match place_within(entries, Access::Read, address, count) {
+        Some(place) => Some(part(bytes, place.byte, count)),
+        None => None,
+    }
+}
+
 /// Copies the bytes from an address on, where all may be read.
+#[inline(always)]
 pub(crate) fn copy_in(
+    entries: &[Entry],
+    bytes: &[u8],
+    address: u32,
+    into: &mut [u8],
+) -> Result<(), Outside>
+    requires { IsSpace entries.now bytes.now }
+    ensures answer { result ≡ answer_by (first_refused (is_readable (listed entries.now)) address (length into.old)) }
+    ensures read { OnOk result (into.new ≡ bytes_at (memory_in (listed entries.now) bytes.now) address (length into.old)) }
+    ensures unchanged { OnErr result (into.new ≡ into.old) }
+{
+    match place_within(entries, Access::Read, address, into.len()) {
+        Some(place) => {
+            copy_part(bytes, place.byte, into);
+            Ok(())
+        }
+        None => copy_pieces_in(entries, bytes, address, into),
+    }
+}
+
+/// Copies bytes from a place on.
+fn copy_part(bytes: &[u8], at: usize, into: &mut [u8])
+    requires { at + length into.old ≤ length bytes.now }
+    ensures { into.new ≡ take (length into.old) (drop at bytes.now) }
+{
+    into.copy_from_slice(part(bytes, at, into.len()));
+}
+
+/// The same piece by piece.
+#[cold]
+#[inline(never)]
+fn copy_pieces_in(
     entries: &[Entry],
     bytes: &[u8],
     address: u32,
@@ -134,7 +182,33 @@ pub(crate) fn copy_in(
 }
 
 /// Writes bytes from an address on, where all may be written.
+#[inline(always)]
 pub(crate) fn copy_out(
+    entries: &[Entry],
+    bytes: &mut [u8],
+    address: u32,
+    from: &[u8],
+) -> Result<(), Outside>
+    requires { IsSpace entries.now bytes.old }
+    ensures answer { result ≡ answer_by (first_refused (is_writable (listed entries.now)) address (length from.now)) }
+    ensures written { OnOk result (memory_in (listed entries.now) bytes.new ≡ with_bytes (memory_in (listed entries.now) bytes.old) address from.now) }
+    ensures unchanged { OnErr result (bytes.new ≡ bytes.old) }
+    ensures length { length bytes.new ≡ length bytes.old }
+    ensures bytes { AllBytes bytes.new }
+{
+    match place_within(entries, Access::Write, address, from.len()) {
+        Some(place) => {
+            write_at(bytes, place.byte, from);
+            Ok(())
+        }
+        None => copy_pieces_out(entries, bytes, address, from),
+    }
+}
+
+/// The same piece by piece.
+#[cold]
+#[inline(never)]
+fn copy_pieces_out(
     entries: &[Entry],
     bytes: &mut [u8],
     address: u32,

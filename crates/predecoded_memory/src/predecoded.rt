@@ -1,6 +1,6 @@
 //! The memories of all partitions, with rows of their words.
 
-ghost use Rattle.std.specs.Prelude.{◌≡◌, ◌*◌, ◌+◌, ◌<◌, ◌≤◌, true, All, IfOk, Ok, OnErr, OnOk, length, map, slice_set};
+ghost use Rattle.std.specs.Prelude.{◌≡◌, ◌*◌, ◌+◌, ◌<◌, ◌≤◌, true, All, IfOk, IfSome, Ok, OnErr, OnOk, length, map, slice_set};
 ghost use Rattle.guest_bus.specs.Access.{fetched};
 ghost use Rattle.guest_bus.specs.Memory.{all_from, bytes_at, is_readable, is_writable, with_bytes};
 ghost use Rattle.guest_memory.specs.Flips.{with_flipped};
@@ -117,6 +117,16 @@ impl PredecodedRam {
         ensures unchanged { OnErr result (into.new ≡ into.old) }
     {
         self.ram.copy_in(p, address, into)
+    }
+
+    /// This many bytes of a partition's memory from an address on, where one area has all of them.
+    pub fn bytes(&self, p: PartId, address: u32, size: u32) -> Option<&[u8]>
+        // Called for a partition that exists.
+        requires { p < length self.now.areas }
+        // As `Ram::bytes`: the bytes of the range, or none: where no area has all of them.
+        ensures value { IfSome result (λ bytes. bytes.now ≡ bytes_at (map_at p self.now) address size) }
+    {
+        self.ram.bytes(p, address, size)
     }
 
     /// Writes bytes to a partition's memory from an address on, where all of them may be written.
