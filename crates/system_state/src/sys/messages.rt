@@ -1,5 +1,6 @@
 //! Messages between a partition's memory and the channels, for the crate of the calls on ports. One that is read goes
-//! straight from its channel to the memory, and one that is put goes through the one buffer that a system has for it.
+//! straight from its channel to the memory, and one that is put goes straight to its channel from the area that has all of
+//! it. One whose bytes stand in several areas goes through the one buffer that a system has for it.
 
 ghost use Rattle.std.specs.Prelude.{◌≡◌, ◌↔◌, ◌<◌, ◌≤◌, ℕ, true, [], IsErr, IsSomeAnd, OnErr, OnOk, length, unwrap_or};
 ghost use Rattle.guest_bus.specs.Memory.{all_from, bytes_at, is_readable, is_writable, with_bytes};
@@ -91,8 +92,34 @@ pub fn write_first(sys: &mut Sys, chan: u8, p: PartId, address: u32)
     write_message(&mut sys.ram, p, address, sys.channels.first(chan));
 }
 
-/// Reads bytes of a partition's memory into a buffer, and writes them to a sampling channel at a time.
+/// Writes bytes of a partition's memory to a sampling channel at a time: straight from the area that has all of them.
 fn put_read(
+    channels: &mut Channels,
+    chan: u8,
+    now: u64,
+    ram: &PredecodedRam,
+    p: PartId,
+    address: u32,
+    size: u32,
+    buffer: &mut [u8],
+)
+    requires partition { p < length ram.now.areas }
+    requires size { length buffer.old ≡ size }
+    requires readable { all_from (is_readable (areas_at p ram.now)) address size ≡ true }
+    requires channel { HasSampling chan channels.old }
+    requires bytes { FitsChannel (bytes_at (map_at p ram.now) address size) chan channels.old }
+    ensures { channels.new ≡ with_content (put now (bytes_at (map_at p ram.now) address size)) chan channels.old }
+{
+    match ram.bytes(p, address, size) {
+        Some(bytes) => channels.put_sampling(chan, bytes, now),
+        None => put_copied(channels, chan, now, ram, p, address, size, buffer),
+    }
+}
+
+/// The same through a buffer.
+#[cold]
+#[inline(never)]
+fn put_copied(
     channels: &mut Channels,
     chan: u8,
     now: u64,
@@ -113,8 +140,35 @@ fn put_read(
     channels.put_sampling(chan, buffer, now);
 }
 
-/// Reads bytes of a partition's memory into a buffer, and puts them at the end of a queue.
+/// Puts bytes of a partition's memory at the end of a queue: straight from the area that has all of them.
 fn send_read(
+    channels: &mut Channels,
+    chan: u8,
+    ram: &PredecodedRam,
+    p: PartId,
+    address: u32,
+    size: u32,
+    buffer: &mut [u8],
+) -> Result<(), Full>
+    requires partition { p < length ram.now.areas }
+    requires size { length buffer.old ≡ size }
+    requires readable { all_from (is_readable (areas_at p ram.now)) address size ≡ true }
+    requires channel { HasQueue chan channels.old }
+    requires bytes { FitsChannel (bytes_at (map_at p ram.now) address size) chan channels.old }
+    ensures full { IsErr result ↔ IsFull chan channels.old }
+    ensures sent { OnOk result ((now : ℕ) → channels.new ≡ with_content (put now (bytes_at (map_at p ram.now) address size)) chan channels.old) }
+    ensures unchanged { OnErr result (channels.new ≡ channels.old) }
+{
+    match ram.bytes(p, address, size) {
+        Some(bytes) => channels.send(chan, bytes),
+        None => send_copied(channels, chan, ram, p, address, size, buffer),
+    }
+}
+
+/// The same through a buffer.
+#[cold]
+#[inline(never)]
+fn send_copied(
     channels: &mut Channels,
     chan: u8,
     ram: &PredecodedRam,
