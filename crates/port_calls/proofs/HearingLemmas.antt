@@ -64,6 +64,28 @@ interrupted_again n ps = by (is_halted ps.state) refl
         ∙ ap (λ traps. record ps { traps = traps }) (raised_again n ps.traps)
         ∙ sym first
 
+-- an interrupt that is pending
+heard_still : (conf : Conf) (chan n q : ℕ) (ps : PartitionState) → raised n ps.traps ≡ ps.traps → heard_at conf chan n q ps ≡ ps
+heard_still conf chan n q ps pending = by (hears_in conf q chan ps) (is_halted ps.state)
+  where
+    by : (b h : Bool) → (if b then (if h then ps else record ps { traps = raised n ps.traps }) else ps) ≡ ps
+    by true true = refl
+    by true false = ap (λ traps. record ps { traps = traps }) pending
+    by false h = refl
+
+-- an element that is set to itself
+set_same : {X : Type 0} (xs : List X) (n : ℕ) (d : X) → set xs n (get_or xs n d) ≡ xs
+set_same [] n d = refl
+set_same (x ∷ xs) zero d = refl
+set_same (x ∷ xs) (suc n) d = ap (λ rest. x ∷ rest) (set_same xs n d)
+
+-- so nothing changes where the interrupt is pending
+pub heard_kept : (s : SysState) (chan n q : ℕ) → raised n (part_at q s.machine).traps ≡ (part_at q s.machine).traps
+    → s ≡ with_machine (with_part q (heard_at s.machine.system.conf chan n q (part_at q s.machine)) s.machine) s
+heard_kept s chan n q pending =
+    sym (ap (λ (ps : PartitionState). with_machine (with_part q ps s.machine) s) (heard_still s.machine.system.conf chan n q (part_at q s.machine) pending)
+    ∙ ap (λ (parts : List PartitionState). with_machine (record s.machine { parts = parts }) s) (set_same s.machine.parts q _))
+
 made_still : (n : ℕ) (ps : PartitionState) → (interrupted (Some n) ps).made ≡ ps.made
 made_still n ps = by (is_halted ps.state)
   where

@@ -1,7 +1,9 @@
 //! Messages that are put into channels and taken from them, signals over links, and the partitions that hear of them.
 
 ghost use Rattle.std.specs.Prelude.{◌≡◌, ◌↔◌, ◌<◌, ◌≤◌, true, IsErr, IsSomeAnd, OnErr, OnOk, Some, length, slice_get};
+ghost use Rattle.std.specs.Bool.{OnTrue};
 ghost use Rattle.guest_bus.specs.Memory.{all_from, bytes_at, is_readable};
+ghost use Rattle.virt_traps.specs.Virtual.{raised};
 ghost use Rattle.xm_conf.specs.Description.{described};
 ghost use Rattle.xm_conf.specs.Fits.{Fits};
 ghost use Rattle.xm_ports.specs.Channels.{FitsChannel, HasQueue, HasSampling, IsFull, content_at, first_message, shapes_of};
@@ -161,15 +163,29 @@ fn dests(conf: &Conf, chan: u8) -> &[End]
     }
 }
 
-/// Makes an interrupt pending at a partition, where it hears what is put into a channel.
+/// Makes an interrupt pending at a partition, where it hears what is put into a channel. Where it is pending, that need not be looked at.
 fn interrupt_hearer(sys: &mut Sys, q: PartId, chan: u8, interrupt: u8)
     requires there { q < length sys.old.machine.parts }
     requires interrupt { interrupt < 32 }
     ensures { sys.new ≡ with_machine (with_part q (heard_at sys.old.machine.system.conf chan interrupt q (part_at q sys.old.machine)) sys.old.machine) sys.old }
 {
+    if is_pending(sys, q, interrupt) {
+        return;
+    }
     if hears(sys, q, chan) {
         engine::raise(sys, q, interrupt);
     }
+}
+
+/// Whether an interrupt is pending at a partition.
+#[tactic(auto, unfolding(virt_traps::specs::Virtual::raised))]
+fn is_pending(sys: &Sys, q: PartId, interrupt: u8) -> bool
+    requires there { q < length sys.now.machine.parts }
+    requires interrupt { interrupt < 32 }
+    ensures { OnTrue result (raised interrupt (part_at q sys.now.machine).traps ≡ (part_at q sys.now.machine).traps) }
+{
+    let pending = sys.part(q).virt.pending;
+    pending | 1 << interrupt == pending
 }
 
 /// Whether a partition hears what is put into a channel.
