@@ -14,9 +14,10 @@ pub record PartFile : Type 0 where
   pub part : ℕ
   pub file : List ℕ
 
--- an option of a run: how long it is; a file for a partition, and what it is there
+-- an option of a run: how long it is; a file of upsets; a file for a partition, and what it is there
 pub data RunOption : Type 0 where
   Length : (span : Span) → RunOption
+  Upsets : (file : List ℕ) → RunOption
   ForPart : (kind : FileKind) (file : PartFile) → RunOption
 
 -- the files that options of a replay name, in the order of their words: at most one of the partition's input words, and at most one for its core
@@ -160,6 +161,15 @@ option_for None file = None
 option_for (Some kind) None = None
 option_for (Some kind) (Some file) = Some (ForPart kind file)
 
+-- an option with a file of upsets, where its word names a file
+unfoldable pub option_upsets : List ℕ → List ℕ → Option RunOption
+option_upsets option file = if bytes_eq option (codes "--upset") then asked (is_file file) (Upsets file) else None
+
+-- the first of two options, where it is there
+abbrev pub option_or : Option RunOption → Option RunOption → Option RunOption
+option_or (Some option) other = Some option
+option_or None other = other
+
 -- an option with how long the run is, and else one with a file
 abbrev pub option_by : Option Span → Option RunOption → Option RunOption
 option_by (Some span) other = Some (Length span)
@@ -167,7 +177,7 @@ option_by None other = other
 
 -- the option of a run that two words spell
 unfoldable pub run_option_of : List ℕ → List ℕ → Option RunOption
-run_option_of option word = option_by (span_of option word) (option_for (kind_of option) (part_file_of word))
+run_option_of option word = option_by (span_of option word) (option_or (option_upsets option word) (option_for (kind_of option) (part_file_of word)))
 
 -- the options of a run that words spell, two words each, up to the first two that spell none
 abbrev pub run_options : List (List ℕ) → List RunOption
@@ -184,6 +194,7 @@ are_options (option ∷ word ∷ words) = is_some (run_option_of option word) &&
 -- how long a run is by an option, where it says so
 abbrev pub span_by : RunOption → Option Span
 span_by (Length span) = Some span
+span_by (Upsets file) = None
 span_by (ForPart kind file) = None
 
 -- all that options say of how long a run is
@@ -208,6 +219,7 @@ kind_place Script = 2
 -- the file of a kind for a partition that an option names
 abbrev pub file_by : FileKind → RunOption → Option PartFile
 file_by kind (Length span) = None
+file_by kind (Upsets file) = None
 file_by kind (ForPart other file) = asked (kind_place other == kind_place kind) file
 
 -- the files of a kind for partitions that options name, in their order
@@ -226,13 +238,34 @@ cores_in options = files_in Core options
 abbrev pub scripts_in : List RunOption → List PartFile
 scripts_in options = files_in Script options
 
+-- the file of upsets, by an option that names one
+abbrev pub upsets_by : RunOption → Option (List ℕ)
+upsets_by (Length span) = None
+upsets_by (Upsets file) = Some file
+upsets_by (ForPart kind file) = None
+
+-- all files of upsets that options name; no run has two
+abbrev pub upset_files_in : List RunOption → List (List ℕ)
+upset_files_in options = filter_map upsets_by options
+
+-- the first of some files, where there is one
+abbrev pub first_file : List (List ℕ) → Option (List ℕ)
+first_file [] = None
+first_file (file ∷ files) = Some file
+
+-- the file of upsets of a run with these options, where there is one
+abbrev pub upsets_in : List RunOption → Option (List ℕ)
+upsets_in options = first_file (upset_files_in options)
+
 -- whether each partition has one file of each kind at most
 abbrev pub are_kinds_apart : List RunOption → Bool
 are_kinds_apart options = are_apart (inputs_in options) && are_apart (cores_in options) && are_apart (scripts_in options)
 
--- whether words are options of a run: each is one, one says how long the run is, and each partition has one file of each kind at most
+-- whether words are options of a run: each is one, one says how long the run is, one at most names a file of upsets, and each partition has one file of each
+-- kind at most
 unfoldable pub are_run_options : List (List ℕ) → Bool
-are_run_options words = are_options words && nat_eq (length (spans_in (run_options words))) 1 && are_kinds_apart (run_options words)
+are_run_options words = are_options words && nat_eq (length (spans_in (run_options words))) 1 && nat_le (length (upset_files_in (run_options words))) 1
+    && are_kinds_apart (run_options words)
 
 -- a run of a container with options
 abbrev pub run_of : List ℕ → List (List ℕ) → Option Command

@@ -5,10 +5,14 @@ use Rattle.xm_report.specs.Report.{texts}
 use Rattle.xm_conf.specs.Configuration.{Conf}
 use Rattle.cyclic_plans.specs.Slots.{frame_of}
 use Rattle.machine_model.specs.CoreFile.{core_file}
-use Rattle.machine_model.specs.Cue.{Cue, script}
-use Rattle.machine_model.specs.Lines.{report}
-use Rattle.machine_model.specs.Machine.{Machine, run, start}
+use Rattle.machine_model.specs.Cue.{Cue}
+use Rattle.machine_model.specs.Machine.{Machine}
 use Rattle.machine_model.specs.View.{System as Booted, view_of}
+use Rattle.upset_model.specs.Reports.{after_run, received_in, upset_report}
+use Rattle.upset_model.specs.declared.upset_line.UpsetLine.{UpsetLine}
+use Rattle.upset_files.specs.Reading.{upsets_read}
+use Rattle.upset_files.specs.Texts.{upset_fault_text}
+use Rattle.upset_files.specs.declared.fault.UpsetFault.{UpsetFault}
 use Rattle.generated_system.specs.Reported.{generated_text}
 use Rattle.system_state.specs.State.{part_at, with_inputs}
 use Rattle.cue_scripts.specs.Spelling.{script_text}
@@ -20,7 +24,7 @@ use Rattle.loaded_system.specs.System.{System}
 use Rattle.xm_container.specs.Reading.{unpacked}
 use Rattle.fault_messages.specs.Texts.{box_fault_text}
 use Rattle.fault_messages.specs.declared.fault.BoxFault.{BoxFault}
-use Rattle.command_line.specs.Words.{Command, PartFile, RunOption, Bare, Parse, Upgrade, BuildImage, ReadImage, Pack, ListContainer, CheckContainer, MakePlan, CheckPlan, ListGroups, ListSteerers, Generate, Run, Replay, ReplayFiles, cores_in, inputs_in, replay_core, replay_input, span_in, scripts_in}
+use Rattle.command_line.specs.Words.{Command, PartFile, RunOption, Bare, Parse, Upgrade, BuildImage, ReadImage, Pack, ListContainer, CheckContainer, MakePlan, CheckPlan, ListGroups, ListSteerers, Generate, Run, Replay, ReplayFiles, cores_in, inputs_in, replay_core, replay_input, span_in, scripts_in, upsets_in}
 use Rattle.command_line.specs.declared.commands.Span.{Span}
 use Rattle.command_line.specs.declared.commands.Span.TheVariants.{Frames, Ticks}
 use Rattle.file_commands.specs.Denial.{Denial}
@@ -40,9 +44,10 @@ pub record Output : Type 0 where
   pub file : List ℕ
   pub bytes : List ℕ
 
--- a run: the system, with the input words of its partitions, and its number of ticks; or one partition of the system alone, with all that it receives
+-- a run: the system, with the input words of its partitions, the upsets that strike it, and its number of ticks; or one partition of the system alone, with
+-- all that it receives
 pub data Running : Type 0 where
-  Together : (system : Booted) (ticks : ℕ) → Running
+  Together : (system : Booted) (upsets : List UpsetLine) (ticks : ℕ) → Running
   Apart : (system : Booted) (p : ℕ) (cues : List Cue) → Running
 
 -- the outcome of a command: its refusal, if there is one, the file that it writes first, what goes to the report, the files that it writes after
@@ -67,7 +72,11 @@ abbrev pub name_if_any : Option (List ℕ) → List (List ℕ)
 name_if_any None = []
 name_if_any (Some file) = file ∷ []
 
--- the files that a command reads, in the order of its words
+-- the files that a run reads beside its container: those of input words in the order of its words, and that of its upsets, where there is one
+abbrev pub run_inputs : List RunOption → List (List ℕ)
+run_inputs options = file_names (inputs_in options) ++ name_if_any (upsets_in options)
+
+-- the files that a command reads, in their order
 abbrev pub inputs_of : Command → List (List ℕ)
 inputs_of (Bare image ticks) = image ∷ []
 inputs_of (Parse description output) = description ∷ []
@@ -82,7 +91,7 @@ inputs_of (CheckPlan description) = description ∷ []
 inputs_of (ListGroups description) = description ∷ []
 inputs_of (ListSteerers description) = description ∷ []
 inputs_of (Generate number) = []
-inputs_of (Run container options) = container ∷ file_names (inputs_in options)
+inputs_of (Run container options) = container ∷ run_inputs options
 inputs_of (Replay container part script further) = container ∷ script ∷ name_if_any (replay_input further)
 
 -- the file that a command writes before its report
@@ -129,18 +138,19 @@ core_output g named = record { file = named.file; bytes = core_file (view_of g.s
 unfoldable pub core_outputs : Machine → List PartFile → List Output
 core_outputs g cores = map (core_output g) cores
 
--- the script of a partition: all that it receives in this many ticks from the boot of its system on
-abbrev pub script_bytes : Booted → ℕ → ℕ → List ℕ
-script_bytes system ticks p = script_text p (script (start system) p ticks)
+-- the script of a partition: all that it receives in this many ticks from the boot of its system on, with these upsets
+abbrev pub script_bytes : List UpsetLine → Booted → ℕ → ℕ → List ℕ
+script_bytes upsets system ticks p = script_text p (received_in upsets system p ticks)
 
 -- under the name that is given for it
-abbrev pub script_output : Booted → ℕ → PartFile → Output
-script_output system ticks named = record { file = named.file; bytes = script_bytes system ticks named.part }
+abbrev pub script_output : List UpsetLine → Booted → ℕ → PartFile → Output
+script_output upsets system ticks named = record { file = named.file; bytes = script_bytes upsets system ticks named.part }
 
 -- the refusal of a script that has more bytes than a file may have
-abbrev pub script_denial : Booted → ℕ → PartFile → Option Denial
-script_denial system ticks named =
-    if nat_lt FILE_BYTES (length (script_bytes system ticks named.part)) then Some (denial named.file (script_fault_text (script_fault.Length (length (script_bytes system ticks named.part)))))
+abbrev pub script_denial : List UpsetLine → Booted → ℕ → PartFile → Option Denial
+script_denial upsets system ticks named =
+    if nat_lt FILE_BYTES (length (script_bytes upsets system ticks named.part))
+    then Some (denial named.file (script_fault_text (script_fault.Length (length (script_bytes upsets system ticks named.part)))))
     else None
 
 -- the first refusal of scripts in the order of their names, or else what comes of them
@@ -154,26 +164,27 @@ script_before output (Ok outputs) = Ok (output ∷ outputs)
 script_before output (Err refusal) = Err refusal
 
 -- the scripts of partitions in the order of their names, or the refusal of the first that is too long for a file
-abbrev pub scripts_for : Booted → ℕ → List PartFile → Result (List Output) Denial
-scripts_for system ticks [] = Ok []
-scripts_for system ticks (named ∷ scripts) =
-    unless_denied (script_denial system ticks named) (script_before (script_output system ticks named) (scripts_for system ticks scripts))
+abbrev pub scripts_for : List UpsetLine → Booted → ℕ → List PartFile → Result (List Output) Denial
+scripts_for upsets system ticks [] = Ok []
+scripts_for upsets system ticks (named ∷ scripts) =
+    unless_denied (script_denial upsets system ticks named) (script_before (script_output upsets system ticks named) (scripts_for upsets system ticks scripts))
 
--- the outcome of a run of this many ticks, of a system whose partitions have these input words, with these core files, and with scripts after them
-unfoldable pub outcome_of_run : ℕ → List PartFile → List Output → System → List (List ℕ) → Outcome
-outcome_of_run ticks cores scripts system inputs = record {
+-- the outcome of a run of this many ticks with upsets, of a system whose partitions have these input words, with these core files, and with scripts after
+-- them
+unfoldable pub outcome_of_run : List UpsetLine → ℕ → List PartFile → List Output → System → List (List ℕ) → Outcome
+outcome_of_run upsets ticks cores scripts system inputs = record {
   denial = None;
   output = None;
-  report = texts (report (with_inputs system inputs) ticks);
-  later = core_outputs (run (start (with_inputs system inputs)) ticks) cores ++ scripts;
-  run = Some (Together (with_inputs system inputs) ticks);
+  report = texts (upset_report upsets (with_inputs system inputs) ticks);
+  later = core_outputs (after_run upsets (with_inputs system inputs) ticks) cores ++ scripts;
+  run = Some (Together (with_inputs system inputs) upsets ticks);
 }
 
 -- the outcome of a raw image, run for this many ticks without input words
 unfoldable pub bare_outcome : List ℕ → ℕ → List ℕ → Outcome
 bare_outcome file ticks image =
     if (length image == 0) || nat_lt IMAGE_BYTES (length image) then command_refused file (length_text (length image))
-    else outcome_of_run ticks [] [] (bare_system image) (no_inputs 1)
+    else outcome_of_run [] ticks [] [] (bare_system image) (no_inputs 1)
 
 -- how many ticks a run asks for, under a configuration: major frames are those of plan 0
 abbrev pub ticks_asked : Span → Conf → ℕ
@@ -181,30 +192,54 @@ ticks_asked (Frames count) conf = count * frame_of conf 0
 ticks_asked (Ticks count) conf = count
 
 -- the outcome of a run with scripts, or the refusal of one of them
-abbrev pub ran_scripted : ℕ → List PartFile → System → List (List ℕ) → Result (List Output) Denial → Outcome
-ran_scripted ticks cores system inputs (Ok scripts) = outcome_of_run ticks cores scripts system inputs
-ran_scripted ticks cores system inputs (Err refusal) = refused_by refusal
+abbrev pub ran_scripted : List UpsetLine → ℕ → List PartFile → System → List (List ℕ) → Result (List Output) Denial → Outcome
+ran_scripted upsets ticks cores system inputs (Ok scripts) = outcome_of_run upsets ticks cores scripts system inputs
+ran_scripted upsets ticks cores system inputs (Err refusal) = refused_by refusal
 
--- the outcome of a run, of a container's system with these input words: it is refused where it asks for more ticks than a run may have, and
--- where a script of it is too long
-abbrev pub ran_for : List ℕ → ℕ → List RunOption → System → List (List ℕ) → Outcome
-ran_for file asked options system inputs =
+-- the content of the file of this number
+abbrev pub content : ℕ → List (List ℕ) → List ℕ
+content n contents = slice_index_or contents n []
+
+-- the upsets that a file has, or its refusal
+abbrev pub upsets_or : List ℕ → Result (List UpsetLine) UpsetFault → Result (List UpsetLine) Denial
+upsets_or file (Ok upsets) = Ok upsets
+upsets_or file (Err fault) = Err (denial file (upset_fault_text fault))
+
+-- the upsets of a run of this many ticks under a configuration, by the bytes of their file: none where no file is named
+abbrev pub upsets_named : Option (List ℕ) → Conf → ℕ → List ℕ → Result (List UpsetLine) Denial
+upsets_named None conf ticks bytes = Ok []
+upsets_named (Some file) conf ticks bytes = upsets_or file (upsets_read conf ticks bytes)
+
+-- the upsets of a run with options, by the contents of the files that it reads beside its container, of which that of the upsets is the last
+unfoldable pub upsets_for : Conf → ℕ → List RunOption → List (List ℕ) → Result (List UpsetLine) Denial
+upsets_for conf ticks options contents = upsets_named (upsets_in options) conf ticks (content (length (inputs_in options)) contents)
+
+-- the outcome of a run with upsets, or their refusal
+abbrev pub ran_struck : ℕ → List RunOption → System → List (List ℕ) → Result (List UpsetLine) Denial → Outcome
+ran_struck ticks options system inputs (Ok upsets) =
+    ran_scripted upsets ticks (cores_in options) system inputs (scripts_for upsets (with_inputs system inputs) ticks (scripts_in options))
+ran_struck ticks options system inputs (Err refusal) = refused_by refusal
+
+-- the outcome of a run, of a container's system with these input words: it is refused where it asks for more ticks than a run may have, where the file of
+-- its upsets is refused, and where a script of it is too long
+abbrev pub ran_for : List ℕ → ℕ → List RunOption → List (List ℕ) → System → List (List ℕ) → Outcome
+ran_for file asked options contents system inputs =
     if nat_lt TICKS asked then command_refused file (ticks_text asked)
-    else ran_scripted asked (cores_in options) system inputs (scripts_for (with_inputs system inputs) asked (scripts_in options))
+    else ran_struck asked options system inputs (upsets_for system.conf asked options contents)
 
 -- the outcome of a run, by the ticks that its options ask for
-unfoldable pub ran_within : List ℕ → List RunOption → System → List (List ℕ) → Outcome
-ran_within file options system inputs = ran_for file (ticks_asked (span_in options) system.conf) options system inputs
+unfoldable pub ran_within : List ℕ → List RunOption → List (List ℕ) → System → List (List ℕ) → Outcome
+ran_within file options contents system inputs = ran_for file (ticks_asked (span_in options) system.conf) options contents system inputs
 
 -- the outcome of a run, of a container's system with input words, or the refusal of an input's file
-abbrev pub ran_with : List ℕ → List RunOption → System → Result (List (List ℕ)) Denial → Outcome
-ran_with file options system (Ok inputs) = ran_within file options system inputs
-ran_with file options system (Err refusal) = refused_by refusal
+abbrev pub ran_with : List ℕ → List RunOption → List (List ℕ) → System → Result (List (List ℕ)) Denial → Outcome
+ran_with file options contents system (Ok inputs) = ran_within file options contents system inputs
+ran_with file options contents system (Err refusal) = refused_by refusal
 
 -- the outcome of a container that is run with options and inputs with these contents, or the refusal of its file
 abbrev pub run_by : List ℕ → List RunOption → List (List ℕ) → Result System BoxFault → Outcome
 run_by file options contents (Ok system) =
-    ran_with file options system (inputs_for (length system.conf.parts) options contents)
+    ran_with file options contents system (inputs_for (length system.conf.parts) options contents)
 run_by file options contents (Err fault) = command_refused file (box_fault_text fault)
 
 -- the outcome of the container of a file with these bytes, run with options and inputs with these contents
@@ -272,10 +307,6 @@ outcome_of_print text = record { denial = None; output = None; report = text; la
 abbrev pub converted : List ℕ → (List ℕ → Outcome) → Result (List ℕ) (List ℕ) → Outcome
 converted file outcome (Ok bytes) = outcome bytes
 converted file outcome (Err text) = command_refused file text
-
--- the content of the file of this number
-abbrev pub content : ℕ → List (List ℕ) → List ℕ
-content n contents = slice_index_or contents n []
 
 -- the outcome of the contents of the files, where none of them is too long
 abbrev pub outcome_of_contents : Command → List (List ℕ) → Outcome

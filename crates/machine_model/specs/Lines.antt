@@ -1,6 +1,6 @@
 -- What a run prints: the lines of its report, and the bytes that go to consoles.
 use Rattle.std.specs.Prelude.{ℕ, zero, suc, ◌==◌, Bool, true, false, if◌then◌else◌, List, [], ◌∷◌, ◌++◌, length, map, Option, Some, None, filter}
-use Rattle.xm_report.specs.Report.{ReportLine, ConsoleLine, EndPart, EndWhole, HealthLine, MovedLine, PlanLine, SystemLine, TraceLine, WholeLine}
+use Rattle.xm_report.specs.Report.{ReportLine, ConsoleLine, EndPart, EndWhole, HealthLine, MovedLine, PlanLine, StruckLine, SystemLine, TraceLine, WholeLine}
 use Rattle.machine_model.specs.Lists.{all_of, is_number}
 use Rattle.machine_model.specs.LocalTick.{LocalTick}
 use Rattle.machine_model.specs.Machine.{Happened, Machine, happened, next_clock, obeyed_emissions, order_upon, run, start, step, tick_of, worked_in}
@@ -94,6 +94,7 @@ tag_of (ConsoleLine n p bytes) = Some p
 tag_of (HealthLine n p event word action) = Some p
 tag_of (TraceLine n p bits load) = Some p
 tag_of (MovedLine n p to) = Some p
+tag_of (StruckLine n p place bit) = Some p
 tag_of (WholeLine n to) = None
 tag_of (PlanLine n plan) = None
 tag_of (EndPart p state resets exec pc) = Some p

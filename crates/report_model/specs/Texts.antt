@@ -2,7 +2,8 @@
 use Rattle.std.specs.Prelude.{◌≡◌, ℕ, ◌<◌, ◌^◌, List, ◌++◌}
 use Rattle.std.specs.List.{AllByRecursion}
 use Rattle.xm_base.specs.Bytes.{AreBytes}
-use Rattle.xm_report.specs.Report.{ReportLine, SystemLine, ConsoleLine, HealthLine, TraceLine, MovedLine, WholeLine, PlanLine, EndPart, EndWhole, text_of, texts}
+use Rattle.xm_report.specs.Places.{IsSpelledPlace}
+use Rattle.xm_report.specs.Report.{ReportLine, StruckLine, SystemLine, ConsoleLine, HealthLine, TraceLine, MovedLine, WholeLine, PlanLine, EndPart, EndWhole, text_of, texts}
 
 -- a tick, a count, and the number of a partition or a plan
 abbrev pub IsCount : ℕ → Type 0
@@ -19,6 +20,7 @@ IsInRange (ConsoleLine n p bytes) = IsCount n × IsCount p × AreBytes bytes
 IsInRange (HealthLine n p event word action) = IsCount n × IsCount p × IsWord word
 IsInRange (TraceLine n p bits load) = IsCount n × IsCount p × IsWord bits × AreBytes load
 IsInRange (MovedLine n p to) = IsCount n × IsCount p
+IsInRange (StruckLine n p place bit) = IsCount n × IsCount p × IsSpelledPlace place × IsCount bit
 IsInRange (WholeLine n to) = IsCount n
 IsInRange (PlanLine n plan) = IsCount n × IsCount plan
 IsInRange (EndPart p state resets exec pc) = IsCount p × IsCount resets × IsCount exec × IsWord pc

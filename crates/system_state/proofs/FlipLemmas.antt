@@ -8,8 +8,8 @@ use Rattle.machine_model.specs.Machine.{Machine}
 use Rattle.machine_model.specs.Partition.{areas_of}
 use Rattle.machine_model.specs.View.{PartitionView, view_of}
 use Rattle.upset_model.specs.Places.{flip, is_place}
-use Rattle.upset_model.specs.declared.place.Place.{Place}
-use Rattle.upset_model.specs.declared.place.Place.TheVariants.{Conditions, ExecutionDeadline, Global, HardwareDeadline, Mask, MemoryByte, Npc, Pc, Pending, TrapBase, Windowed, YRegister}
+use Rattle.xm_report.specs.declared.place.Place.{Place}
+use Rattle.xm_report.specs.declared.place.Place.TheVariants.{Conditions, ExecutionDeadline, Global, HardwareDeadline, Mask, MemoryByte, Npc, Pc, Pending, TrapBase, Windowed, YRegister}
 use Rattle.system_state.specs.State.{SysState, areas_in, memory_of, part_at, with_machine, with_part}
 use Rattle.system_state.specs.declared.sys.Sys.TheInside.{Inside}
 use Rattle.system_state.proofs.InsideLemmas.{IsKept, is_its_memory, is_rewritten, seen, seen_with}

@@ -6,7 +6,7 @@ ghost use Rattle.system_state.specs.lemmas.FlipTerms.{IsOwnBit, byte_address, fl
 
 use crate::own_state::PartState;
 use sparc_step::Processor;
-use upset_model::Place;
+use xm_report::Place;
 use virt_clocks::Clock;
 
 /// The address of a byte of memory, or `None` of another place.

@@ -12,7 +12,7 @@ use Rattle.upset_files.specs.declared.fault.UpsetCause.TheVariants.{TooMany}
 use Rattle.upset_files.specs.declared.fault.UpsetFault.{UpsetFault}
 use Rattle.upset_files.specs.declared.fault.UpsetFault.TheVariants as fault
 use Rattle.upset_files.specs.declared.reading.TheConstants.{UPSETS}
-use Rattle.upset_model.specs.declared.place.UpsetLine.{UpsetLine}
+use Rattle.upset_model.specs.declared.upset_line.UpsetLine.{UpsetLine}
 
 -- the first line that is wrong, where there may be this many, the first of them with a number
 record IsWrongFrom (most : ℕ) (conf : Conf) (ticks first before : ℕ) (text : List ℕ) (number : ℕ) (cause : UpsetCause) : Type 0 where

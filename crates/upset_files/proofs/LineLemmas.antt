@@ -8,12 +8,13 @@ use Rattle.upset_files.proofs.PlaceLemmas.{place_again, place_is, place_word}
 use Rattle.upset_files.proofs.WordLemmas.{after_is, decimal_word, is_word, word_after, word_is}
 use Rattle.upset_files.specs.Laws.{IsSpelledLine, IsSpelledPlace}
 use Rattle.upset_files.specs.Reading.{after_byte, from_blank, is_of_word, line_at, meant, field_number, place_spelled, spaced_read, word_before_blank, word_read}
-use Rattle.upset_files.specs.Spelling.{place_text, upset_text}
+use Rattle.xm_report.specs.Places.{place_text}
+use Rattle.upset_files.specs.Spelling.{upset_text}
 use Rattle.upset_files.specs.declared.fault.UpsetCause.{UpsetCause}
 use Rattle.upset_files.specs.declared.fault.UpsetCause.TheVariants.{BadBit, BadEnd, BadPartition, BadPlace, BadTick}
 use Rattle.upset_files.specs.declared.numbers.TheConstants.{MOST_NUMBER}
-use Rattle.upset_model.specs.declared.place.Place.{Place}
-use Rattle.upset_model.specs.declared.place.UpsetLine.{UpsetLine}
+use Rattle.xm_report.specs.declared.place.Place.{Place}
+use Rattle.upset_model.specs.declared.upset_line.UpsetLine.{UpsetLine}
 
 -- a number of 64 bits is read from its text
 number_again : (n : ℕ) → n < 2 ^ 64 → field_number (decimal n) ≡ Some n

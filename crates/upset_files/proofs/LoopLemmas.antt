@@ -13,7 +13,7 @@ use Rattle.upset_files.specs.lemmas.LineTerms.{next_line}
 use Rattle.upset_files.specs.declared.fault.UpsetCause.TheVariants.{TooMany}
 use Rattle.upset_files.specs.declared.fault.UpsetFault.{UpsetFault}
 use Rattle.upset_files.specs.declared.fault.UpsetFault.TheVariants as fault
-use Rattle.upset_model.specs.declared.place.UpsetLine.{UpsetLine}
+use Rattle.upset_model.specs.declared.upset_line.UpsetLine.{UpsetLine}
 use Rattle.upset_files.specs.declared.reading.TheConstants.{UPSETS}
 
 -- lines before those that are read

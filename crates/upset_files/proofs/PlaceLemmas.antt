@@ -14,9 +14,9 @@ use Rattle.upset_files.proofs.NumberLemmas.{number_text, text_number}
 use Rattle.upset_files.proofs.WordLemmas.{decimal_word, hex_word, is_word, table_passes}
 use Rattle.upset_files.specs.Laws.{IsSpelledPlace, PlacesAreSpelled}
 use Rattle.upset_files.specs.Reading.{byte_by, byte_place, global_place, if_spelled, is_of_word, named_place, named_places, not_below, number_spelled, register_place, or_place, place_spelled, register_number, windowed_place}
-use Rattle.upset_files.specs.Spelling.{place_text}
-use Rattle.upset_model.specs.declared.place.Place.{Place}
-use Rattle.upset_model.specs.declared.place.Place.TheVariants.{Conditions, ExecutionDeadline, Global, HardwareDeadline, Mask, MemoryByte, Npc, Pc, Pending, TrapBase, Windowed, YRegister}
+use Rattle.xm_report.specs.Places.{place_text}
+use Rattle.xm_report.specs.declared.place.Place.{Place}
+use Rattle.xm_report.specs.declared.place.Place.TheVariants.{Conditions, ExecutionDeadline, Global, HardwareDeadline, Mask, MemoryByte, Npc, Pc, Pending, TrapBase, Windowed, YRegister}
 
 -- bytes that are equal by their test are equal
 equal_bytes : (xs ys : List ℕ) → bytes_eq xs ys ≡ true → xs ≡ ys

@@ -13,9 +13,9 @@ use Rattle.upset_files.specs.Reading.{fitted, fitted_line, in_line, line_at, lin
 use Rattle.upset_files.specs.Spelling.{upset_text, upsets_text}
 use Rattle.upset_files.specs.declared.fault.UpsetCause.{UpsetCause}
 use Rattle.upset_files.specs.declared.fault.UpsetCause.TheVariants.{NoBit, NoPartition, NoPlace, Unordered, Unreached}
-use Rattle.upset_model.specs.declared.place.Place.{Place}
-use Rattle.upset_model.specs.declared.place.Place.TheVariants.{Conditions, ExecutionDeadline, Global, HardwareDeadline, Mask, MemoryByte, Npc, Pc, Pending, TrapBase, Windowed, YRegister}
-use Rattle.upset_model.specs.declared.place.UpsetLine.{UpsetLine}
+use Rattle.xm_report.specs.declared.place.Place.{Place}
+use Rattle.xm_report.specs.declared.place.Place.TheVariants.{Conditions, ExecutionDeadline, Global, HardwareDeadline, Mask, MemoryByte, Npc, Pc, Pending, TrapBase, Windowed, YRegister}
+use Rattle.upset_model.specs.declared.upset_line.UpsetLine.{UpsetLine}
 use Rattle.upset_files.specs.declared.reading.TheConstants.{UPSETS}
 
 -- a place that a partition has, with an address of 32 bits, has a spelling

@@ -8,7 +8,7 @@ use Rattle.xm_conf.specs.Configuration.{Part}
 use Rattle.xm_conf.specs.declared.part.Area.{Area}
 use Rattle.machine_model.specs.Partition.{areas_of}
 use Rattle.machine_model.specs.View.{System, no_part, part_of, view_of}
-use Rattle.upset_model.specs.declared.place.Place.TheVariants.{Conditions, ExecutionDeadline, Global, HardwareDeadline, Mask, MemoryByte, Npc, Pc, Pending, TrapBase, Windowed, YRegister}
+use Rattle.xm_report.specs.declared.place.Place.TheVariants.{Conditions, ExecutionDeadline, Global, HardwareDeadline, Mask, MemoryByte, Npc, Pc, Pending, TrapBase, Windowed, YRegister}
 use Rattle.upset_files.specs.Fits.{areas_or_none, has_address, is_bit_of, is_place_of, areas_of_part}
 use Rattle.upset_files.specs.Laws.{PlacesAreThose, UpsetsMayStrike}
 

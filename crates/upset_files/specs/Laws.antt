@@ -6,29 +6,14 @@ use Rattle.machine_model.specs.View.{System, view_of}
 use Rattle.upset_model.specs.Places.{is_place}
 use Rattle.upset_files.specs.Fits.{AllFit, AreUpsetsOf, FitsRun, is_bit_of, is_place_of, areas_of_part}
 use Rattle.upset_files.specs.Reading.{fitted_line, place_spelled, upsets_read}
-use Rattle.upset_files.specs.Spelling.{place_text, upsets_text}
+use Rattle.xm_report.specs.Places.{IsSpelledPlace, place_text}
+use Rattle.upset_files.specs.Spelling.{upsets_text}
 use Rattle.upset_files.specs.declared.fault.UpsetCause.{UpsetCause}
 use Rattle.upset_files.specs.declared.fault.UpsetCause.TheVariants.{TooMany}
 use Rattle.upset_files.specs.declared.fault.UpsetFault.TheVariants as fault
 use Rattle.upset_files.specs.declared.reading.TheConstants.{UPSETS}
-use Rattle.upset_model.specs.declared.place.Place.{Place}
-use Rattle.upset_model.specs.declared.place.Place.TheVariants.{Conditions, ExecutionDeadline, Global, HardwareDeadline, Mask, MemoryByte, Npc, Pc, Pending, TrapBase, Windowed, YRegister}
-use Rattle.upset_model.specs.declared.place.UpsetLine.{UpsetLine}
-
--- a place that has a spelling: the registers g1 to g7 and w0 to w127, those with a name, and a byte with an address of 32 bits
-abbrev pub IsSpelledPlace : Place → Type 0
-IsSpelledPlace (Global n) = (1 ≤ n) × (n < 8)
-IsSpelledPlace (Windowed n) = n < 128
-IsSpelledPlace Pc = Unit {0}
-IsSpelledPlace Npc = Unit {0}
-IsSpelledPlace YRegister = Unit {0}
-IsSpelledPlace Conditions = Unit {0}
-IsSpelledPlace HardwareDeadline = Unit {0}
-IsSpelledPlace ExecutionDeadline = Unit {0}
-IsSpelledPlace TrapBase = Unit {0}
-IsSpelledPlace Mask = Unit {0}
-IsSpelledPlace Pending = Unit {0}
-IsSpelledPlace (MemoryByte address) = address < 2 ^ 32
+use Rattle.xm_report.specs.declared.place.Place.{Place}
+use Rattle.upset_model.specs.declared.upset_line.UpsetLine.{UpsetLine}
 
 -- a line that has a spelling: its place has one, and its numbers have 64 bits
 pub record IsSpelledLine (line : UpsetLine) : Type 0 where

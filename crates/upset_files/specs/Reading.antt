@@ -12,13 +12,13 @@ use Rattle.upset_files.specs.declared.fault.UpsetCause.{UpsetCause}
 use Rattle.upset_files.specs.declared.fault.UpsetCause.TheVariants.{BadBit, BadEnd, BadPartition, BadPlace, BadTick, NoBit, NoPartition, NoPlace, TooMany, Unordered, Unreached}
 use Rattle.upset_files.specs.declared.fault.UpsetFault.{UpsetFault}
 use Rattle.upset_files.specs.declared.fault.UpsetFault.TheVariants as fault
-use Rattle.upset_model.specs.declared.place.Place.{Place}
-use Rattle.upset_model.specs.declared.place.Place.TheVariants.{Conditions, ExecutionDeadline, Global, HardwareDeadline, Mask, MemoryByte, Npc, Pc, Pending, TrapBase, Windowed, YRegister}
-use Rattle.upset_model.specs.declared.place.UpsetLine.{UpsetLine}
+use Rattle.xm_report.specs.declared.place.Place.{Place}
+use Rattle.xm_report.specs.declared.place.Place.TheVariants.{Conditions, ExecutionDeadline, Global, HardwareDeadline, Mask, MemoryByte, Npc, Pc, Pending, TrapBase, Windowed, YRegister}
+use Rattle.upset_model.specs.declared.upset_line.UpsetLine.{UpsetLine}
 use Rattle.upset_files.specs.declared.numbers.TheConstants.{MOST_NUMBER}
 use Rattle.upset_files.specs.declared.reading.TheConstants.{UPSETS}
 use Rattle.upset_files.specs.Fits.{is_bit_of, is_place_of, areas_of_part}
-use Rattle.upset_files.specs.Spelling.{place_text}
+use Rattle.xm_report.specs.Places.{place_text}
 
 -- a byte of a word: no space and no line feed
 unfoldable pub is_of_word : ℕ → Bool

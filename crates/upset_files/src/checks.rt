@@ -9,7 +9,8 @@ ghost use Rattle.upset_files.specs.Reading.{fitted};
 ghost use Rattle.upset_files.specs.lemmas.LineTerms.{fields_of};
 
 use crate::fault::UpsetCause;
-use upset_model::{Place, UpsetLine};
+use upset_model::UpsetLine;
+use xm_report::Place;
 use xm_conf::{Area, Conf};
 
 /// The fields of a line as they are read.

@@ -1,4 +1,4 @@
-//! Files of upsets: the text of the bits that flip in a run, its reading and the spelling of its places.
+//! Files of upsets: the text of the bits that flip in a run and its reading.
 #![tactic(auto)]
 
 mod checks;
@@ -9,7 +9,6 @@ mod numbers;
 mod places;
 mod reading;
 mod rows;
-mod spelling;
 #[cfg(test)]
 mod tests;
 mod words;
@@ -18,4 +17,3 @@ pub use fault::{UpsetCause, UpsetFault};
 pub use law::{places_are_spelled, upsets_are_spelled};
 pub use reading::{UPSETS, read_upsets};
 pub use rows::{bits_at_edges, lines_at_edges, places_at_edges};
-pub use spelling::place_text;

@@ -3,11 +3,11 @@
 ghost use Rattle.std.specs.Prelude.{◌≡◌, ◌<◌, ◌≤◌, IfSome};
 ghost use Rattle.std.specs.Str.{bytes_eq};
 ghost use Rattle.upset_files.specs.Reading as reading;
-ghost use Rattle.upset_files.specs.Spelling.{place_text};
+ghost use Rattle.xm_report.specs.Places.{place_text};
 
 use crate::numbers::number;
 use crate::spelling::place_text;
-use upset_model::Place;
+use xm_report::Place;
 
 /// The places that have a name.
 const NAMED_PLACES: [Place; 9] = [

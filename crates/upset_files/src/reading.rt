@@ -5,7 +5,7 @@ ghost use Rattle.file_headers.specs.Gives.{Gives, IsRead};
 ghost use Rattle.upset_files.specs.Fits.{AreUpsetsOf};
 ghost use Rattle.upset_files.specs.Gives.{FailsAs};
 ghost use Rattle.upset_files.specs.Reading.{upsets_read};
-ghost use Rattle.upset_model.specs.declared.place.UpsetLine.{UpsetLine};
+ghost use Rattle.upset_model.specs.declared.upset_line.UpsetLine.{UpsetLine};
 ghost use Rattle.upset_files.specs.declared.reading.TheConstants.{UPSETS};
 ghost use Rattle.upset_files.specs.lemmas.LineTerms.{next_line};
 

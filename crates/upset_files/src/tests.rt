@@ -4,7 +4,8 @@ use crate::read_upsets;
 use std::alloc::{AllocError, Global};
 use std::process::Abort;
 use std::test::Fail;
-use upset_model::{Place, UpsetLine};
+use upset_model::UpsetLine;
+use xm_report::Place;
 use xm_base::PartId;
 use xm_conf::{Action, Area, Conf, HmTable, Name, Part, Plan, RawConf, Region, Slot};
 

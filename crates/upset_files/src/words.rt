@@ -8,7 +8,7 @@ ghost use Rattle.upset_files.specs.Reading.{after_byte, from_blank, is_of_word, 
 use crate::fault::UpsetCause;
 use crate::numbers::{MOST_NUMBER, number};
 use crate::places::place;
-use upset_model::Place;
+use xm_report::Place;
 
 /// A byte of a word: no space and no line feed.
 #[tactic(auto, unfolding(crate::specs::Reading::is_of_word))]

@@ -23,8 +23,8 @@ use Rattle.range_model.specs.Numbers.{AreBelow, IsByteMemory}
 use Rattle.range_model.specs.Registers.{AreWordRegisters}
 use Rattle.upset_laws.specs.FlipLaws.{AreSameBut, FlipsItsPlace, FlipsKeepFacts, FlipsKeepRanges, FlipsKeepRegisters, FlipsKeepTimers, FlipsKeepTraps, FlipsNothingElse, FlipsStayIn, HasItsInterval, StrikesByOwnLines, TwoStruckRuns, place_bits, place_value}
 use Rattle.upset_model.specs.Places.{deadline_of, flip, flipped, flipped_at, flipped_timer, interval_of, is_place, lines_for, schedule_of, upset_of}
-use Rattle.upset_model.specs.declared.place.Place.{Place}
-use Rattle.upset_model.specs.declared.place.Place.TheVariants.{Conditions, ExecutionDeadline, Global, HardwareDeadline, Mask, MemoryByte, Npc, Pc, Pending, TrapBase, Windowed, YRegister}
+use Rattle.xm_report.specs.declared.place.Place.{Place}
+use Rattle.xm_report.specs.declared.place.Place.TheVariants.{Conditions, ExecutionDeadline, Global, HardwareDeadline, Mask, MemoryByte, Npc, Pc, Pending, TrapBase, Windowed, YRegister}
 use Rattle.upset_laws.specs.UpsetLaws.{TwoUpsetRuns}
 use Rattle.upset_model.specs.Upsets.{own_strikes, strikes_on}
 use Rattle.upset_model.specs.lemmas.BitLemmas.{aligned, conditions, counted, on_page, zero_stays}

@@ -12,9 +12,9 @@ use Rattle.machine_model.specs.Partition.{PartitionState}
 use Rattle.machine_model.specs.View.{PartitionView, view_of}
 use Rattle.range_model.specs.Ranges.{IsPartitionInRange}
 use Rattle.upset_model.specs.Places.{deadline_of, flip, interval_of, is_place, lines_for, schedule_of}
-use Rattle.upset_model.specs.declared.place.Place.{Place}
-use Rattle.upset_model.specs.declared.place.Place.TheVariants.{Conditions, ExecutionDeadline, Global, HardwareDeadline, Mask, MemoryByte, Npc, Pc, Pending, TrapBase, Windowed, YRegister}
-use Rattle.upset_model.specs.declared.place.UpsetLine.{UpsetLine}
+use Rattle.xm_report.specs.declared.place.Place.{Place}
+use Rattle.xm_report.specs.declared.place.Place.TheVariants.{Conditions, ExecutionDeadline, Global, HardwareDeadline, Mask, MemoryByte, Npc, Pc, Pending, TrapBase, Windowed, YRegister}
+use Rattle.upset_model.specs.declared.upset_line.UpsetLine.{UpsetLine}
 use Rattle.upset_laws.specs.UpsetLaws.{AreEqualUpset}
 use Rattle.upset_model.specs.Upsets.{own_strikes, upset_script}
 

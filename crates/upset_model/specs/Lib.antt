@@ -1,4 +1,5 @@
 pub mod Upsets
 pub mod Places
+pub mod Reports
 pub mod lemmas
 pub mod rows

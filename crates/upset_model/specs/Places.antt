@@ -1,14 +1,14 @@
 -- Upsets by places: a bit of a register, of a virtual trap register, of a timer or of a byte of memory flips before a tick.
-use Rattle.std.specs.Prelude.{ℕ, ◌^◌, ◌==◌, ◌&&◌, nat_lt, nat_le, Bool, if◌then◌else◌, List, [], ◌∷◌, bit_xor, slice_index, slice_set}
+use Rattle.std.specs.Prelude.{ℕ, ◌^◌, ◌==◌, ◌&&◌, nat_lt, nat_le, Bool, if◌then◌else◌, List, [], ◌∷◌, map, bit_xor, slice_index, slice_set}
 use Rattle.std.specs.FinMap.{insert}
 use Rattle.guest_bus.specs.Memory.{byte_at, is_readable}
 pub use Rattle.virt_clocks.specs.Flips.{deadline_of, flipped_timer, interval_of}
 use Rattle.machine_model.specs.Partition.{PartitionState, areas_of}
 use Rattle.machine_model.specs.View.{PartitionView}
-use Rattle.upset_model.specs.Upsets.{Schedule, Upset}
-use Rattle.upset_model.specs.declared.place.Place.{Place}
-use Rattle.upset_model.specs.declared.place.Place.TheVariants.{Conditions, ExecutionDeadline, Global, HardwareDeadline, Mask, MemoryByte, Npc, Pc, Pending, TrapBase, Windowed, YRegister}
-use Rattle.upset_model.specs.declared.place.UpsetLine.{UpsetLine}
+use Rattle.upset_model.specs.Upsets.{Schedule, Strike, Upset}
+use Rattle.xm_report.specs.declared.place.Place.{Place}
+use Rattle.xm_report.specs.declared.place.Place.TheVariants.{Conditions, ExecutionDeadline, Global, HardwareDeadline, Mask, MemoryByte, Npc, Pc, Pending, TrapBase, Windowed, YRegister}
+use Rattle.upset_model.specs.declared.upset_line.UpsetLine.{UpsetLine}
 
 -- whether a partition has the bit, and may be struck there. Register 0 is always 0; the program counters are multiples of 4, and the base is one of 4096; a
 -- deadline has 63 bits, as a number that is not negative; a byte that is read-only may be struck, too
@@ -48,13 +48,28 @@ flip Pending bit ps = record ps { traps = record ps.traps { pending = flipped bi
 flip (MemoryByte address) bit ps = record ps { memory = insert ps.memory address (flipped bit (byte_at ps.memory address)) }
 
 -- the upset of a line: the bit of the place of the partition flips
+abbrev pub strike_of : UpsetLine → Strike
+strike_of line = flip line.place line.bit
+
 abbrev pub upset_of : UpsetLine → Upset
-upset_of line = record { part = line.part; strike = flip line.place line.bit }
+upset_of line = record { part = line.part; strike = strike_of line }
+
+-- lines of upsets before each tick, by the ticks that are done
+abbrev pub Timetable : Type 0
+Timetable = ℕ → List UpsetLine
+
+-- those of a file
+abbrev pub due : List UpsetLine → Timetable
+due [] k = []
+due (line ∷ lines) k = if line.tick == k then line ∷ due lines k else due lines k
+
+-- their upsets
+abbrev pub upsets_of : Timetable → Schedule
+upsets_of t k = map upset_of (t k)
 
 -- the upsets of a file before each tick
 abbrev pub schedule_of : List UpsetLine → Schedule
-schedule_of [] k = []
-schedule_of (line ∷ lines) k = if line.tick == k then upset_of line ∷ schedule_of lines k else schedule_of lines k
+schedule_of lines = upsets_of (due lines)
 
 -- the lines for one partition
 abbrev pub lines_for : ℕ → List UpsetLine → List UpsetLine

@@ -2,8 +2,8 @@
 //! Definitions over `machine_model`, of any machine, any number of upsets and any state.
 #![tactic(auto)]
 
-mod place;
 mod rows;
+mod upset_line;
 
-pub use place::{Place, UpsetLine};
 pub use rows::{flips_at_edges, strikes_before_its_tick};
+pub use upset_line::UpsetLine;

@@ -9,16 +9,18 @@ use Rattle.xm_container.specs.Reading.{unpacked}
 use Rattle.replay_setup.specs.OfRun.{IsOfRun, own_console}
 use Rattle.uart_board.specs.Heard.{IsHeard}
 use Rattle.uart_board.specs.Views.{without_marks}
-use Rattle.machine_model.specs.Alone.{Alone, alone_from, alone_lines, alone_start}
+use Rattle.machine_model.specs.Alone.{Alone, alone_start}
 use Rattle.machine_model.specs.CoreFile.{core_file}
-use Rattle.machine_model.specs.Cue.{script}
-use Rattle.machine_model.specs.Lines.{end_line, own, report}
-use Rattle.machine_model.specs.Machine.{run, start}
+use Rattle.machine_model.specs.Lines.{end_line, own}
 use Rattle.machine_model.specs.View.{System, view_of}
+use Rattle.upset_model.specs.Places.{schedule_of}
+use Rattle.upset_model.specs.Reports.{after_run, alone_reported, own_due, received_in, upset_report}
+use Rattle.upset_model.specs.Upsets.{alone_upset_from, own_strikes}
+use Rattle.upset_model.specs.declared.upset_line.UpsetLine.{UpsetLine}
 use Rattle.system_state.specs.State.{with_inputs}
 use Rattle.command_line.specs.Words.{Command, PartFile, RunOption, Bare, Parse, Upgrade, BuildImage, ReadImage, Pack, ListContainer, CheckContainer, MakePlan, CheckPlan, ListGroups, ListSteerers, Generate, Run, Replay, cores_in, replay_core, replay_input, span_in, scripts_in}
 use Rattle.file_commands.specs.Inputs.{inputs_for, no_inputs}
-use Rattle.file_commands.specs.Outcome.{Output, content, core_output, first_long, input_bytes, name_if_any, script_output, ticks_asked}
+use Rattle.file_commands.specs.Outcome.{Output, content, core_output, first_long, input_bytes, name_if_any, script_output, ticks_asked, upsets_for}
 use Rattle.run_commands.specs.Contents.{read_all}
 use Rattle.run_commands.specs.Numbers.{AllReceiveNumbers}
 use Rattle.xm_commands.specs.Top.{AreContents, IsCompleteStatus}
@@ -27,79 +29,88 @@ use Rattle.xm_commands.specs.World.{World}
 use Rattle.file_commands.specs.declared.status.Status.{Status}
 use Rattle.file_commands.specs.declared.status.Status.TheVariants.{Refused}
 
--- partition p of a system alone, after this many ticks: from its boot on, it receives its script of them
-abbrev pub alone_after_ticks : System → ℕ → ℕ → Alone
-alone_after_ticks system p ticks = alone_from (view_of system p) (alone_start (view_of system p)) (script (start system) p ticks)
+-- partition p of a system alone, after this many ticks: from its boot on, its own upsets strike it, and it receives its script of them
+abbrev pub alone_after_ticks : List UpsetLine → System → ℕ → ℕ → Alone
+alone_after_ticks upsets system p ticks =
+    alone_upset_from (view_of system p) (own_strikes p (schedule_of upsets)) (alone_start (view_of system p)) (received_in upsets system p ticks)
 
--- the lines of the partition alone, and the line of its end
-abbrev pub alone_report : System → ℕ → ℕ → List ReportLine
-alone_report system p ticks =
-    alone_lines (view_of system p) (alone_start (view_of system p)) (script (start system) p ticks) ++ end_line p (alone_after_ticks system p ticks).state ∷ []
+-- the lines of the partition alone and of its own upsets, and the line of its end
+abbrev pub alone_report : List UpsetLine → System → ℕ → ℕ → List ReportLine
+alone_report upsets system p ticks =
+    alone_reported (view_of system p) (own_due p upsets) (alone_start (view_of system p)) (received_in upsets system p ticks)
+    ++ end_line p (alone_after_ticks upsets system p ticks).state ∷ []
 
 -- the core file of a partition alone, under the name that is given for it
-abbrev pub alone_output : System → ℕ → PartFile → Output
-alone_output system ticks named = record { file = named.file; bytes = core_file (view_of system named.part) (alone_after_ticks system named.part ticks).state }
+abbrev pub alone_output : List UpsetLine → System → ℕ → PartFile → Output
+alone_output upsets system ticks named = record { file = named.file; bytes = core_file (view_of system named.part) (alone_after_ticks upsets system named.part ticks).state }
 
--- what a run of this many ticks prints, where all of it went out: the lines of its report, of which each partition's own are those of that partition alone
-pub record PrintsAlone (system : System) (ticks : ℕ) (before after : Outside) : Type 0 where
+-- what a run of this many ticks with upsets prints, where all of it went out: the lines of its report, of which each partition's own are those of that
+-- partition alone, with its own upsets
+pub record PrintsAlone (upsets : List UpsetLine) (system : System) (ticks : ℕ) (before after : Outside) : Type 0 where
   pub lines : List ReportLine
-  pub whole : lines ≡ report system ticks
+  pub whole : lines ≡ upset_report upsets system ticks
   pub report : after.got ≡ grown before.got (texts lines)
-  pub own : (p : ℕ) → p < length system.conf.parts → own p lines ≡ alone_report system p ticks
+  pub own : (p : ℕ) → p < length system.conf.parts → own p lines ≡ alone_report upsets system p ticks
 
 -- the core files of partitions alone, and scripts after them
-abbrev pub alone_outputs : System → ℕ → List PartFile → List PartFile → List Output
-alone_outputs system ticks cores scripts = map (alone_output system ticks) cores ++ map (script_output system ticks) scripts
+abbrev pub alone_outputs : List UpsetLine → System → ℕ → List PartFile → List PartFile → List Output
+alone_outputs upsets system ticks cores scripts = map (alone_output upsets system ticks) cores ++ map (script_output upsets system ticks) scripts
+
+-- what a run of this many ticks with upsets shows, with these core files and scripts
+abbrev pub Shown : Type 1
+Shown = List UpsetLine → System → ℕ → List PartFile → List PartFile → Outside → Outside → Type 0
 
 -- a run of this many ticks, with these core files and scripts: its whole report went out, and the core files that were written, in this order, are
 -- those of the partitions alone, and the scripts after them are what the partitions received; no other file has changed
-pub record ShowsAlone (system : System) (ticks : ℕ) (cores scripts : List PartFile) (before after : Outside) : Type 0 where
-  pub printed : PrintsAlone system ticks before after
-  pub written : after.files ≡ (wrote_all (alone_outputs system ticks cores scripts) before).files
+pub record ShowsAlone (upsets : List UpsetLine) (system : System) (ticks : ℕ) (cores scripts : List PartFile) (before after : Outside) : Type 0 where
+  pub printed : PrintsAlone upsets system ticks before after
+  pub written : after.files ≡ (wrote_all (alone_outputs upsets system ticks cores scripts) before).files
 
 -- the same run, where its report was cut: what went out is the first lines of it, and a prefix of the next line. Of these lines each partition's
 -- own are the first of those of that partition alone, and the rest of them did not go out. No file has changed
-pub record ShowsFront (system : System) (ticks : ℕ) (cores scripts : List PartFile) (before after : Outside) : Type 0 where
+pub record ShowsFront (upsets : List UpsetLine) (system : System) (ticks : ℕ) (cores scripts : List PartFile) (before after : Outside) : Type 0 where
   pub lines : List ReportLine
   pub next : ReportLine
   pub rest : List ReportLine
-  pub split : lines ++ next ∷ rest ≡ report system ticks
+  pub split : lines ++ next ∷ rest ≡ upset_report upsets system ticks
   pub front : GrewByPrefix (grown before.got (texts lines)) (text_of next) after.got
-  pub own : (p : ℕ) → p < length system.conf.parts → own p lines ++ own p (next ∷ rest) ≡ alone_report system p ticks
+  pub own : (p : ℕ) → p < length system.conf.parts → own p lines ++ own p (next ∷ rest) ≡ alone_report upsets system p ticks
   pub files : after.files ≡ before.files
 
 -- the same run, where one of these files was not written: its whole report went out, and the files before that one were written, so all core
 -- files where it is a script; no file beside these has changed
-pub record ShowsSome (system : System) (ticks : ℕ) (cores scripts : List PartFile) (before after : Outside) : Type 0 where
-  pub printed : PrintsAlone system ticks before after
+pub record ShowsSome (upsets : List UpsetLine) (system : System) (ticks : ℕ) (cores scripts : List PartFile) (before after : Outside) : Type 0 where
+  pub printed : PrintsAlone upsets system ticks before after
   pub first : List Output
   pub lost : Output
   pub rest : List Output
-  pub split : first ++ lost ∷ rest ≡ alone_outputs system ticks cores scripts
+  pub split : first ++ lost ∷ rest ≡ alone_outputs upsets system ticks cores scripts
   pub others : OthersStay (wrote_all first before).files lost.file after.files
 
 -- the same run, where its report or one of its files was not written
-abbrev pub ShowsPart : System → ℕ → List PartFile → List PartFile → Outside → Outside → Type 0
-ShowsPart system ticks cores scripts before after = ShowsFront system ticks cores scripts before after ⊎ ShowsSome system ticks cores scripts before after
+abbrev pub ShowsPart : Shown
+ShowsPart upsets system ticks cores scripts before after = ShowsFront upsets system ticks cores scripts before after ⊎ ShowsSome upsets system ticks cores scripts before after
 
 -- a raw image with these contents was run, and the run shows this
-pub record BareAlone (Shows : System → ℕ → List PartFile → List PartFile → Outside → Outside → Type 0) (contents : List (List ℕ)) (image : List ℕ) (ticks : ℕ) (before after : Outside) : Type 0 where
+pub record BareAlone (Shows : Shown) (contents : List (List ℕ)) (image : List ℕ) (ticks : ℕ) (before after : Outside) : Type 0 where
   pub are : AreContents before.files (Bare image ticks) contents
-  pub shows : Shows (with_inputs (bare_system (content 0 contents)) (no_inputs 1)) ticks [] [] before after
+  pub shows : Shows [] (with_inputs (bare_system (content 0 contents)) (no_inputs 1)) ticks [] [] before after
 
--- a container with these contents was run, with input words for its partitions, and the run shows this; where the store's files are known, the
+-- a container with these contents was run, with input words for its partitions and with upsets, and the run shows this; where the store's files are known, the
 -- numbers that the partitions of its scripts received are in range: bytes are bytes, and the status of each reset is a word
-pub record ContainerAlone (Shows : System → ℕ → List PartFile → List PartFile → Outside → Outside → Type 0) (contents : List (List ℕ)) (container : List ℕ) (options : List RunOption) (before after : Outside) : Type 0 where
+pub record ContainerAlone (Shows : Shown) (contents : List (List ℕ)) (container : List ℕ) (options : List RunOption) (before after : Outside) : Type 0 where
   pub are : AreContents before.files (Run container options) contents
   pub system : loaded.System
   pub unpacks : unpacked (content 0 contents) ≡ Ok system
   pub inputs : List (List ℕ)
   pub given : inputs_for (length system.conf.parts) options (drop 1 contents) ≡ Ok inputs
-  pub numbers : (files : Files) → before.files ≡ Some files → AllReceiveNumbers (with_inputs system inputs) (ticks_asked (span_in options) system.conf) (scripts_in options)
-  pub shows : Shows (with_inputs system inputs) (ticks_asked (span_in options) system.conf) (cores_in options) (scripts_in options) before after
+  pub upsets : List UpsetLine
+  pub striking : upsets_for system.conf (ticks_asked (span_in options) system.conf) options (drop 1 contents) ≡ Ok upsets
+  pub numbers : (files : Files) → before.files ≡ Some files → AllReceiveNumbers upsets (with_inputs system inputs) (ticks_asked (span_in options) system.conf) (scripts_in options)
+  pub shows : Shows upsets (with_inputs system inputs) (ticks_asked (span_in options) system.conf) (cores_in options) (scripts_in options) before after
 
 -- what a command shows of partitions, by the contents of its files; those that print no report of a run show nothing here
-abbrev pub CommandAlone : (System → ℕ → List PartFile → List PartFile → Outside → Outside → Type 0) → List (List ℕ) → Command → Outside → Outside → Type 0
+abbrev pub CommandAlone : Shown → List (List ℕ) → Command → Outside → Outside → Type 0
 CommandAlone Shows contents (Bare image ticks) before after = BareAlone Shows contents image ticks before after
 CommandAlone Shows contents (Parse description output) before after = Unit {0}
 CommandAlone Shows contents (Upgrade configuration output) before after = Unit {0}
@@ -117,7 +128,7 @@ CommandAlone Shows contents (Run container options) before after = ContainerAlon
 CommandAlone Shows contents (Replay container part script further) before after = Unit {0}
 
 -- what words show that are a command
-abbrev pub AreShownAlone : (System → ℕ → List PartFile → List PartFile → Outside → Outside → Type 0) → List (List ℕ) → Option Command → Outside → Outside → Type 0
+abbrev pub AreShownAlone : Shown → List (List ℕ) → Option Command → Outside → Outside → Type 0
 AreShownAlone Shows contents None before after = Unit {0}
 AreShownAlone Shows contents (Some command) before after = CommandAlone Shows contents command before after
 
@@ -126,8 +137,8 @@ AreShownAlone Shows contents (Some command) before after = CommandAlone Shows co
 -- the partition's own lines of the report of that run and the line of its end went out, its core file is that after the run, and its UART got the console
 -- bytes that the partition wrote to it in that run
 pub record ShowsOwn (system : System) (ticks part : ℕ) (core : Option (List ℕ)) (before after : World) : Type 0 where
-  pub printed : after.disk.got ≡ grown before.disk.got (texts (own part (report system ticks)))
-  pub written : after.disk.files ≡ (wrote_all (map (λ file. core_output (run (start system) ticks) (record { part = part; file = file })) (name_if_any core)) before.disk).files
+  pub printed : after.disk.got ≡ grown before.disk.got (texts (own part (upset_report [] system ticks)))
+  pub written : after.disk.files ≡ (wrote_all (map (λ file. core_output (after_run [] system ticks) (record { part = part; file = file })) (name_if_any core)) before.disk).files
   pub said : IsHeard (own_console system ticks part) (without_marks before.board) after.board
 
 -- a replay by the script of a run is not refused, and shows the partition's part of that run

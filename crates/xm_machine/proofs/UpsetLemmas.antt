@@ -10,7 +10,7 @@ use Rattle.machine_model.specs.Partition.{PartitionState}
 use Rattle.machine_model.specs.View.{view_of}
 use Rattle.upset_model.specs.Places.{flip, upset_of}
 use Rattle.upset_model.specs.Upsets.{ready, struck_if, upset}
-use Rattle.upset_model.specs.declared.place.UpsetLine.{UpsetLine}
+use Rattle.upset_model.specs.declared.upset_line.UpsetLine.{UpsetLine}
 use Rattle.upset_model.specs.lemmas.FactLemmas.{facts_stay}
 use Rattle.upset_model.specs.lemmas.StruckLemmas.{upset_at}
 use Rattle.system_state.specs.State.{SysState, part_at, with_machine, with_part}

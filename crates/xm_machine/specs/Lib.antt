@@ -8,4 +8,5 @@ pub mod Outcome
 pub mod Spans
 pub mod Steps
 pub mod Stretch
+pub mod Struck
 pub mod lemmas

@@ -8,11 +8,13 @@ use Rattle.xm_base.specs.declared.partition.State.{State}
 use Rattle.xm_conf.specs.Health.{action_row, event_row}
 use Rattle.xm_conf.specs.declared.health.Action.{Action}
 use Rattle.xm_conf.specs.declared.health.Event.{Event}
+use Rattle.xm_report.specs.Places.{place_text}
 use Rattle.xm_report.specs.declared.line.Line.{Line}
 use Rattle.xm_report.specs.declared.line.Line.TheVariants as code
 use Rattle.xm_report.specs.declared.line.Move.{Move}
 use Rattle.xm_report.specs.declared.line.Move.TheVariants.{Halt, Suspend, Resume, Cold, Warm}
 use Rattle.xm_report.specs.declared.pen.TheConstants.{LINE_BYTES}
+use Rattle.xm_report.specs.declared.place.Place.{Place}
 
 -- what a line says
 pub data ReportLine : Type 0 where
@@ -21,6 +23,7 @@ pub data ReportLine : Type 0 where
   HealthLine : (n p : ℕ) (event : Event) (word : ℕ) (action : Action) → ReportLine
   TraceLine : (n p bits : ℕ) (load : List ℕ) → ReportLine
   MovedLine : (n p : ℕ) (to : Move) → ReportLine
+  StruckLine : (n p : ℕ) (place : Place) (bit : ℕ) → ReportLine
   WholeLine : (n : ℕ) (to : Move) → ReportLine
   PlanLine : (n plan : ℕ) → ReportLine
   EndPart : (p : ℕ) (state : State) (resets exec pc : ℕ) → ReportLine
@@ -33,6 +36,7 @@ line_value (code.Console n p bytes) = ConsoleLine n p bytes.now
 line_value (code.Health n p event word action) = HealthLine n p event word action
 line_value (code.Trace n p bits load) = TraceLine n p bits load
 line_value (code.Moved n p to) = MovedLine n p to
+line_value (code.Struck n p place bit) = StruckLine n p place bit
 line_value (code.Whole n to) = WholeLine n to
 line_value (code.PlanIs n plan) = PlanLine n plan
 line_value (code.EndPart p state resets exec pc) = EndPart p state resets exec pc
@@ -45,6 +49,7 @@ IsShort (ConsoleLine n p bytes) = length bytes ≤ CONSOLE_BYTES
 IsShort (HealthLine n p event word action) = Unit {0}
 IsShort (TraceLine n p bits load) = Unit {0}
 IsShort (MovedLine n p to) = Unit {0}
+IsShort (StruckLine n p place bit) = Unit {0}
 IsShort (WholeLine n to) = Unit {0}
 IsShort (PlanLine n plan) = Unit {0}
 IsShort (EndPart p state resets exec pc) = Unit {0}
@@ -114,6 +119,11 @@ unfoldable pub moved_text : ℕ → ℕ → Move → List ℕ
 moved_text n p to =
     codes "[" ++ decimal n ++ codes "] P" ++ decimal p ++ codes " " ++ move_text to ++ codes "\n"
 
+-- an upset of a partition before a tick: the place, and the number of the bit
+unfoldable pub struck_text : ℕ → ℕ → Place → ℕ → List ℕ
+struck_text n p place bit =
+    codes "[" ++ decimal n ++ codes "] P" ++ decimal p ++ codes " UPSET " ++ place_text place ++ codes " bit " ++ decimal bit ++ codes "\n"
+
 -- how a partition stands at the end
 unfoldable pub end_part_text : ℕ → State → ℕ → ℕ → ℕ → List ℕ
 end_part_text p state resets exec pc =
@@ -133,6 +143,7 @@ text_of (ConsoleLine n p bytes) = console_text n p bytes
 text_of (HealthLine n p event word action) = health_text n p event word action
 text_of (TraceLine n p bits load) = trace_text n p bits load
 text_of (MovedLine n p to) = moved_text n p to
+text_of (StruckLine n p place bit) = struck_text n p place bit
 text_of (WholeLine n to) = whole_text n to
 text_of (PlanLine n plan) = plan_text n plan
 text_of (EndPart p state resets exec pc) = end_part_text p state resets exec pc

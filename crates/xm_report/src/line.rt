@@ -1,5 +1,6 @@
 //! What a line of the report says.
 
+use crate::place::Place;
 use xm_base::{PartId, State};
 use xm_conf::{Action, Event};
 
@@ -54,6 +55,13 @@ pub enum Line<'a> {
         n: u64,
         p: PartId,
         to: Move,
+    },
+    /// An upset struck partition `p` before tick `n`: the bit of the place flipped.
+    Struck {
+        n: u64,
+        p: PartId,
+        place: Place,
+        bit: u8,
     },
     /// The whole system was halted or reset in tick `n`.
     Whole {

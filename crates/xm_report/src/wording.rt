@@ -1,10 +1,11 @@
 //! What each kind of line looks like.
 
 ghost use Rattle.std.specs.Prelude.{◌≡◌, ◌≤◌, [], length};
-ghost use Rattle.xm_report.specs.Report.{IsShort, console_text, end_part_text, end_whole_text, halted_text, health_text, line_value, move_text, moved_text, plan_text, system_text, text_of, trace_text, whole_text};
+ghost use Rattle.xm_report.specs.Report.{IsShort, console_text, end_part_text, end_whole_text, halted_text, health_text, line_value, move_text, moved_text, plan_text, struck_text, system_text, text_of, trace_text, whole_text};
 
 use crate::line::{Line, Move};
 use crate::pen::Pen;
+use crate::place::{Place, place_text};
 use xm_base::{CONSOLE_BYTES, PartId, State};
 use xm_conf::{Action, Event};
 
@@ -96,6 +97,19 @@ fn moved_line(pen: &mut Pen, n: u64, p: PartId, to: Move)
     pen.text(b"\n");
 }
 
+#[tactic(auto, unfolding(crate::specs::Report::struck_text))]
+fn struck_line(pen: &mut Pen, n: u64, p: PartId, place: Place, bit: u8)
+    requires { pen.old ≡ [] }
+    ensures { pen.new ≡ struck_text n p place bit }
+{
+    pen.field(b"[", n);
+    pen.field(b"] P", u64::from(p));
+    pen.text(b" UPSET ");
+    pen.text(&place_text(place));
+    pen.field(b" bit ", u64::from(bit));
+    pen.text(b"\n");
+}
+
 #[tactic(auto, unfolding(crate::specs::Report::whole_text))]
 fn whole_line(pen: &mut Pen, n: u64, to: Move)
     requires { pen.old ≡ [] }
@@ -167,6 +181,7 @@ pub(crate) fn write_text(pen: &mut Pen, line: &Line<'_>)
         } => health_line(pen, n, p, event, word, action),
         Line::Trace { n, p, bits, load } => trace_line(pen, n, p, bits, load),
         Line::Moved { n, p, to } => moved_line(pen, n, p, to),
+        Line::Struck { n, p, place, bit } => struck_line(pen, n, p, place, bit),
         Line::Whole { n, to } => whole_line(pen, n, to),
         Line::PlanIs { n, plan } => plan_line(pen, n, plan),
         Line::EndPart {

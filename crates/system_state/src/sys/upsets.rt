@@ -9,7 +9,7 @@ ghost use Rattle.system_state.specs.State.{areas_in, memory_of, part_at, with_ma
 
 use crate::flipping::{byte_address, flip_own};
 use crate::sys::Sys;
-use upset_model::Place;
+use xm_report::Place;
 use xm_base::PartId;
 
 /// A bit of a place of a partition flips.

@@ -6,7 +6,7 @@ use Rattle.upset_files.specs.declared.checks.SpelledLine.{SpelledLine}
 use Rattle.upset_files.specs.declared.fault.UpsetCause.TheVariants.{TooMany}
 use Rattle.upset_files.specs.declared.fault.UpsetFault.{UpsetFault}
 use Rattle.upset_files.specs.declared.fault.UpsetFault.TheVariants as fault
-use Rattle.upset_model.specs.declared.place.UpsetLine.{UpsetLine}
+use Rattle.upset_model.specs.declared.upset_line.UpsetLine.{UpsetLine}
 
 -- the line with these fields
 abbrev pub fields_of : SpelledLine → UpsetLine

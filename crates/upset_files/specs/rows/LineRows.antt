@@ -6,9 +6,9 @@ use Rattle.upset_files.specs.Reading.{lines_read, upsets_read}
 use Rattle.upset_files.specs.declared.fault.UpsetCause.{UpsetCause}
 use Rattle.upset_files.specs.declared.fault.UpsetCause.TheVariants.{BadBit, BadEnd, BadPartition, BadPlace, BadTick, NoBit, NoPartition, NoPlace, TooMany, Unordered, Unreached}
 use Rattle.upset_files.specs.declared.fault.UpsetFault.TheVariants as fault
-use Rattle.upset_model.specs.declared.place.Place.{Place}
-use Rattle.upset_model.specs.declared.place.Place.TheVariants.{Conditions, MemoryByte, Pc, YRegister}
-use Rattle.upset_model.specs.declared.place.UpsetLine.{UpsetLine}
+use Rattle.xm_report.specs.declared.place.Place.{Place}
+use Rattle.xm_report.specs.declared.place.Place.TheVariants.{Conditions, MemoryByte, Pc, YRegister}
+use Rattle.upset_model.specs.declared.upset_line.UpsetLine.{UpsetLine}
 
 -- a partition with one page of memory
 abbrev pub page_part : ℕ → Bool → Part

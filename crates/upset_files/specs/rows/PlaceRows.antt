@@ -2,9 +2,9 @@
 use Rattle.std.specs.Prelude.{◌≡◌, List, ℕ, [], true, false, codes, Some, None}
 use Rattle.upset_files.specs.Fits.{is_bit_of}
 use Rattle.upset_files.specs.Reading.{place_spelled}
-use Rattle.upset_files.specs.Spelling.{place_text}
-use Rattle.upset_model.specs.declared.place.Place.{Place}
-use Rattle.upset_model.specs.declared.place.Place.TheVariants.{Conditions, ExecutionDeadline, Global, HardwareDeadline, Mask, MemoryByte, Npc, Pc, Pending, TrapBase, Windowed, YRegister}
+use Rattle.xm_report.specs.Places.{place_text}
+use Rattle.xm_report.specs.declared.place.Place.{Place}
+use Rattle.xm_report.specs.declared.place.Place.TheVariants.{Conditions, ExecutionDeadline, Global, HardwareDeadline, Mask, MemoryByte, Npc, Pc, Pending, TrapBase, Windowed, YRegister}
 
 -- a place is spelled so
 abbrev pub IsPlaceText : Place → List ℕ → Type 0

@@ -5,7 +5,7 @@ use Rattle.virt_clocks.specs.declared.timer.Timer.{Timer}
 use Rattle.machine_model.specs.Partition.{PartitionState, areas_of}
 use Rattle.machine_model.specs.View.{PartitionView}
 use Rattle.upset_model.specs.Places.{flip, is_place}
-use Rattle.upset_model.specs.declared.place.Place.TheVariants.{Conditions, ExecutionDeadline, Global, HardwareDeadline, Mask, MemoryByte, Npc, Pc, Pending, TrapBase, Windowed, YRegister}
+use Rattle.xm_report.specs.declared.place.Place.TheVariants.{Conditions, ExecutionDeadline, Global, HardwareDeadline, Mask, MemoryByte, Npc, Pc, Pending, TrapBase, Windowed, YRegister}
 
 -- a partition with these in its registers, its virtual traps and its timers
 abbrev pub having_globals : List ℕ → PartitionState → PartitionState

@@ -3,9 +3,9 @@ use Rattle.std.specs.Prelude.{◌≡◌, ℕ, true, false, List, [], ◌∷◌}
 use Rattle.machine_model.specs.Machine.{Machine, step}
 use Rattle.machine_model.specs.Partition.{PartitionState}
 use Rattle.upset_model.specs.Places.{flip, lines_for, schedule_of, upset_of}
-use Rattle.upset_model.specs.declared.place.Place.{Place}
-use Rattle.upset_model.specs.declared.place.Place.TheVariants.{Mask, Pc, Windowed}
-use Rattle.upset_model.specs.declared.place.UpsetLine.{UpsetLine}
+use Rattle.xm_report.specs.declared.place.Place.{Place}
+use Rattle.xm_report.specs.declared.place.Place.TheVariants.{Mask, Pc, Windowed}
+use Rattle.upset_model.specs.declared.upset_line.UpsetLine.{UpsetLine}
 use Rattle.upset_model.specs.Upsets.{Schedule, ready, upset_run}
 
 abbrev pub line : ℕ → ℕ → Place → ℕ → UpsetLine

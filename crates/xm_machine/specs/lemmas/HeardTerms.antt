@@ -1,7 +1,7 @@
 -- For proofs and private clauses: what the UARTs of a board get in ticks of the machine.
 use Rattle.std.specs.Prelude.{ℕ, if◌then◌else◌, List, []}
 use Rattle.std.specs.List.{flat_map}
-use Rattle.xm_report.specs.Report.{ConsoleLine, EndPart, EndWhole, HealthLine, MovedLine, PlanLine, ReportLine, SystemLine, TraceLine, WholeLine}
+use Rattle.xm_report.specs.Report.{ConsoleLine, EndPart, EndWhole, HealthLine, MovedLine, PlanLine, ReportLine, StruckLine, SystemLine, TraceLine, WholeLine}
 use Rattle.machine_model.specs.Lines.{has_console}
 use Rattle.machine_model.specs.Machine.{Machine}
 
@@ -16,6 +16,7 @@ line_to g uart (ConsoleLine n p bytes) = console_to g p bytes uart
 line_to g uart (HealthLine n p event word action) = []
 line_to g uart (TraceLine n p bits load) = []
 line_to g uart (MovedLine n p to) = []
+line_to g uart (StruckLine n p place bit) = []
 line_to g uart (WholeLine n to) = []
 line_to g uart (PlanLine n plan) = []
 line_to g uart (EndPart p state resets exec pc) = []

@@ -2,7 +2,7 @@ use Rattle.std.proofs.Common.{codes, refl, sym}
 use Rattle.hex.specs.Hex.{decode_pairs, encode_with}
 use Rattle.upset_files.proofs.PlaceLemmas.{place_is}
 use Rattle.upset_files.specs.Reading.{byte_place, global_place, named_place, number_spelled, place_spelled, windowed_place}
-use Rattle.upset_model.specs.declared.place.Place.TheVariants.{Global, Windowed}
+use Rattle.xm_report.specs.declared.place.Place.TheVariants.{Global, Windowed}
 use Rattle.upset_files.proofs.rows.places_at_edges.Goals as goal
 
 pub returns-clause-spelled : goal.returns-clause-spelled

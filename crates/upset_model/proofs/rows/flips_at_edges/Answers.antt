@@ -4,7 +4,7 @@ use Rattle.guest_bus.specs.Memory.{byte_at}
 use Rattle.guest_bus.specs.lemmas.MemoryLemmas.{get-insert_same}
 use Rattle.machine_model.specs.Partition.{PartitionState}
 use Rattle.upset_model.specs.Places.{flip, flipped}
-use Rattle.upset_model.specs.declared.place.Place.TheVariants.{MemoryByte}
+use Rattle.xm_report.specs.declared.place.Place.TheVariants.{MemoryByte}
 use Rattle.upset_model.proofs.rows.flips_at_edges.Goals as goal
 
 -- a byte after its flip

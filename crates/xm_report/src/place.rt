@@ -1,13 +1,41 @@
-//! The spelling of places.
+//! Where a bit of a partition may flip.
 
-ghost use Rattle.std.specs.Prelude.{◌≡◌, ◌<◌, ◌≤◌, List, ℕ, ◌++◌, decimal, length};
+ghost use Rattle.std.specs.Prelude.{◌≡◌, ◌≤◌, List, ℕ, ◌++◌, decimal, length};
 ghost use Rattle.std.specs.Int.{w32, to_be_bytes};
 ghost use Rattle.hex.specs.Hex.{encode_lower};
-ghost use Rattle.upset_files.specs.Spelling.{place_text as place_text_of};
+ghost use Rattle.xm_report.specs.Places.{place_text as place_text_of};
 
 use arrayvec::ArrayVec;
 use itoa::Buffer;
-use upset_model::Place;
+
+/// A place of a partition that has bits that may flip. Each has a spelling in a file of upsets, which stands beside it.
+#[derive(Clone, Copy, Debug, PartialEq, Eq)]
+pub enum Place {
+    /// A global register by its number in the core file: `g1` to `g7`.
+    Global(u8),
+    /// A register of the windows by its number in the core file: `w0` to `w127`.
+    Windowed(u8),
+    /// The program counter: `pc`.
+    Pc,
+    /// The next program counter: `npc`.
+    Npc,
+    /// The register Y: `y`.
+    YRegister,
+    /// The condition codes: `icc`.
+    Conditions,
+    /// The deadline of the timer on the hardware clock: `hw`.
+    HardwareDeadline,
+    /// The deadline of the timer on the execution clock: `exec`.
+    ExecutionDeadline,
+    /// The base of the table of traps: `tbr`.
+    TrapBase,
+    /// The masked interrupts: `mask`.
+    Mask,
+    /// The pending interrupts: `pending`.
+    Pending,
+    /// A byte of memory by its address: eight hexadecimal digits.
+    MemoryByte(u32),
+}
 
 /// The bytes of the longest spelling: an address.
 const PLACE_BYTES: usize = 8;
