@@ -1,13 +1,14 @@
 -- The fields of a line, each read back from where it begins.
-use Rattle.std.proofs.Common.{◌≡◌, ◌≢◌, ℕ, zero, suc, ◌+◌, ◌/◌, ◌%◌, ◌<◌, ◌==◌, Bool, true, false, if◌then◌else◌, List, [], ◌∷◌, ◌++◌, length, get_or, slice_index, codes, decimal, Option, Some, None, Ok, refl, sym, ap, ◌∙◌, arith}
+use Rattle.std.proofs.Common.{◌≡◌, ◌≢◌, ℕ, zero, suc, ◌+◌, ◌/◌, ◌%◌, ◌<◌, ◌==◌, Bool, true, false, if◌then◌else◌, List, [], ◌∷◌, ◌++◌, length, drop, get_or, slice_index, codes, decimal, Option, Some, None, Result, Ok, Err, refl, sym, ap, ◌∙◌, arith}
 use Rattle.std.specs.Int.{w32, from_be_bytes, to_be_bytes}
 use Rattle.std.specs.Str.{all_ascii_digits, bytes_eq}
 use Rattle.std.specs.Str.Parse.{digits_value}
 use Rattle.std.proofs.lemmas.Bool.{eq-eqb, eqb-true}
-use Rattle.std.proofs.lemmas.Fmt.{decimal_injective, digits_decimal}
+use Rattle.std.proofs.lemmas.Fmt.{decimal_injective, digits_decimal, digits_value-decimal}
 use Rattle.std.proofs.lemmas.Nat.{from_be_bytes-to_be_bytes_4}
 use Rattle.std.proofs.lemmas.Str.Parse.{IsNumeralModel, not_in_digits, numerals_by_value, tells_all_ascii_digits}
 use Rattle.hex.specs.Hex.{decode_of, encode_lower, encode_with, hex_digit_value, lower_digits}
+use Rattle.hex.specs.declared.error.FromHexError.{FromHexError}
 use Rattle.hex.proofs.HexLemmas.{IsDigits-lower_digits, decode_of-encode_lower, length-encode_with}
 use Rattle.xm_base.specs.Bytes.{AreBytes}
 use Rattle.xm_base.specs.State.{state_text}
@@ -18,9 +19,12 @@ use Rattle.xm_conf.specs.declared.health.Action.{Action}
 use Rattle.xm_conf.specs.declared.health.Action.TheVariants as action
 use Rattle.xm_conf.specs.declared.health.Event.{Event}
 use Rattle.xm_conf.specs.declared.health.Event.TheVariants as event
+use Rattle.xm_report.specs.Places.{IsSpelledPlace, place_text}
 use Rattle.xm_report.specs.Report.{move_text, halted_text}
 use Rattle.xm_report.specs.declared.line.Move.{Move}
 use Rattle.xm_report.specs.declared.line.Move.TheVariants.{Halt, Suspend, Resume, Cold, Warm}
+use Rattle.xm_report.specs.declared.place.Place.{Place}
+use Rattle.xm_report.specs.declared.place.Place.TheVariants.{Conditions, ExecutionDeadline, Global, HardwareDeadline, Mask, MemoryByte, Npc, Pc, Pending, TrapBase, Windowed, YRegister}
 use Rattle.report_model.specs.Texts.{IsCount, IsWord}
 
 -- Fields that end at a byte which they do not have.
@@ -98,29 +102,33 @@ hex_same one other bytes bytes_other same =
     let both : Ok one ≡ Ok other = sym (decode_of-encode_lower one bytes) ∙ ap decode_of same ∙ decode_of-encode_lower other bytes_other in
     cc
 
--- a text of bytes has no newline
-digit_is : (value : ℕ) → value < 16 → (slice_index lower_digits value == 10) ≡ false
-digit_is value small = at value small (hex_digit_value (slice_index lower_digits value)) (IsDigits-lower_digits value small) (slice_index lower_digits value) refl
+-- a byte that is no hexadecimal digit is none of the table's
+digit_is : (stop value : ℕ) → hex_digit_value stop ≡ None → value < 16 → (slice_index lower_digits value == stop) ≡ false
+digit_is stop value none small = at (hex_digit_value (slice_index lower_digits value)) (IsDigits-lower_digits value small) (slice_index lower_digits value) refl
   where
-    at : (value : ℕ) → value < 16 → (o : Option ℕ) → o ≡ Some value → (digit : ℕ) → hex_digit_value digit ≡ o → (digit == 10) ≡ false
-    at value small o is digit reads = newline (digit == 10) refl
+    at : (o : Option ℕ) → o ≡ Some value → (digit : ℕ) → hex_digit_value digit ≡ o → (digit == stop) ≡ false
+    at o is digit reads = stands (digit == stop) refl
       where
-        newline : (t : Bool) → (digit == 10) ≡ t → t ≡ false
-        newline false differs = refl
-        newline true same = (let ten : digit ≡ 10 = eqb-true digit 10 same in let none : None ≡ Some value = ap hex_digit_value (sym ten) ∙ reads ∙ is in absurd (cc))
+        stands : (t : Bool) → (digit == stop) ≡ t → t ≡ false
+        stands false differs = refl
+        stands true same =
+            let here : digit ≡ stop = eqb-true digit stop same in
+            let wrong : None ≡ Some value = sym none ∙ ap hex_digit_value (sym here) ∙ reads ∙ is in
+            absurd (cc)
 
-hex_lacks : (bytes : List ℕ) → AreBytes bytes → lacks 10 (encode_lower bytes) ≡ true
+-- nor does a text of bytes have it
+hex_lacks : (stop : ℕ) (bytes : List ℕ) → hex_digit_value stop ≡ None → AreBytes bytes → lacks stop (encode_lower bytes) ≡ true
 unfolding encode_with
-hex_lacks [] small = refl
-hex_lacks (byte ∷ bytes) small =
+hex_lacks stop [] none small = refl
+hex_lacks stop (byte ∷ bytes) none small =
     let fits : byte < 256 = small 0 in
-    let rest = hex_lacks bytes (λ k. small (suc k)) in
-    rw (digit_is (byte / 16) (omega (arith, fits)), digit_is (byte % 16) (omega arith)) rest
+    let rest = hex_lacks stop bytes none (λ k. small (suc k)) in
+    rw (digit_is stop (byte / 16) none (omega (arith, fits)), digit_is stop (byte % 16) none (omega arith)) rest
 
 -- bytes before a newline
 pub hex_cut : (one other after later : List ℕ) → AreBytes one → AreBytes other → encode_lower one ++ (10 ∷ after) ≡ encode_lower other ++ (10 ∷ later) → (one ≡ other) × (after ≡ later)
 hex_cut one other after later bytes bytes_other same =
-    let both = cut 10 (encode_lower one) (encode_lower other) after later (hex_lacks one bytes) (hex_lacks other bytes_other) same in
+    let both = cut 10 (encode_lower one) (encode_lower other) after later (hex_lacks 10 one refl bytes) (hex_lacks 10 other refl bytes_other) same in
     (hex_same one other bytes bytes_other both.0, both.1)
 
 -- fields of one length
@@ -151,6 +159,84 @@ word_cut one other after later small small_other same =
     let both = fixed_cut (encode_lower (to_be_bytes w32 one)) (encode_lower (to_be_bytes w32 other)) after later long same in
     let bytes = hex_same (to_be_bytes w32 one) (to_be_bytes w32 other) (word_bytes one) (word_bytes other) both.0 in
     (sym (from_be_bytes-to_be_bytes_4 one small) ∙ ap (from_be_bytes w32) bytes ∙ from_be_bytes-to_be_bytes_4 other small_other, both.1)
+
+-- Places.
+
+-- the address that bytes spell
+abbrev address_by : Result (List ℕ) FromHexError → ℕ
+address_by (Ok bytes) = from_be_bytes w32 bytes
+address_by (Err error) = 0
+
+-- the place of bytes with this first one, this length and this address
+abbrev place_by : ℕ → ℕ → ℕ → List ℕ → Place
+place_by first long address bytes =
+    if first == 103 then Global (digits_value 10 (drop 1 bytes))
+    else if first == 119 then Windowed (digits_value 10 (drop 1 bytes))
+    else if long == 8 then MemoryByte address
+    else if bytes_eq bytes (codes "pc") then Pc
+    else if bytes_eq bytes (codes "npc") then Npc
+    else if bytes_eq bytes (codes "y") then YRegister
+    else if bytes_eq bytes (codes "icc") then Conditions
+    else if bytes_eq bytes (codes "hw") then HardwareDeadline
+    else if bytes_eq bytes (codes "exec") then ExecutionDeadline
+    else if bytes_eq bytes (codes "tbr") then TrapBase
+    else if bytes_eq bytes (codes "mask") then Mask
+    else Pending
+
+-- the place that bytes name
+abbrev place_named : List ℕ → Place
+place_named bytes = place_by (get_or bytes 0 0) (length bytes) (address_by (decode_of bytes)) bytes
+
+by_address : (first long address : ℕ) (bytes : List ℕ) → (first == 103) ≡ false → (first == 119) ≡ false → long ≡ 8 → place_by first long address bytes ≡ MemoryByte address
+by_address first long address bytes no_global no_window eight = rw (no_global, no_window, eight) refl
+
+-- the first of hexadecimal digits is no other letter
+no_letter : (letter : ℕ) (bytes : List ℕ) → 0 < length bytes → hex_digit_value letter ≡ None → AreBytes bytes → (get_or (encode_lower bytes) 0 0 == letter) ≡ false
+unfolding encode_with
+no_letter letter [] some none are = absurd (omega (arith, some))
+no_letter letter (byte ∷ bytes) some none are = (let fits : byte < 256 = are 0 in digit_is letter (byte / 16) none (omega (arith, fits)))
+
+-- the digits of an address name the byte
+byte_named : (address : ℕ) → IsWord address → place_named (encode_lower (to_be_bytes w32 address)) ≡ MemoryByte address
+byte_named address small =
+    let bytes : List ℕ = to_be_bytes w32 address in
+    let text : List ℕ = encode_lower bytes in
+    let reads : address_by (decode_of text) ≡ address = ap address_by (decode_of-encode_lower bytes (word_bytes address)) ∙ from_be_bytes-to_be_bytes_4 address small in
+    by_address (get_or text 0 0) (length text) (address_by (decode_of text)) text (no_letter 103 bytes (omega arith) refl (word_bytes address)) (no_letter 119 bytes (omega arith) refl (word_bytes address)) (length-encode_with lower_digits bytes) ∙ ap MemoryByte reads
+
+place_found : (place : Place) → IsSpelledPlace place → place_named (place_text place) ≡ place
+place_found (Global n) range = ap Global (digits_value-decimal numerals n (omega (arith, range.1)))
+place_found (Windowed n) range = ap Windowed (digits_value-decimal numerals n (omega (arith, range)))
+place_found Pc range = refl
+place_found Npc range = refl
+place_found YRegister range = refl
+place_found Conditions range = refl
+place_found HardwareDeadline range = refl
+place_found ExecutionDeadline range = refl
+place_found TrapBase range = refl
+place_found Mask range = refl
+place_found Pending range = refl
+place_found (MemoryByte address) range = byte_named address range
+
+place_lacks : (place : Place) → IsSpelledPlace place → lacks 32 (place_text place) ≡ true
+place_lacks (Global n) range = decimal_lacks 32 n (omega arith) (omega (arith, range.1))
+place_lacks (Windowed n) range = decimal_lacks 32 n (omega arith) (omega (arith, range))
+place_lacks Pc range = refl
+place_lacks Npc range = refl
+place_lacks YRegister range = refl
+place_lacks Conditions range = refl
+place_lacks HardwareDeadline range = refl
+place_lacks ExecutionDeadline range = refl
+place_lacks TrapBase range = refl
+place_lacks Mask range = refl
+place_lacks Pending range = refl
+place_lacks (MemoryByte address) range = hex_lacks 32 (to_be_bytes w32 address) refl (word_bytes address)
+
+-- a place before a space
+pub place_cut : (one other : Place) (after later : List ℕ) → IsSpelledPlace one → IsSpelledPlace other → place_text one ++ (32 ∷ after) ≡ place_text other ++ (32 ∷ later) → (one ≡ other) × (after ≡ later)
+place_cut one other after later range range_other same =
+    let both = cut 32 (place_text one) (place_text other) after later (place_lacks one range) (place_lacks other range_other) same in
+    (sym (place_found one range) ∙ ap place_named both.0 ∙ place_found other range_other, both.1)
 
 -- Names.
 

@@ -9,12 +9,14 @@ use Rattle.xm_base.specs.declared.partition.State.{State}
 use Rattle.xm_conf.specs.Health.{action_row, event_row}
 use Rattle.xm_conf.specs.declared.health.Action.{Action}
 use Rattle.xm_conf.specs.declared.health.Event.{Event}
-use Rattle.xm_report.specs.Report.{ReportLine, SystemLine, ConsoleLine, HealthLine, TraceLine, MovedLine, WholeLine, PlanLine, EndPart, EndWhole, console_text, end_part_text, end_whole_text, escaped, health_text, move_text, moved_text, plan_text, halted_text, system_text, text_of, texts, trace_text, whole_text}
+use Rattle.xm_report.specs.Places.{IsSpelledPlace, place_text}
+use Rattle.xm_report.specs.Report.{ReportLine, SystemLine, ConsoleLine, HealthLine, TraceLine, MovedLine, StruckLine, WholeLine, PlanLine, EndPart, EndWhole, console_text, end_part_text, end_whole_text, escaped, health_text, move_text, moved_text, plan_text, halted_text, struck_text, system_text, text_of, texts, trace_text, whole_text}
 use Rattle.xm_report.specs.declared.line.Move.{Move}
 use Rattle.xm_report.specs.declared.line.Move.TheVariants.{Halt, Suspend, Resume, Cold, Warm}
+use Rattle.xm_report.specs.declared.place.Place.{Place}
 use Rattle.report_model.specs.Texts.{IsCount, IsInRange, IsWord, LinesAreDetermined, TextsDetermineLines}
 use Rattle.report_model.proofs.EscapeLemmas.{escaped_cut}
-use Rattle.report_model.proofs.FieldLemmas.{action_cut, event_cut, hex_cut, move_cut, number_cut, halted_cut, state_cut, tick_cut, word_cut}
+use Rattle.report_model.proofs.FieldLemmas.{action_cut, event_cut, hex_cut, move_cut, number_cut, place_cut, halted_cut, state_cut, tick_cut, word_cut}
 
 -- What a partition does in a tick.
 data Own : Type 0 where
@@ -22,6 +24,7 @@ data Own : Type 0 where
   Hm : (event : Event) (word : ℕ) (action : Action) → Own
   Tr : (bits : ℕ) (load : List ℕ) → Own
   Mv : (to : Move) → Own
+  Up : (place : Place) (bit : ℕ) → Own
 
 -- its numbers are in their ranges
 abbrev IsOwnInRange : Own → Type 0
@@ -29,6 +32,7 @@ IsOwnInRange (Con bytes) = AreBytes bytes
 IsOwnInRange (Hm event word action) = IsWord word
 IsOwnInRange (Tr bits load) = IsWord bits × AreBytes load
 IsOwnInRange (Mv to) = Unit {0}
+IsOwnInRange (Up place bit) = IsSpelledPlace place × IsCount bit
 
 -- its text, before more bytes
 abbrev own_text : Own → List ℕ → List ℕ
@@ -37,18 +41,20 @@ own_text (Hm event word action) more =
     codes "HM " ++ ((event_row event).text ++ (codes " " ++ (encode_lower (to_be_bytes w32 word) ++ (codes " " ++ ((action_row action).text ++ (codes "\n" ++ more))))))
 own_text (Tr bits load) more = codes "TRACE " ++ (encode_lower (to_be_bytes w32 bits) ++ (codes " " ++ (encode_lower load ++ (codes "\n" ++ more))))
 own_text (Mv to) more = move_text to ++ (codes "\n" ++ more)
+own_text (Up place bit) more = codes "UPSET " ++ (place_text place ++ (codes " bit " ++ (decimal bit ++ (codes "\n" ++ more))))
 
--- its kind, by the third byte of its text
-abbrev kind_by : ℕ → ℕ
-kind_by byte = if byte == 78 then 0 else if byte == 32 then 1 else if byte == 65 then 2 else 3
+-- its kind, by the second and the third byte of its text
+abbrev kind_by : ℕ → ℕ → ℕ
+kind_by second third = if second == 80 then 4 else if third == 78 then 0 else if third == 32 then 1 else if third == 65 then 2 else 3
 
 abbrev own_kind : Own → ℕ
 own_kind (Con bytes) = 0
 own_kind (Hm event word action) = 1
 own_kind (Tr bits load) = 2
 own_kind (Mv to) = 3
+own_kind (Up place bit) = 4
 
-kind_is : (own : Own) (more : List ℕ) → kind_by (get_or (own_text own more) 2 0) ≡ own_kind own
+kind_is : (own : Own) (more : List ℕ) → kind_by (get_or (own_text own more) 1 0) (get_or (own_text own more) 2 0) ≡ own_kind own
 kind_is (Con bytes) more = refl
 kind_is (Hm event word action) more = refl
 kind_is (Tr bits load) more = refl
@@ -57,9 +63,10 @@ kind_is (Mv Suspend) more = refl
 kind_is (Mv Resume) more = refl
 kind_is (Mv Cold) more = refl
 kind_is (Mv Warm) more = refl
+kind_is (Up place bit) more = refl
 
 kinds_same : (one other : Own) (after later : List ℕ) → own_text one after ≡ own_text other later → own_kind one ≡ own_kind other
-kinds_same one other after later same = sym (kind_is one after) ∙ ap (λ (text : List ℕ). kind_by (get_or text 2 0)) same ∙ kind_is other later
+kinds_same one other after later same = sym (kind_is one after) ∙ ap (λ (text : List ℕ). kind_by (get_or text 1 0) (get_or text 2 0)) same ∙ kind_is other later
 
 -- it is read back
 own_cut : (one other : Own) (after later : List ℕ) → IsOwnInRange one → IsOwnInRange other → own_text one after ≡ own_text other later → (one ≡ other) × (after ≡ later)
@@ -81,6 +88,10 @@ own_cut (Tr bits load) (Tr bits_of load_of) after later range range_other same =
 own_cut (Mv to) (Mv to_of) after later range range_other same =
     let both = move_cut to to_of after later same in
     (ap Mv both.0, both.1)
+own_cut (Up place bit) (Up place_of bit_of) after later range range_other same =
+    let places = place_cut place place_of _ _ range.0 range_other.0 (append_cancel_left (codes "UPSET ") _ _ same) in
+    let bits = number_cut 10 bit bit_of after later (omega arith) range.1 range_other.1 (append_cancel_left (codes "bit ") _ _ places.1) in
+    (ap (λ (x : Place). Up x bit) places.0 ∙ ap (Up place_of) bits.0, bits.1)
 own_cut (Con bytes) (Hm event_of word_of action_of) after later range range_other same = absurd (let kind = kinds_same (Con bytes) (Hm event_of word_of action_of) after later same in omega (arith, kind))
 own_cut (Con bytes) (Tr bits_of load_of) after later range range_other same = absurd (let kind = kinds_same (Con bytes) (Tr bits_of load_of) after later same in omega (arith, kind))
 own_cut (Con bytes) (Mv to_of) after later range range_other same = absurd (let kind = kinds_same (Con bytes) (Mv to_of) after later same in omega (arith, kind))
@@ -93,6 +104,14 @@ own_cut (Tr bits load) (Mv to_of) after later range range_other same = absurd (l
 own_cut (Mv to) (Con others) after later range range_other same = absurd (let kind = kinds_same (Mv to) (Con others) after later same in omega (arith, kind))
 own_cut (Mv to) (Hm event_of word_of action_of) after later range range_other same = absurd (let kind = kinds_same (Mv to) (Hm event_of word_of action_of) after later same in omega (arith, kind))
 own_cut (Mv to) (Tr bits_of load_of) after later range range_other same = absurd (let kind = kinds_same (Mv to) (Tr bits_of load_of) after later same in omega (arith, kind))
+own_cut (Up place bit) (Con others) after later range range_other same = absurd (let kind = kinds_same (Up place bit) (Con others) after later same in omega (arith, kind))
+own_cut (Up place bit) (Hm event_of word_of action_of) after later range range_other same = absurd (let kind = kinds_same (Up place bit) (Hm event_of word_of action_of) after later same in omega (arith, kind))
+own_cut (Up place bit) (Tr bits_of load_of) after later range range_other same = absurd (let kind = kinds_same (Up place bit) (Tr bits_of load_of) after later same in omega (arith, kind))
+own_cut (Up place bit) (Mv to_of) after later range range_other same = absurd (let kind = kinds_same (Up place bit) (Mv to_of) after later same in omega (arith, kind))
+own_cut (Con bytes) (Up place_of bit_of) after later range range_other same = absurd (let kind = kinds_same (Con bytes) (Up place_of bit_of) after later same in omega (arith, kind))
+own_cut (Hm event word action) (Up place_of bit_of) after later range range_other same = absurd (let kind = kinds_same (Hm event word action) (Up place_of bit_of) after later same in omega (arith, kind))
+own_cut (Tr bits load) (Up place_of bit_of) after later range range_other same = absurd (let kind = kinds_same (Tr bits load) (Up place_of bit_of) after later same in omega (arith, kind))
+own_cut (Mv to) (Up place_of bit_of) after later range range_other same = absurd (let kind = kinds_same (Mv to) (Up place_of bit_of) after later same in omega (arith, kind))
 
 -- What the whole system does in a tick.
 data Whole : Type 0 where
@@ -228,6 +247,7 @@ frame_of (ConsoleLine n p bytes) = OwnTick n p (Con bytes)
 frame_of (HealthLine n p event word action) = OwnTick n p (Hm event word action)
 frame_of (TraceLine n p bits load) = OwnTick n p (Tr bits load)
 frame_of (MovedLine n p to) = OwnTick n p (Mv to)
+frame_of (StruckLine n p place bit) = OwnTick n p (Up place bit)
 frame_of (WholeLine n to) = WholeTick n (WholeMoves to)
 frame_of (PlanLine n plan) = WholeTick n (Plans plan)
 frame_of (EndPart p state resets exec pc) = OwnEnd p state resets exec pc
@@ -239,6 +259,7 @@ line_of (OwnTick n p (Con bytes)) = ConsoleLine n p bytes
 line_of (OwnTick n p (Hm event word action)) = HealthLine n p event word action
 line_of (OwnTick n p (Tr bits load)) = TraceLine n p bits load
 line_of (OwnTick n p (Mv to)) = MovedLine n p to
+line_of (OwnTick n p (Up place bit)) = StruckLine n p place bit
 line_of (WholeTick n (WholeMoves to)) = WholeLine n to
 line_of (WholeTick n (Plans plan)) = PlanLine n plan
 line_of (OwnEnd p state resets exec pc) = EndPart p state resets exec pc
@@ -250,6 +271,7 @@ framed (ConsoleLine n p bytes) = refl
 framed (HealthLine n p event word action) = refl
 framed (TraceLine n p bits load) = refl
 framed (MovedLine n p to) = refl
+framed (StruckLine n p place bit) = refl
 framed (WholeLine n to) = refl
 framed (PlanLine n plan) = refl
 framed (EndPart p state resets exec pc) = refl
@@ -261,6 +283,7 @@ frame_in_range (ConsoleLine n p bytes) range = range
 frame_in_range (HealthLine n p event word action) range = range
 frame_in_range (TraceLine n p bits load) range = (range.0, range.1, (range.2, range.3))
 frame_in_range (MovedLine n p to) range = (range.0, range.1, tt)
+frame_in_range (StruckLine n p place bit) range = (range.0, range.1, (range.2, range.3))
 frame_in_range (WholeLine n to) range = (range, tt)
 frame_in_range (PlanLine n plan) range = range
 frame_in_range (EndPart p state resets exec pc) range = range
@@ -282,7 +305,7 @@ turned first (piece ∷ pieces) more = turned (first ++ piece) pieces more ∙ a
 
 -- the text of a line is that of its frame
 text_framed : (line : ReportLine) (more : List ℕ) → text_of line ++ more ≡ frame_text (frame_of line) more
-unfolding console_text end_part_text end_whole_text health_text moved_text plan_text system_text trace_text whole_text
+unfolding console_text end_part_text end_whole_text health_text moved_text plan_text struck_text system_text trace_text whole_text
 text_framed (SystemLine parts plans ticks) more = turned (codes "SYSTEM parts=") (decimal parts ∷ codes " plans=" ∷ decimal plans ∷ codes " ticks=" ∷ decimal ticks ∷ codes "\n" ∷ []) more
 text_framed (ConsoleLine n p bytes) more = turned (codes "[") (decimal n ∷ codes "] P" ∷ decimal p ∷ codes " CON " ∷ escaped bytes ∷ codes "\n" ∷ []) more
 text_framed (HealthLine n p event word action) more =
@@ -290,6 +313,8 @@ text_framed (HealthLine n p event word action) more =
 text_framed (TraceLine n p bits load) more =
     turned (codes "[") (decimal n ∷ codes "] P" ∷ decimal p ∷ codes " TRACE " ∷ encode_lower (to_be_bytes w32 bits) ∷ codes " " ∷ encode_lower load ∷ codes "\n" ∷ []) more
 text_framed (MovedLine n p to) more = turned (codes "[") (decimal n ∷ codes "] P" ∷ decimal p ∷ codes " " ∷ move_text to ∷ codes "\n" ∷ []) more
+text_framed (StruckLine n p place bit) more =
+    turned (codes "[") (decimal n ∷ codes "] P" ∷ decimal p ∷ codes " UPSET " ∷ place_text place ∷ codes " bit " ∷ decimal bit ∷ codes "\n" ∷ []) more
 text_framed (WholeLine n to) more = turned (codes "[") (decimal n ∷ codes "] XM " ∷ move_text to ∷ codes "\n" ∷ []) more
 text_framed (PlanLine n plan) more = turned (codes "[") (decimal n ∷ codes "] XM PLAN " ∷ decimal plan ∷ codes "\n" ∷ []) more
 text_framed (EndPart p state resets exec pc) more =
@@ -311,6 +336,7 @@ line_some (ConsoleLine n p bytes) more none = cc
 line_some (HealthLine n p event word action) more none = cc
 line_some (TraceLine n p bits load) more none = cc
 line_some (MovedLine n p to) more none = cc
+line_some (StruckLine n p place bit) more none = cc
 line_some (WholeLine n to) more none = cc
 line_some (PlanLine n plan) more none = cc
 line_some (EndPart p state resets exec pc) more none = cc

@@ -1,7 +1,7 @@
 -- Cues under which a partition prints nothing, and so says nothing.
 use Rattle.std.proofs.Common.{◌≡◌, ℕ, Bool, true, false, if◌then◌else◌, List, [], ◌∷◌, ◌++◌, map, Some, None, Err, refl, ap, ◌∙◌}
 use Rattle.std.specs.List.{flat_map}
-use Rattle.xm_report.specs.Report.{ConsoleLine, EndPart, EndWhole, HealthLine, MovedLine, PlanLine, ReportLine, SystemLine, TraceLine, WholeLine, console_text, end_part_text, end_whole_text, health_text, moved_text, plan_text, system_text, text_of, texts, trace_text, whole_text}
+use Rattle.xm_report.specs.Report.{ConsoleLine, EndPart, EndWhole, HealthLine, MovedLine, PlanLine, ReportLine, StruckLine, SystemLine, TraceLine, WholeLine, console_text, end_part_text, end_whole_text, health_text, moved_text, plan_text, struck_text, system_text, text_of, texts, trace_text, whole_text}
 use Rattle.machine_model.specs.Alone.{Alone, alone_lines, alone_lines_of, alone_local, alone_local_in, alone_said, alone_step, alone_step_lines, alone_step_said}
 use Rattle.machine_model.specs.Cue.{Away, Cue, CueSlot, Mine}
 use Rattle.machine_model.specs.Lines.{local_lines, local_said}
@@ -15,12 +15,13 @@ use Rattle.xm_alone.specs.Replay.{AnswersFit}
 
 -- each line has a text
 has_text : (line : ReportLine) → text_of line ≡ [] → ⊥
-unfolding system_text console_text health_text trace_text whole_text plan_text moved_text end_part_text end_whole_text
+unfolding system_text console_text health_text trace_text whole_text plan_text moved_text struck_text end_part_text end_whole_text
 has_text (SystemLine parts plans ticks) none = cc
 has_text (ConsoleLine n p bytes) none = cc
 has_text (HealthLine n p event word action) none = cc
 has_text (TraceLine n p bits load) none = cc
 has_text (MovedLine n p to) none = cc
+has_text (StruckLine n p place bit) none = cc
 has_text (WholeLine n to) none = cc
 has_text (PlanLine n plan) none = cc
 has_text (EndPart p state resets exec pc) none = cc

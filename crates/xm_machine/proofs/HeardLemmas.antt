@@ -15,7 +15,7 @@ use Rattle.xm_base.specs.declared.partition.Order.TheVariants as order
 use Rattle.xm_conf.specs.Configuration.{Conf, Part}
 use Rattle.xm_conf.specs.Description.{described}
 use Rattle.xm_conf.specs.Fits.{Fits}
-use Rattle.xm_report.specs.Report.{ConsoleLine, EndPart, EndWhole, HealthLine, MovedLine, PlanLine, ReportLine, SystemLine, TraceLine, WholeLine}
+use Rattle.xm_report.specs.Report.{ConsoleLine, EndPart, EndWhole, HealthLine, MovedLine, PlanLine, ReportLine, StruckLine, SystemLine, TraceLine, WholeLine}
 use Rattle.system_state.specs.State.{SysState}
 use Rattle.replay_model.specs.Passes.{part_in}
 use Rattle.machine_model.specs.lemmas.TickLemmas.{step_halted}
@@ -257,6 +257,7 @@ line_same g m uart (ConsoleLine n p bytes) same = ap (λ (system : System). if i
 line_same g m uart (HealthLine n p event word action) same = refl
 line_same g m uart (TraceLine n p bits load) same = refl
 line_same g m uart (MovedLine n p to) same = refl
+line_same g m uart (StruckLine n p place bit) same = refl
 line_same g m uart (WholeLine n to) same = refl
 line_same g m uart (PlanLine n plan) same = refl
 line_same g m uart (EndPart p state resets exec pc) same = refl
@@ -368,6 +369,7 @@ others_silent g (line ∷ rest) uart all =
     other_silent (HealthLine n p event word action) is = refl
     other_silent (TraceLine n p bits load) is = refl
     other_silent (MovedLine n p to) is = refl
+    other_silent (StruckLine n p place bit) is = refl
     other_silent (WholeLine n to) is = refl
     other_silent (PlanLine n plan) is = refl
     other_silent (EndPart p state resets exec pc) is = refl

@@ -4,7 +4,7 @@ use Rattle.std.specs.Prelude.{All, if◌then◌else◌, Result, Ok, Err}
 use Rattle.std.specs.List.{flat_map}
 use Rattle.std.proofs.lemmas.Grind.{flat_map-append}
 use Rattle.std.proofs.lemmas.List.{append-nil}
-use Rattle.xm_report.specs.Report.{ConsoleLine, EndPart, EndWhole, HealthLine, MovedLine, PlanLine, ReportLine, SystemLine, TraceLine, WholeLine}
+use Rattle.xm_report.specs.Report.{ConsoleLine, EndPart, EndWhole, HealthLine, MovedLine, PlanLine, ReportLine, StruckLine, SystemLine, TraceLine, WholeLine}
 use Rattle.xm_report.specs.declared.output.WriteFault.{WriteFault}
 use Rattle.cue_scripts.specs.Entries.{bare_cue}
 use Rattle.guest_bus.specs.Memory.{Memory}
@@ -40,6 +40,7 @@ said_by (ConsoleLine n p bytes) = bytes
 said_by (HealthLine n p event word action) = []
 said_by (TraceLine n p bits load) = []
 said_by (MovedLine n p to) = []
+said_by (StruckLine n p place bit) = []
 said_by (WholeLine n to) = []
 said_by (PlanLine n plan) = []
 said_by (EndPart p state resets exec pc) = []
@@ -68,6 +69,7 @@ none_said (line ∷ rest) all =
     other (HealthLine n p event word action) is = refl
     other (TraceLine n p bits load) is = refl
     other (MovedLine n p to) is = refl
+    other (StruckLine n p place bit) is = refl
     other (WholeLine n to) is = refl
     other (PlanLine n plan) is = refl
     other (EndPart p state resets exec pc) is = refl

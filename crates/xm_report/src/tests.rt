@@ -2,6 +2,7 @@
 
 use crate::line::{Line, Move};
 use crate::output::{WriteFault, put_line};
+use crate::place::Place;
 use std::test::Fail;
 use xm_base::State;
 use xm_conf::{Action, Event};
@@ -270,6 +271,56 @@ fn each_other_line_has_its_text(rt: HostRuntime) -> Result<(), Fail> {
     ] {
         let mut out = MemSink::new(rt.alloc(), Vec::new(rt.alloc()), 2);
         put_line(&mut out, &line)?;
+        assert_eq!(rt; out.got(), text.as_bytes(), "at {text}");
+    }
+    Ok(())
+}
+
+#[test]
+fn upset_lines_have_the_place_and_the_bit(rt: HostRuntime) -> Result<(), Fail> {
+    for (n, p, place, bit, text) in [
+        (0, 0, Place::Global(1), 0, "[0] P0 UPSET g1 bit 0\n"),
+        (3, 1, Place::Global(7), 31, "[3] P1 UPSET g7 bit 31\n"),
+        (3, 1, Place::Windowed(0), 31, "[3] P1 UPSET w0 bit 31\n"),
+        (3, 1, Place::Windowed(127), 9, "[3] P1 UPSET w127 bit 9\n"),
+        (3, 1, Place::Pc, 2, "[3] P1 UPSET pc bit 2\n"),
+        (3, 1, Place::Npc, 2, "[3] P1 UPSET npc bit 2\n"),
+        (3, 1, Place::YRegister, 10, "[3] P1 UPSET y bit 10\n"),
+        (3, 1, Place::Conditions, 3, "[3] P1 UPSET icc bit 3\n"),
+        (
+            3,
+            1,
+            Place::HardwareDeadline,
+            62,
+            "[3] P1 UPSET hw bit 62\n",
+        ),
+        (
+            3,
+            1,
+            Place::ExecutionDeadline,
+            0,
+            "[3] P1 UPSET exec bit 0\n",
+        ),
+        (3, 1, Place::TrapBase, 12, "[3] P1 UPSET tbr bit 12\n"),
+        (3, 1, Place::Mask, 16, "[3] P1 UPSET mask bit 16\n"),
+        (3, 1, Place::Pending, 17, "[3] P1 UPSET pending bit 17\n"),
+        (
+            10,
+            1,
+            Place::MemoryByte(0x4010_0010),
+            3,
+            "[10] P1 UPSET 40100010 bit 3\n",
+        ),
+        (
+            18_446_744_073_709_551_615,
+            255,
+            Place::MemoryByte(0x0000_00af),
+            7,
+            "[18446744073709551615] P255 UPSET 000000af bit 7\n",
+        ),
+    ] {
+        let mut out = MemSink::new(rt.alloc(), Vec::new(rt.alloc()), 5);
+        put_line(&mut out, &Line::Struck { n, p, place, bit })?;
         assert_eq!(rt; out.got(), text.as_bytes(), "at {text}");
     }
     Ok(())
