@@ -1,3 +1,4 @@
 pub mod BitLemmas
 pub mod FactLemmas
+pub mod ReportLemmas
 pub mod StruckLemmas

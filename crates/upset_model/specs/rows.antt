@@ -1,2 +1,3 @@
 pub mod PlaceRows
+pub mod ReportRows
 pub mod StrikeRows

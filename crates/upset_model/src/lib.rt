@@ -5,5 +5,5 @@
 mod rows;
 mod upset_line;
 
-pub use rows::{flips_at_edges, strikes_before_its_tick};
+pub use rows::{flips_at_edges, reports_what_strikes, strikes_before_its_tick};
 pub use upset_line::UpsetLine;

@@ -1,6 +1,7 @@
-//! Rows worked by hand: bits that flip, and the tick before which they do.
+//! Rows worked by hand: bits that flip, the tick before which they do, and what is reported of them.
 
 ghost use Rattle.upset_model.specs.rows.PlaceRows.{EdgeRows, GlobalRows, MemoryRows, RegisterRows, TimerRows, TrapRows, WindowRows};
+ghost use Rattle.upset_model.specs.rows.ReportRows.{ReportRows};
 ghost use Rattle.upset_model.specs.rows.StrikeRows.{ReadyRows, RunRows, ScheduleRows};
 
 /// The first and the last bit of each place.
@@ -29,4 +30,11 @@ pub fn strikes_before_its_tick()
     ensures runs { RunRows }
     // Of three partitions the one of a line is struck, and no other; a machine that has halted is not struck.
     ensures ready { ReadyRows }
+{}
+
+/// A run reports each upset that strikes.
+pub fn reports_what_strikes()
+    // The line of an upset stands before the lines of its tick, and after those of the ticks before. An upset of a
+    // machine that has halted has no line.
+    ensures reports { ReportRows }
 {}
