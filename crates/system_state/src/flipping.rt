@@ -6,8 +6,8 @@ ghost use Rattle.system_state.specs.lemmas.FlipTerms.{IsOwnBit, byte_address, fl
 
 use crate::own_state::PartState;
 use sparc_step::Processor;
-use xm_report::Place;
 use virt_clocks::Clock;
+use xm_report::Place;
 
 /// The address of a byte of memory, or `None` of another place.
 pub(crate) fn byte_address(place: Place) -> Option<u32>

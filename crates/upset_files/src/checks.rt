@@ -10,8 +10,8 @@ ghost use Rattle.upset_files.specs.lemmas.LineTerms.{fields_of};
 
 use crate::fault::UpsetCause;
 use upset_model::UpsetLine;
-use xm_report::Place;
 use xm_conf::{Area, Conf};
+use xm_report::Place;
 
 /// The fields of a line as they are read.
 #[derive(Clone, Copy, Debug)]

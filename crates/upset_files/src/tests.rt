@@ -5,9 +5,9 @@ use std::alloc::{AllocError, Global};
 use std::process::Abort;
 use std::test::Fail;
 use upset_model::UpsetLine;
-use xm_report::Place;
 use xm_base::PartId;
 use xm_conf::{Action, Area, Conf, HmTable, Name, Part, Plan, RawConf, Region, Slot};
+use xm_report::Place;
 
 /// A partition with one page of memory.
 fn part(alloc: Global, name: Name, start: u32) -> Result<Part, AllocError> {

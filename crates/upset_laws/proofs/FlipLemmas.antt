@@ -1,5 +1,5 @@
 -- Flips of bits at places.
-use Rattle.std.proofs.Common.{◌≡◌, ℕ, ◌<◌, ◌≤◌, ◌+◌, ◌%◌, ◌^◌, Bool, true, false, List, [], ◌∷◌, length, Option, None, Some, refl, sym, ap, ◌∙◌, arith, subst}
+use Rattle.std.proofs.Common.{◌≡◌, ℕ, ◌<◌, ◌≤◌, ◌+◌, ◌%◌, ◌^◌, Bool, true, false, List, [], ◌∷◌, length, map, Option, None, Some, refl, sym, ap, ◌∙◌, arith, subst}
 use Rattle.std.specs.Prelude.{◌==◌, if◌then◌else◌, bit_xor, slice_index, unwrap_or}
 use Rattle.std.specs.List.{AllByRecursion}
 use Rattle.std.specs.Option.{ForSome}
@@ -22,7 +22,7 @@ use Rattle.machine_model.specs.View.{PartitionView}
 use Rattle.range_model.specs.Numbers.{AreBelow, IsByteMemory}
 use Rattle.range_model.specs.Registers.{AreWordRegisters}
 use Rattle.upset_laws.specs.FlipLaws.{AreSameBut, FlipsItsPlace, FlipsKeepFacts, FlipsKeepRanges, FlipsKeepRegisters, FlipsKeepTimers, FlipsKeepTraps, FlipsNothingElse, FlipsStayIn, HasItsInterval, StrikesByOwnLines, TwoStruckRuns, place_bits, place_value}
-use Rattle.upset_model.specs.Places.{deadline_of, flip, flipped, flipped_at, flipped_timer, interval_of, is_place, lines_for, schedule_of, upset_of}
+use Rattle.upset_model.specs.Places.{deadline_of, flip, flipped, flipped_at, flipped_timer, due, interval_of, is_place, lines_for, schedule_of, upset_of}
 use Rattle.xm_report.specs.declared.place.Place.{Place}
 use Rattle.xm_report.specs.declared.place.Place.TheVariants.{Conditions, ExecutionDeadline, Global, HardwareDeadline, Mask, MemoryByte, Npc, Pc, Pending, TrapBase, Windowed, YRegister}
 use Rattle.upset_laws.specs.UpsetLaws.{TwoUpsetRuns}
@@ -35,7 +35,7 @@ strikes_by_own_lines p [] k = refl
 strikes_by_own_lines p (line ∷ lines) k = at (line.part == p) refl (line.tick == k) refl (strikes_by_own_lines p lines k)
   where
     at : (b : Bool) → (line.part == p) ≡ b → (c : Bool) → (line.tick == k) ≡ c → own_strikes p (schedule_of lines) k ≡ own_strikes p (schedule_of (lines_for p lines)) k
-        → strikes_on p (if c then upset_of line ∷ schedule_of lines k else schedule_of lines k)
+        → strikes_on p (map upset_of (if c then line ∷ due lines k else due lines k))
         ≡ strikes_on p (schedule_of (if b then line ∷ lines_for p lines else lines_for p lines) k)
     at true its true now rest = rw (now, its) (ap (λ strikes. flip line.place line.bit ∷ strikes) rest)
     at true its false other rest = rw other rest

@@ -1,3 +1,4 @@
 pub mod UpsetLemmas
 pub mod FlipLemmas
 pub mod GroupLemmas
+pub mod ReportLemmas

@@ -21,11 +21,11 @@ use Rattle.upset_laws.specs.UpsetLaws.{AllUpsetTicks, AreEqualUpset, HaltedIsNot
 use Rattle.upset_model.specs.Upsets.{Schedule, Strike, Upset, alone_struck, alone_upset_from, alone_upset_lines, alone_upset_said, later, no_upsets, own_strikes, ready, ready_unless, strikes_on, struck, struck_if, upset, upset_lines, upset_run, upset_said, upset_script, upsets}
 
 -- lines of a partition
-own_append : (p : ℕ) (xs ys : List ReportLine) → own p (xs ++ ys) ≡ own p xs ++ own p ys
+pub own_append : (p : ℕ) (xs ys : List ReportLine) → own p (xs ++ ys) ≡ own p xs ++ own p ys
 unfolding own
 own_append p xs ys = filter_append (λ line. is_number (tag_of line) p) xs ys
 
-own_nil : (p : ℕ) → own p [] ≡ []
+pub own_nil : (p : ℕ) → own p [] ≡ []
 unfolding own
 own_nil p = refl
 
@@ -244,7 +244,7 @@ further s g p ps next count runs tick same_view same_part rest =
           ∙ ap (alone_upset_said (view_of g.system p) (own_strikes p s) (part g p ps)) (sym (more_upset_script count s g p runs));
     }
 
-step_ready_view : KeepsNumbers → (us : List Upset) (g : Machine) (p : ℕ) → view_of (step (ready us g)).system p ≡ view_of g.system p
+pub step_ready_view : KeepsNumbers → (us : List Upset) (g : Machine) (p : ℕ) → view_of (step (ready us g)).system p ≡ view_of g.system p
 step_ready_view numbers us g p = ap (λ system. view_of system p) ((numbers (ready us g)).system ∙ ready_system us g)
 
 pub all_upset_ticks : OneUpsetTick → KeepsNumbers → AllUpsetTicks
@@ -263,7 +263,7 @@ all_upset_ticks one_tick numbers (suc count) s g p ps there = at g.halted refl (
         (same_Some _ _ (sym (part_there (step (ready (s 0) g)) p a.state next_there) ∙ tick.state)) (rest a.state next_there)
 
 -- scripts are no longer than the ticks, and those of fewer ticks are their beginnings
-script_short : (count : ℕ) (s : Schedule) (g : Machine) (p : ℕ) → length (upset_script s g p count) ≤ count
+pub script_short : (count : ℕ) (s : Schedule) (g : Machine) (p : ℕ) → length (upset_script s g p count) ≤ count
 script_short zero s g p = omega arith
 script_short (suc count) s g p = by g.halted (script_short count (later s) (step (ready (s 0) g)) p)
   where
@@ -272,12 +272,12 @@ script_short (suc count) s g p = by g.halted (script_short count (later s) (step
     by true rest = omega arith
     by false rest = omega (arith, rest)
 
-first_cues : ℕ → List Cue → List Cue
+pub first_cues : ℕ → List Cue → List Cue
 first_cues zero cues = []
 first_cues (suc count) [] = []
 first_cues (suc count) (one ∷ cues) = one ∷ first_cues count cues
 
-script_begins : (fewer count : ℕ) (s : Schedule) (g : Machine) (p : ℕ) → fewer ≤ count → upset_script s g p fewer ≡ first_cues fewer (upset_script s g p count)
+pub script_begins : (fewer count : ℕ) (s : Schedule) (g : Machine) (p : ℕ) → fewer ≤ count → upset_script s g p fewer ≡ first_cues fewer (upset_script s g p count)
 unfolding first_cues
 script_begins zero count s g p below = refl
 script_begins (suc fewer) zero s g p below = absurd (omega (arith, below))
@@ -317,11 +317,11 @@ same_said (now ∷ cues) (suc count) one other view a short same =
     (same_said cues count (later one) (later other) view (alone_step view (alone_struck (other 0) a) now) (omega (arith, short)) (λ k below. same (suc k) (omega (arith, below))))
 
 -- core files of equal parts
-upset_run_system : KeepsNumbers → (count : ℕ) (s : Schedule) (g : Machine) → (upset_run s g count).system ≡ g.system
+pub upset_run_system : KeepsNumbers → (count : ℕ) (s : Schedule) (g : Machine) → (upset_run s g count).system ≡ g.system
 upset_run_system numbers zero s g = refl
 upset_run_system numbers (suc count) s g = upset_run_system numbers count (later s) (step (ready (s 0) g)) ∙ (numbers (ready (s 0) g)).system ∙ ready_system (s 0) g
 
-core_file_there : (g : Machine) (p : ℕ) (a : Alone) → slice_get g.parts p ≡ Some a.state → core_file_of g p ≡ Some (core_file (view_of g.system p) a.state)
+pub core_file_there : (g : Machine) (p : ℕ) (a : Alone) → slice_get g.parts p ≡ Some a.state → core_file_of g p ≡ Some (core_file (view_of g.system p) a.state)
 unfolding core_file_of
 core_file_there g p a there = ap (on (core_file (view_of g.system p))) there
 
@@ -383,7 +383,7 @@ two_upset_runs all numbers s one t other p count fewer below alike =
     (all fewer s one p alike.state alike.there) (all fewer t other p alike.state there)
 
 -- a run without upsets
-ready_none : (g : Machine) → ready [] g ≡ g
+pub ready_none : (g : Machine) → ready [] g ≡ g
 ready_none g = by g.halted refl
   where
     by : (b : Bool) → g.halted ≡ b → ready [] g ≡ g

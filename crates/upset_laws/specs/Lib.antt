@@ -1,3 +1,4 @@
 pub mod UpsetLaws
 pub mod FlipLaws
 pub mod GroupLaws
+pub mod ReportLaws

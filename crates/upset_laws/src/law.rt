@@ -3,9 +3,10 @@
 ghost use Rattle.machine_laws.specs.FromEqual.{TwoRunsFrom};
 ghost use Rattle.upset_laws.specs.FlipLaws.{FlipsItsPlace, FlipsKeepFacts, FlipsKeepRanges, FlipsKeepRegisters, FlipsKeepTimers, FlipsKeepTraps, FlipsNothingElse, FlipsStayIn, StrikesByOwnLines, TwoStruckRuns};
 ghost use Rattle.upset_laws.specs.GroupLaws.{ClosedUpsetRunsAlike, UnsteeredUpsetRunsAlike};
+ghost use Rattle.upset_laws.specs.ReportLaws.{OwnReports, PlainConsoles, PlainReports, SameUpsetCoreFile, SameUpsetPart, TicksReportAlone, TwoReports};
 ghost use Rattle.upset_laws.specs.UpsetLaws.{AllUpsetTicks, HaltedIsNotStruck, OneUpsetTick, RunsPlain, TwoUpsetRuns, UpsetsAreContained};
 
-use machine_model::{keeps_numbers, one_tick};
+use machine_model::{boots_alone, keeps_numbers, one_tick};
 use xm_flows::go_together;
 
 /// An upset leaves all but the partition that it strikes; and a run with upsets is, for each partition, a run of that partition
@@ -87,4 +88,33 @@ pub fn closed_upset_runs()
     go_together();
     keeps_numbers();
     two_upset_runs();
+}
+
+/// The report of a run with upsets has, for each partition, the lines of that partition alone, with a line for each upset of its
+/// own; and with no upsets it is the report of the run without any.
+pub fn reports_upsets()
+    // Of what a run of any number of ticks reports, from any machine and with any lines of upsets before each of them, each
+    // partition's own lines are those of that partition alone under its script, with a line for each upset of its own before
+    // the lines of its tick.
+    ensures own { TicksReportAlone }
+    // So it is with the report of a run of a system with the upsets of a file: each partition's own lines are those of that
+    // partition alone, from its boot on, with its own upsets, and the line of its end.
+    ensures run { OwnReports }
+    // Each partition's part of the machine after the run is that of the partition alone with its own upsets,
+    ensures part { SameUpsetPart }
+    // and so is its core file.
+    ensures core { SameUpsetCoreFile }
+    // A run with a file of no upsets has the report of the run without any; the machine after it and what each partition
+    // receives are the same.
+    ensures plain { PlainReports }
+    // Where there are no upsets, each UART gets what it gets in the machine's run.
+    ensures console { PlainConsoles }
+    // Take two runs with any lines of upsets, from any two machines, in which a partition is the same at first, has the same
+    // things of its own, the same lines of its own and receives the same. After every tick it has printed the same lines in
+    // both, those of its upsets among them, whatever strikes the others.
+    ensures alike { TwoReports }
+{
+    boots_alone();
+    contains_upsets();
+    keeps_numbers();
 }

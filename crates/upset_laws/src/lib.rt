@@ -5,4 +5,4 @@
 
 mod law;
 
-pub use law::{closed_upset_runs, contains_upsets, flips_bits, two_upset_runs};
+pub use law::{closed_upset_runs, contains_upsets, flips_bits, reports_upsets, two_upset_runs};

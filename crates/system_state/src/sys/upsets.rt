@@ -9,8 +9,8 @@ ghost use Rattle.system_state.specs.State.{areas_in, memory_of, part_at, with_ma
 
 use crate::flipping::{byte_address, flip_own};
 use crate::sys::Sys;
-use xm_report::Place;
 use xm_base::PartId;
+use xm_report::Place;
 
 /// A bit of a place of a partition flips.
 pub fn flip(sys: &mut Sys, p: PartId, place: Place, bit: u8)
