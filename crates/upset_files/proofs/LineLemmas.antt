@@ -6,9 +6,9 @@ use Rattle.file_headers.specs.lemmas.StepLemmas.{ok_is, stepped}
 use Rattle.upset_files.proofs.NumberLemmas.{number_text, text_number}
 use Rattle.upset_files.proofs.PlaceLemmas.{place_again, place_is, place_word}
 use Rattle.upset_files.proofs.WordLemmas.{after_is, decimal_word, is_word, word_after, word_is}
-use Rattle.upset_files.specs.Laws.{IsSpelledLine, IsSpelledPlace}
+use Rattle.upset_files.specs.Laws.{IsSpelledLine}
 use Rattle.upset_files.specs.Reading.{after_byte, from_blank, is_of_word, line_at, meant, field_number, place_spelled, spaced_read, word_before_blank, word_read}
-use Rattle.xm_report.specs.Places.{place_text}
+use Rattle.xm_report.specs.Places.{IsSpelledPlace, place_text}
 use Rattle.upset_files.specs.Spelling.{upset_text}
 use Rattle.upset_files.specs.declared.fault.UpsetCause.{UpsetCause}
 use Rattle.upset_files.specs.declared.fault.UpsetCause.TheVariants.{BadBit, BadEnd, BadPartition, BadPlace, BadTick}

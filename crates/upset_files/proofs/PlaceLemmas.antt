@@ -12,9 +12,9 @@ use Rattle.hex.specs.declared.error.FromHexError.{FromHexError}
 use Rattle.hex.proofs.HexLemmas.{decode_of-ok, decode_sized-encode_lower, decode_sized-ok, decode_sized-twice, length-encode_with}
 use Rattle.upset_files.proofs.NumberLemmas.{number_text, text_number}
 use Rattle.upset_files.proofs.WordLemmas.{decimal_word, hex_word, is_word, table_passes}
-use Rattle.upset_files.specs.Laws.{IsSpelledPlace, PlacesAreSpelled}
+use Rattle.upset_files.specs.Laws.{PlacesAreSpelled}
 use Rattle.upset_files.specs.Reading.{byte_by, byte_place, global_place, if_spelled, is_of_word, named_place, named_places, not_below, number_spelled, register_place, or_place, place_spelled, register_number, windowed_place}
-use Rattle.xm_report.specs.Places.{place_text}
+use Rattle.xm_report.specs.Places.{IsSpelledPlace, place_text}
 use Rattle.xm_report.specs.declared.place.Place.{Place}
 use Rattle.xm_report.specs.declared.place.Place.TheVariants.{Conditions, ExecutionDeadline, Global, HardwareDeadline, Mask, MemoryByte, Npc, Pc, Pending, TrapBase, Windowed, YRegister}
 

@@ -8,11 +8,12 @@ use Rattle.xm_conf.specs.Configuration.{Conf}
 use Rattle.xm_conf.specs.declared.part.Area.{Area}
 use Rattle.upset_files.proofs.LineLemmas.{line_again, line_is}
 use Rattle.upset_files.specs.Fits.{AllFit, FitsRun, HasWordAddress, is_bit_of, is_place_of, areas_of_part}
-use Rattle.upset_files.specs.Laws.{IsSpelledLine, IsSpelledPlace, ReadUpsetsAreSpelled, UpsetsAreRead, UpsetsHaveOneSpelling}
+use Rattle.upset_files.specs.Laws.{IsSpelledLine, ReadUpsetsAreSpelled, UpsetsAreRead, UpsetsHaveOneSpelling}
 use Rattle.upset_files.specs.Reading.{fitted, fitted_line, in_line, line_at, lines_read, upsets_read}
 use Rattle.upset_files.specs.Spelling.{upset_text, upsets_text}
 use Rattle.upset_files.specs.declared.fault.UpsetCause.{UpsetCause}
 use Rattle.upset_files.specs.declared.fault.UpsetCause.TheVariants.{NoBit, NoPartition, NoPlace, Unordered, Unreached}
+use Rattle.xm_report.specs.Places.{IsSpelledPlace}
 use Rattle.xm_report.specs.declared.place.Place.{Place}
 use Rattle.xm_report.specs.declared.place.Place.TheVariants.{Conditions, ExecutionDeadline, Global, HardwareDeadline, Mask, MemoryByte, Npc, Pc, Pending, TrapBase, Windowed, YRegister}
 use Rattle.upset_model.specs.declared.upset_line.UpsetLine.{UpsetLine}

@@ -6,8 +6,7 @@ ghost use Rattle.upset_files.specs.Reading as reading;
 ghost use Rattle.xm_report.specs.Places.{place_text};
 
 use crate::numbers::number;
-use crate::spelling::place_text;
-use xm_report::Place;
+use xm_report::{Place, place_text};
 
 /// The places that have a name.
 const NAMED_PLACES: [Place; 9] = [
