@@ -1,5 +1,6 @@
 pub mod Upsets
 pub mod Places
+pub mod Coming
 pub mod Reports
 pub mod lemmas
 pub mod rows

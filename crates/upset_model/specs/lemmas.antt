@@ -2,3 +2,4 @@ pub mod BitLemmas
 pub mod FactLemmas
 pub mod ReportLemmas
 pub mod StruckLemmas
+pub mod ComingLemmas

@@ -2,8 +2,10 @@
 //! Definitions over `machine_model`, of any machine, any number of upsets and any state.
 #![tactic(auto)]
 
+mod coming;
 mod rows;
 mod upset_line;
 
+pub use coming::Coming;
 pub use rows::{flips_at_edges, reports_what_strikes, strikes_before_its_tick};
 pub use upset_line::UpsetLine;
