@@ -3,3 +3,4 @@ pub mod FactLemmas
 pub mod ReportLemmas
 pub mod StruckLemmas
 pub mod ComingLemmas
+pub mod Segments

@@ -1,6 +1,6 @@
 //! The lines of a file of upsets that are to come, in the order of their ticks.
 
-ghost use Rattle.std.specs.Prelude.{◌≡◌, ℕ, ◌+◌, ◌<◌, ◌≤◌, [], drop, length, take};
+ghost use Rattle.std.specs.Prelude.{◌≡◌, ℕ, ◌+◌, ◌<◌, ◌≤◌, [], ◌++◌, length};
 ghost use Rattle.upset_model.specs.Coming.{AreOrdered, count_due};
 ghost use Rattle.upset_model.specs.Places.{due};
 
@@ -8,7 +8,7 @@ use crate::upset_line::UpsetLine;
 use std::marker::Model;
 
 /// The lines that are to come.
-#[derive(Debug)]
+#[derive(Debug, Drop)]
 pub struct Coming<'a> {
     lines: &'a [UpsetLine],
 }
@@ -37,6 +37,8 @@ impl<'a> Coming<'a> {
         requires { AreOrdered tick self.old }
         // These are the lines of the tick.
         ensures these { result.now ≡ due self.old tick }
+        // They and those that are still to come are all that were to come.
+        ensures all { self.old ≡ result.now ++ self.new }
         // The lines of each later tick are still to come,
         ensures later { (k : ℕ) → tick < k → due self.new k ≡ due self.old k }
         // and none of this tick or an earlier one is.
