@@ -1,20 +1,20 @@
 -- What is to be typed for the options of a run.
-use Rattle.std.proofs.Common.{◌≡◌, ℕ, ◌<◌, ◌≤◌, Bool, true, false, ◌&&◌, nat_eq, if◌then◌else◌, subst, List, [], ◌∷◌, ◌++◌, length, codes, decimal, Option, Some, None, is_some, refl, ap, ◌∙◌, arith, String}
+use Rattle.std.proofs.Common.{◌≡◌, ℕ, ◌<◌, ◌≤◌, Bool, true, false, ◌&&◌, nat_eq, nat_le, if◌then◌else◌, subst, List, [], ◌∷◌, ◌++◌, length, codes, decimal, Option, Some, None, is_some, refl, ap, ◌∙◌, arith, String}
 use Rattle.std.specs.List.{flat_map}
 use Rattle.std.specs.Prelude.{All}
 use Rattle.std.specs.Str.{bytes_eq}
-use Rattle.std.proofs.lemmas.Bool.{and_parts, and_from, eqb-true, eq-eqb}
+use Rattle.std.proofs.lemmas.Bool.{and_parts, and_from, eqb-true, eq-eqb, leb-true, le-leb}
 use Rattle.std.proofs.lemmas.List.Elements.{All-cons, All-head, All-nil, All-tail}
 use Rattle.xm_base.specs.declared.limits.TheConstants.{TICKS}
 use Rattle.command_line.specs.declared.commands.Span.{Span}
 use Rattle.command_line.specs.declared.commands.Span.TheVariants.{Frames, Ticks}
 use Rattle.command_line.specs.declared.run_options.FileKind.{FileKind}
 use Rattle.command_line.specs.declared.run_options.FileKind.TheVariants.{Core, Input, Script}
-use Rattle.command_line.specs.Grammar.{HaveOneFileEach, AreRunOptions, IsRunOption, count_of, file_option_of, option_of, option_words, part_word}
+use Rattle.command_line.specs.Grammar.{HaveOneFileEach, AreRunOptions, IsFileName, IsRunOption, count_of, file_option_of, option_of, option_words, part_word}
 use Rattle.command_line.specs.Texts.{texts_of}
-use Rattle.command_line.specs.Words.{PartFile, RunOption, Length, ForPart, are_apart, are_kinds_apart, are_options, are_run_options, before_others, cores_in, files_in, inputs_in, scripts_in, kind_of, option_by, option_for, part_file_of, run_option_of, run_options, span_of, spanned, spans_in, ticks_of}
+use Rattle.command_line.specs.Words.{PartFile, RunOption, Length, Upsets, ForPart, asked, are_apart, are_kinds_apart, are_options, are_run_options, before_others, cores_in, files_in, inputs_in, scripts_in, is_file, kind_of, option_by, option_for, option_or, option_upsets, part_file_of, run_option_of, run_options, span_of, spanned, spans_in, ticks_of, upset_files_in}
 use Rattle.command_line.proofs.PartFileLemmas.{apart_pairs, named_word, pairs_apart, word_named}
-use Rattle.command_line.proofs.WordLemmas.{named, text_ticks, ticks_text}
+use Rattle.command_line.proofs.WordLemmas.{file_is, is_of_file, named, text_ticks, ticks_text}
 
 -- words are an option and its number, and that is not above the limit
 record TypedSpan (option number : List ℕ) (span : Span) : Type 0 where
@@ -68,25 +68,40 @@ record TypedOption (option word : List ℕ) (made : RunOption) : Type 0 where
 option_as : (option word : List ℕ) (made other : RunOption) → TypedOption option word made → Some made ≡ Some other → TypedOption option word other
 option_as option word made other typed e = (let same : made ≡ other = cc in subst (TypedOption option word) same typed)
 
+-- an option with a file of upsets
+upsets_typed : (option word : List ℕ) (made : RunOption) → option_upsets option word ≡ Some made → TypedOption option word made
+unfolding option_upsets
+upsets_typed option word made e = at (bytes_eq option (codes "--upset")) (is_file word) refl refl e
+  where
+    at : (is right : Bool) → bytes_eq option (codes "--upset") ≡ is → is_file word ≡ right
+        → (if is then asked right (Upsets word) else None) ≡ Some made → TypedOption option word made
+    at true true is right e =
+        let option_is : option ≡ codes "--upset" = named option (codes "--upset") is in
+        option_as option word (Upsets word) made (record { words = cc; right = file_is word right }) e
+    at true false is right e = absurd (let no : ⊥ = cc in no)
+    at false right is file e = absurd (let no : ⊥ = cc in no)
+
 -- an option of a run
 option_typed : (option word : List ℕ) (made : RunOption) → run_option_of option word ≡ Some made → TypedOption option word made
 unfolding run_option_of
-option_typed option word made e = at (span_of option word) (kind_of option) (part_file_of word) refl refl refl e
+option_typed option word made e = at (span_of option word) (option_upsets option word) (kind_of option) (part_file_of word) refl refl refl refl e
   where
-    at : (span : Option Span) (kind : Option FileKind) (file : Option PartFile) → span_of option word ≡ span → kind_of option ≡ kind → part_file_of word ≡ file
-        → option_by span (option_for kind file) ≡ Some made → TypedOption option word made
-    at (Some span) kind file measured is found e =
+    at : (span : Option Span) (upsets : Option RunOption) (kind : Option FileKind) (file : Option PartFile)
+        → span_of option word ≡ span → option_upsets option word ≡ upsets → kind_of option ≡ kind → part_file_of word ≡ file
+        → option_by span (option_or upsets (option_for kind file)) ≡ Some made → TypedOption option word made
+    at (Some span) upsets kind file measured struck is found e =
         let typed = span_typed option word span measured in
         let option_is : option ≡ option_of span = typed.option_is in
         let number_is : word ≡ decimal (count_of span) = typed.number_is in
         option_as option word (Length span) made (record { words = cc; right = typed.small }) e
-    at None (Some kind) (Some file) measured is found e =
+    at None (Some upsets) kind file measured struck is found e = option_as option word upsets made (upsets_typed option word upsets struck) e
+    at None None (Some kind) (Some file) measured struck is found e =
         let typed = word_named word file found in
         let option_is : option ≡ file_option_of kind = kind_typed option kind is in
         let word_is : word ≡ part_word file = typed.1 in
         option_as option word (ForPart kind file) made (record { words = cc; right = typed.0 }) e
-    at None (Some kind) None measured is found e = absurd (let no : ⊥ = cc in no)
-    at None None file measured is found e = absurd (let no : ⊥ = cc in no)
+    at None None (Some kind) None measured struck is found e = absurd (let no : ⊥ = cc in no)
+    at None None None file measured struck is found e = absurd (let no : ⊥ = cc in no)
 
 -- words that are options are typed so
 options_typed : (words : List (List ℕ)) → are_options words ≡ true → (words ≡ flat_map option_words (run_options words)) × All IsRunOption (run_options words)
@@ -133,10 +148,11 @@ apart_kinds options apart =
 pub run_options_typed : (words : List (List ℕ)) → are_run_options words ≡ true → (words ≡ flat_map option_words (run_options words)) × AreRunOptions (run_options words)
 unfolding are_run_options
 run_options_typed words are =
-    let tests = and_parts (are_options words && nat_eq (length (spans_in (run_options words))) 1) (are_kinds_apart (run_options words)) are in
-    let front = and_parts (are_options words) (nat_eq (length (spans_in (run_options words))) 1) tests.0 in
+    let tests = and_parts (are_options words && nat_eq (length (spans_in (run_options words))) 1 && nat_le (length (upset_files_in (run_options words))) 1) (are_kinds_apart (run_options words)) are in
+    let upsets = and_parts (are_options words && nat_eq (length (spans_in (run_options words))) 1) (nat_le (length (upset_files_in (run_options words))) 1) tests.0 in
+    let front = and_parts (are_options words) (nat_eq (length (spans_in (run_options words))) 1) upsets.0 in
     let each = options_typed words front.0 in
-    (each.0, record { each = each.1; spanned = eqb-true _ 1 front.1; apart = kinds_apart (run_options words) tests.1 })
+    (each.0, record { each = each.1; spanned = eqb-true _ 1 front.1; struck = leb-true _ 1 upsets.1; apart = kinds_apart (run_options words) tests.1 })
 
 -- what is typed for the length of a run determines it
 reads_span : (span : Span) → count_of span ≤ TICKS → span_of (option_of span) (decimal (count_of span)) ≡ Some span
@@ -146,10 +162,15 @@ reads_span (Ticks count) small = rw (text_ticks (decimal count) count small refl
 
 -- what is typed for a file for a partition is so read
 reads_file : (kind : FileKind) (file : PartFile) → IsRunOption (ForPart kind file) → run_option_of (file_option_of kind) (part_word file) ≡ Some (ForPart kind file)
-unfolding run_option_of span_of kind_of
+unfolding run_option_of span_of option_upsets kind_of
 reads_file Input file right = rw (named_word file right) refl
 reads_file Core file right = rw (named_word file right) refl
 reads_file Script file right = rw (named_word file right) refl
+
+-- what is typed for a file of upsets is so read
+reads_upsets : (file : List ℕ) → IsFileName file → run_option_of (codes "--upset") file ≡ Some (Upsets file)
+unfolding run_option_of span_of option_upsets
+reads_upsets file right = rw (is_of_file file right) refl
 
 -- what is typed for a length is so read
 reads_length : (span : Span) → count_of span ≤ TICKS → run_option_of (option_of span) (decimal (count_of span)) ≡ Some (Length span)
@@ -159,6 +180,7 @@ reads_length span small = rw (reads_span span small) refl
 -- what is typed for an option is so read, before other words
 reads_option : (made : RunOption) (words : List (List ℕ)) → IsRunOption made → (run_options (option_words made ++ words) ≡ made ∷ run_options words) × (are_options (option_words made ++ words) ≡ are_options words)
 reads_option (Length span) words right = rw (reads_length span right) (refl, refl)
+reads_option (Upsets file) words right = rw (reads_upsets file right) (refl, refl)
 reads_option (ForPart kind file) words right = rw (reads_file kind file right) (refl, refl)
 
 -- what is typed for options is so read
@@ -175,8 +197,10 @@ unfolding are_run_options
 reads_run_options options right =
     let read = reads_options options right.each in (
       read.0,
-      and_from (are_options (flat_map option_words options) && nat_eq (length (spans_in (run_options (flat_map option_words options)))) 1) (are_kinds_apart (run_options (flat_map option_words options)))
+      and_from (are_options (flat_map option_words options) && nat_eq (length (spans_in (run_options (flat_map option_words options)))) 1 && nat_le (length (upset_files_in (run_options (flat_map option_words options)))) 1) (are_kinds_apart (run_options (flat_map option_words options)))
+          (and_from (are_options (flat_map option_words options) && nat_eq (length (spans_in (run_options (flat_map option_words options)))) 1) (nat_le (length (upset_files_in (run_options (flat_map option_words options)))) 1)
           (and_from (are_options (flat_map option_words options)) (nat_eq (length (spans_in (run_options (flat_map option_words options)))) 1) read.1
           (eq-eqb (length (spans_in (run_options (flat_map option_words options)))) 1 (ap (λ made. length (spans_in made)) read.0 ∙ right.spanned)))
+          (ap (λ made. nat_le (length (upset_files_in made)) 1) read.0 ∙ le-leb (length (upset_files_in options)) 1 right.struck))
           (ap are_kinds_apart read.0 ∙ apart_kinds options right.apart),
     )

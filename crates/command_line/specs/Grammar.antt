@@ -6,7 +6,7 @@ use Rattle.command_line.specs.declared.commands.Span.{Span}
 use Rattle.command_line.specs.declared.commands.Span.TheVariants.{Frames, Ticks}
 use Rattle.command_line.specs.declared.run_options.FileKind.{FileKind}
 use Rattle.command_line.specs.declared.run_options.FileKind.TheVariants.{Core, Input, Script}
-use Rattle.command_line.specs.Words.{Command, PartFile, ReplayFiles, RunOption, Bare, Parse, Upgrade, BuildImage, ReadImage, Pack, ListContainer, CheckContainer, MakePlan, CheckPlan, ListGroups, ListSteerers, Generate, Run, Replay, Length, ForPart, Neither, InputAlone, CoreAlone, InputThenCore, CoreThenInput, command_of, files_in, spans_in, ticks_of}
+use Rattle.command_line.specs.Words.{Command, PartFile, ReplayFiles, RunOption, Bare, Parse, Upgrade, BuildImage, ReadImage, Pack, ListContainer, CheckContainer, MakePlan, CheckPlan, ListGroups, ListSteerers, Generate, Run, Replay, Length, Upsets, ForPart, Neither, InputAlone, CoreAlone, InputThenCore, CoreThenInput, command_of, files_in, spans_in, ticks_of, upset_files_in}
 
 -- a word is this many ticks where it is their number in decimal, and they are not above the limit
 abbrev pub TicksAreDecimal : Type 0
@@ -40,6 +40,7 @@ file_option_of Script = codes "--script"
 -- what is typed for an option of a run
 abbrev pub option_words : RunOption → List (List ℕ)
 option_words (Length span) = option_of span ∷ decimal (count_of span) ∷ []
+option_words (Upsets file) = codes "--upset" ∷ file ∷ []
 option_words (ForPart kind file) = file_option_of kind ∷ part_word file ∷ []
 
 -- what is typed for the further files of a replay
@@ -82,15 +83,17 @@ pub record ArePartFiles (files : List PartFile) : Type 0 where
   pub each : All IsPartFile files
   pub apart : HaveOneFileEach files
 
--- an option of a run: a length not above the limit, or a file for a partition
+-- an option of a run: a length not above the limit, a file of upsets, or a file for a partition
 abbrev pub IsRunOption : RunOption → Type 0
 IsRunOption (Length span) = count_of span ≤ TICKS
+IsRunOption (Upsets file) = IsFileName file
 IsRunOption (ForPart kind file) = IsPartFile file
 
--- options of a run: each is one, one says how long the run is, and no partition has two files of one kind
+-- options of a run: each is one, one says how long the run is, one at most names a file of upsets, and no partition has two files of one kind
 pub record AreRunOptions (options : List RunOption) : Type 0 where
   pub each : All IsRunOption options
   pub spanned : length (spans_in options) ≡ 1
+  pub struck : length (upset_files_in options) ≤ 1
   pub apart : (kind : FileKind) → HaveOneFileEach (files_in kind options)
 
 -- the further files of a replay are files

@@ -1,14 +1,15 @@
 //! The options of a run, as words name them.
 
-ghost use Rattle.std.specs.Prelude.{◌≡◌, ◌∷◌, [], MatchOption, false, length, nat_eq, true};
+ghost use Rattle.std.specs.Prelude.{◌≡◌, ◌∷◌, [], MatchOption, false, length, nat_eq, nat_le, option_copied, true};
 ghost use Rattle.command_line.specs.Seen.{seen_file, seen_files, seen_option, seen_options};
 ghost use Rattle.command_line.specs.lemmas.SeenTerms.{seen_part_file, seen_run_option};
 ghost use Rattle.command_line.specs.Texts.{texts_of};
-ghost use Rattle.command_line.specs.Words.{are_kinds_apart, are_options, are_run_options, cores_in, file_by, files_in, inputs_in, kind_of, option_for, part_file_of, kind_place, run_option_of, run_options, scripts_in, span_in, span_of, spans_in};
+ghost use Rattle.command_line.specs.Words.{are_kinds_apart, are_options, are_run_options, cores_in, file_by, files_in, inputs_in, kind_of, option_for, option_upsets, part_file_of, kind_place, run_option_of, run_options, scripts_in, span_in, span_of, spans_in, upset_files_in, upsets_in};
 
 use crate::commands::Span;
 use crate::numbers::{frames, ticks};
 use crate::part_files::{PartFile, PartFiles, part_file};
+use crate::reading::is_file;
 
 /// What a file for a partition is to a run.
 #[derive(Clone, Copy, Debug, PartialEq, Eq)]
@@ -39,6 +40,8 @@ impl FileKind {
 pub enum RunOption<'a> {
     /// How long the run is.
     Length(Span),
+    /// The file of the upsets that strike.
+    Upsets(&'a str),
     /// A file for a partition.
     ForPart(FileKind, PartFile<'a>),
 }
@@ -50,6 +53,7 @@ impl<'a> RunOption<'a> {
     {
         match self {
             RunOption::Length(_) => None,
+            RunOption::Upsets(_) => None,
             RunOption::ForPart(other, file) => {
                 if other.place() == kind.place() {
                     Some(file)
@@ -61,7 +65,7 @@ impl<'a> RunOption<'a> {
     }
 }
 
-/// The options of a run in the order of their words: one length, and at most one file of each kind for each partition.
+/// The options of a run in the order of their words: one length, at most one file of upsets, and at most one file of each kind for each partition.
 #[derive(Clone, Copy, Debug, PartialEq, Eq)]
 pub struct RunOptions<'a> {
     words: &'a [String],
@@ -75,7 +79,11 @@ impl<'a> RunOptions<'a> {
             (λ options. (are_run_options (texts_of words.now) ≡ true) × (options.words.now ≡ words.now)) }
     {
         let options = RunOptions { words };
-        if are_options(words) && options.has_one_span() && options.are_kinds_apart() {
+        if are_options(words)
+            && options.has_one_span()
+            && options.has_few_upsets()
+            && options.are_kinds_apart()
+        {
             Some(options)
         } else {
             None
@@ -90,6 +98,17 @@ impl<'a> RunOptions<'a> {
         match self.split_first_span() {
             Some((span, _)) => span,
             None => Span::Ticks(0),
+        }
+    }
+
+    /// The file of the upsets that strike, where there is one.
+    pub fn upsets(self) -> Option<&'a str>
+        // The file of upsets that a run names, where it names one.
+        ensures value { option_copied result ≡ upsets_in (seen_options self.entry) }
+    {
+        match self.split_first_upsets() {
+            Some((file, _)) => Some(file),
+            None => None,
         }
     }
 
@@ -144,6 +163,21 @@ impl<'a> RunOptions<'a> {
         None
     }
 
+    // The first file of upsets and the options after it, or `None` where no option names one.
+    fn split_first_upsets(self) -> Option<(&'a str, RunOptions<'a>)>
+        ensures value { MatchOption result (upset_files_in (seen_options self.entry) ≡ [])
+            (λ (file, others). upset_files_in (seen_options self.entry) ≡ file.now ∷ upset_files_in (seen_options others)) }
+    {
+        let mut rest = self;
+        while let Some((first, others)) = rest.split_first() {
+            if let RunOption::Upsets(file) = first {
+                return Some((file, others));
+            }
+            rest = others;
+        }
+        None
+    }
+
     // Whether exactly one option says how long the run is.
     fn has_one_span(self) -> bool
         ensures value { result ≡ nat_eq (length (spans_in (seen_options self.entry))) 1 }
@@ -151,6 +185,16 @@ impl<'a> RunOptions<'a> {
         match self.split_first_span() {
             Some((_, others)) => others.split_first_span().is_none(),
             None => false,
+        }
+    }
+
+    // Whether one option at most names a file of upsets.
+    fn has_few_upsets(self) -> bool
+        ensures value { result ≡ nat_le (length (upset_files_in (seen_options self.entry))) 1 }
+    {
+        match self.split_first_upsets() {
+            Some((_, others)) => others.split_first_upsets().is_none(),
+            None => true,
         }
     }
 
@@ -198,7 +242,10 @@ fn run_option<'a>(option: &str, word: &'a str) -> Option<RunOption<'a>>
 {
     match span(option, word) {
         Some(span) => Some(RunOption::Length(span)),
-        None => for_part(kind(option), word),
+        None => match upsets(option, word) {
+            Some(upsets) => Some(upsets),
+            None => for_part(kind(option), word),
+        },
     }
 }
 
@@ -211,6 +258,18 @@ fn span(option: &str, count: &str) -> Option<Span>
         frames(count).map(Span::Frames)
     } else if option == "--ticks" {
         ticks(count).map(Span::Ticks)
+    } else {
+        None
+    }
+}
+
+/// The option with a file of upsets, where the word names a file.
+#[tactic(auto, unfolding(crate::specs::Words::option_upsets))]
+fn upsets<'a>(option: &str, file: &'a str) -> Option<RunOption<'a>>
+    ensures { seen_run_option result ≡ option_upsets option.now file.now }
+{
+    if option == "--upset" && is_file(file) {
+        Some(RunOption::Upsets(file))
     } else {
         None
     }
