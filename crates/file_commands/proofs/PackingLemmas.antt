@@ -59,6 +59,15 @@ has_next all rest names contents read file bytes before now next had reads is sa
     subst (λ (files : List (List ℕ)). HasRead all files read before next) same
     (subst (λ (got : List (List ℕ)). HasRead all rest got before next) pushed (has_more all rest contents file bytes before now next had reads is))
 
+-- the next of files for partitions is to be read
+pub more_to_read : (all later contents : List (List ℕ)) (parts others : List PartFile) (named : PartFile) (before now : Outside) → parts ≡ named ∷ others → HasRead all (file_names parts ++ later) contents before now
+    → HasRead all (named.file ∷ file_names others ++ later) contents before now
+more_to_read all later contents parts others named before now is had = subst (λ (files : List PartFile). HasRead all (file_names files ++ later) contents before now) is had
+
+-- none of them is
+pub none_to_read : (all later contents : List (List ℕ)) (parts : List PartFile) (before now : Outside) → parts ≡ [] → HasRead all (file_names parts ++ later) contents before now → HasRead all later contents before now
+none_to_read all later contents parts before now none had = subst (λ (files : List PartFile). HasRead all (file_names files ++ later) contents before now) none had
+
 -- the next file was not read
 pub not_more : (e : Ending) (all rest contents : List (List ℕ)) (file : List ℕ) (before now after : Outside) → HasRead all (file ∷ rest) contents before now → IsNotRead e file now after → AreNotRead e all before after
 not_more Done all rest contents file before now after had not_read = absurd not_read

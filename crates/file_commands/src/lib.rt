@@ -17,6 +17,7 @@ pub use delivery::{report, unmade};
 pub use ending::{Ending, Refusal, status_of};
 pub use packing::pack_files;
 pub use reading::{
-    first_long, first_long_of_three, read_file, read_files, read_three, split_contents,
+    content_after, first_long, first_long_of_three, read_file, read_files, read_three,
+    split_contents,
 };
 pub use status::Status;

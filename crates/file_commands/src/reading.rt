@@ -1,6 +1,6 @@
 //! Files are read.
 
-ghost use Rattle.std.specs.Prelude.{◌≡◌, ◌∷◌, [], ℕ, List, None, Option, drop, map, option_copied};
+ghost use Rattle.std.specs.Prelude.{◌≡◌, ◌∷◌, ◌++◌, [], ℕ, List, None, Option, drop, length, map, option_copied};
 ghost use Rattle.file_commands.specs.Outcome.{content, first_long, name_if_any};
 ghost use Rattle.file_commands.specs.Packing.{file_names};
 ghost use Rattle.file_commands.specs.EndingValues.{AreFilesRead, IsFileRead, vector_bytes};
@@ -36,40 +36,59 @@ pub fn read_file<'a, S: Store>(
     }
 }
 
-/// The bytes of a file and of files for partitions, read in this order: of each its bytes, or its first ones where it is too long.
+/// The bytes of a file, of files for partitions, and of one more where there is one, read in this order: of each its bytes, or its first
+/// ones where it is too long.
 pub fn read_files<'a, S: Store>(
     alloc: Global,
     first: &'a str,
     others: PartFiles<'a>,
+    last: Option<&'a str>,
     files: &mut S,
 ) -> Result<Vec<Vec<u8>>, Ending<'a>>
     // The bytes of several files in their order; or the call ends at the first that is not read.
     ensures { (got : Option (List ℕ)) (faults : ℕ)
-        → AreFilesRead result (first.now ∷ file_names (seen_files others.entry))
+        → AreFilesRead result
+        (first.now ∷ file_names (seen_files others.entry) ++ name_if_any (option_copied last.entry))
         (outside (S.files files.old) (S.read_faults files.old) (S.write_faults files.old) (S.calls files.old)
         got faults)
         (outside (S.files files.new) (S.read_faults files.new) (S.write_faults files.new) (S.calls files.new)
         got faults) }
 {
     let mut contents = Vec::new(alloc);
-    let mut file = first;
-    let mut rest = others;
-    loop {
-        let bytes = match read_file(alloc, file, files) {
-            Ok(bytes) => bytes,
-            Err(ending) => return Err(ending),
-        };
-        if contents.push(bytes).is_err() {
-            return Err(Ending::NoMemory);
-        }
-        match rest.split_first() {
-            Some((next, more)) => {
-                file = next.file;
-                rest = more;
-            }
-            None => return Ok(contents),
-        }
+    match read_next(alloc, first, &mut contents, files) {
+        Ok(()) => {}
+        Err(ending) => return Err(ending),
     }
+    match read_for_parts(alloc, others, &mut contents, files) {
+        Ok(()) => {}
+        Err(ending) => return Err(ending),
+    }
+    match read_last(alloc, last, &mut contents, files) {
+        Ok(()) => Ok(contents),
+        Err(ending) => Err(ending),
+    }
+}
+
+// The bytes of files for partitions, after those of files before them.
+fn read_for_parts<'a, S: Store>(
+    alloc: Global,
+    parts: PartFiles<'a>,
+    contents: &mut Vec<Vec<u8>>,
+    files: &mut S,
+) -> Result<(), Ending<'a>>
+    ensures { (got : Option (List ℕ)) (faults : ℕ) (all later : List (List ℕ)) (before : Outside)
+        → HasRead all (file_names (seen_files parts.entry) ++ later) (map vector_bytes contents.old.items) before (outside (S.files files.old) (S.read_faults files.old) (S.write_faults files.old) (S.calls files.old) got faults)
+        → HasReadNext result all later (map vector_bytes contents.new.items) before (outside (S.files files.new) (S.read_faults files.new) (S.write_faults files.new) (S.calls files.new) got faults) }
+{
+    let mut rest = parts;
+    while let Some((next, others)) = rest.split_first() {
+        match read_next(alloc, next.file, contents, files) {
+            Ok(()) => {}
+            Err(ending) => return Err(ending),
+        }
+        rest = others;
+    }
+    Ok(())
 }
 
 /// The bytes of two files, and of a third where there is one, read in this order: of each its bytes, or its first ones where it is too
@@ -170,31 +189,39 @@ pub fn first_long_of_three<'a>(
     }
 }
 
-/// The first of the files with these contents that is too long: this one, and those for partitions.
+/// The first of the files with these contents that is too long: this one, those for partitions, and one more where there is one.
 pub fn first_long<'a>(
     first: &'a str,
     others: PartFiles<'a>,
+    last: Option<&'a str>,
     contents: &[Vec<u8>],
 ) -> Option<&'a str>
     // The first of the files that has more bytes than a file may have.
     ensures value { option_copied result
-        ≡ first_long (first.now ∷ file_names (seen_files others.entry)) (map vector_bytes contents.now) }
+        ≡ first_long (first.now ∷ file_names (seen_files others.entry) ++ name_if_any (option_copied last.entry))
+        (map vector_bytes contents.now) }
 {
     let (bytes, more) = contents.split_first()?;
     if bytes.len() > FILE_BYTES {
         return Some(first);
     }
-    first_long_for_parts(others, more)
+    first_long_for_parts(others, last, more)
 }
 
-// The first of the files for partitions that is too long.
-fn first_long_for_parts<'a>(files: PartFiles<'a>, contents: &[Vec<u8>]) -> Option<&'a str>
-    ensures value { option_copied result ≡ first_long (file_names (seen_files files.entry)) (map vector_bytes contents.now) }
+// The first of the files for partitions, and of one more where there is one, that is too long.
+fn first_long_for_parts<'a>(
+    files: PartFiles<'a>,
+    last: Option<&'a str>,
+    contents: &[Vec<u8>],
+) -> Option<&'a str>
+    ensures value { option_copied result
+        ≡ first_long (file_names (seen_files files.entry) ++ name_if_any (option_copied last.entry))
+        (map vector_bytes contents.now) }
 {
     let mut rest = files;
     for bytes in contents {
         let Some((first, others)) = rest.split_first() else {
-            return None;
+            return if_long(last, bytes);
         };
         if bytes.len() > FILE_BYTES {
             return Some(first.file);
@@ -202,6 +229,34 @@ fn first_long_for_parts<'a>(files: PartFiles<'a>, contents: &[Vec<u8>]) -> Optio
         rest = others;
     }
     None
+}
+
+// The file, where there is one and its bytes are too long.
+fn if_long<'a>(file: Option<&'a str>, bytes: &[u8]) -> Option<&'a str>
+    ensures value { (contents : List (List ℕ))
+        → option_copied result ≡ first_long (name_if_any (option_copied file.entry)) (bytes.now ∷ contents) }
+{
+    if bytes.len() > FILE_BYTES { file } else { None }
+}
+
+/// The content of the file after those for partitions, where there is one.
+pub fn content_after<'a>(parts: PartFiles<'_>, contents: &'a [Vec<u8>]) -> &'a [u8]
+    // The content of the file after those for partitions.
+    ensures { result.now ≡ content (length (seen_files parts.entry)) (map vector_bytes contents.now) }
+{
+    let mut rest = parts;
+    let mut more = contents;
+    while let Some((_, others)) = rest.split_first() {
+        match more.split_first() {
+            Some((_, after)) => more = after,
+            None => return b"",
+        }
+        rest = others;
+    }
+    match more.first() {
+        Some(bytes) => bytes,
+        None => b"",
+    }
 }
 
 /// The content of the first file, and those of the others.

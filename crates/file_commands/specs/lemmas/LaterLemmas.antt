@@ -8,13 +8,14 @@ use Rattle.loaded_system.specs.Bare.{bare_system}
 use Rattle.loaded_system.specs.System.{System}
 use Rattle.machine_model.specs.Machine.{Machine}
 use Rattle.machine_model.specs.View.{System as Booted}
+use Rattle.upset_model.specs.declared.upset_line.UpsetLine.{UpsetLine}
 use Rattle.system_state.specs.State.{with_inputs}
 use Rattle.command_line.specs.Words.{Command, PartFile, RunOption, Bare, Parse, Upgrade, BuildImage, ReadImage, Pack, ListContainer, CheckContainer, MakePlan, CheckPlan, ListGroups, ListSteerers, Generate, Run, Replay, ReplayFiles, cores_in, replay_core, replay_input, scripts_in, span_in}
 use Rattle.builders.specs.Ready.{Replay as Readied, Unready, replay_of}
 use Rattle.file_commands.specs.Denial.{Denial}
 use Rattle.file_commands.specs.Ending.{length_text, ticks_text}
 use Rattle.file_commands.specs.Inputs.{no_inputs}
-use Rattle.file_commands.specs.Outcome.{Outcome, Output, bare_outcome, content, converted, core_outputs, first_long, input_bytes, inputs_of, later_of, name_if_any, outcome_of_file, outcome_of_print, outcome_of, output_of, packed_to, played, outcome_of_run, ran_for, ran_scripted, ran_with, ran_within, command_refused, replay_outcome_by, replay_outcome, replay_output, run_by, run_outcome, script_before, script_denial, script_output, scripts_for, ticks_asked, unless_denied, unless_long, outcome_of_contents}
+use Rattle.file_commands.specs.Outcome.{Outcome, Output, bare_outcome, content, converted, core_outputs, first_long, input_bytes, inputs_of, later_of, name_if_any, outcome_of_file, outcome_of_print, outcome_of, output_of, packed_to, played, outcome_of_run, ran_for, ran_scripted, ran_struck, ran_with, ran_within, command_refused, replay_outcome_by, replay_outcome, replay_output, run_by, run_outcome, script_before, script_denial, script_output, scripts_for, ticks_asked, unless_denied, unless_long, outcome_of_contents, upsets_for}
 use Rattle.file_commands.specs.Packing.{container_of, file_names}
 use Rattle.file_commands.specs.Work.{file_in}
 use Rattle.file_commands.specs.lemmas.OutputLemmas.{output-named}
@@ -48,20 +49,20 @@ core_outputs-files g [] = refl
 core_outputs-files g (named ∷ cores) = ap (λ (files : List (List ℕ)). named.file ∷ files) (core_outputs-files g cores)
 
 -- and so are scripts, or one is refused
-scripts_named : (system : Booted) (ticks : ℕ) (names : List PartFile) → IsNamed (file_names names) (scripts_for system ticks names)
-scripts_named system ticks [] = refl
-scripts_named system ticks (named ∷ names) = at (script_denial system ticks named) (scripts_for system ticks names) (scripts_named system ticks names)
+scripts_named : (upsets : List UpsetLine) (system : Booted) (ticks : ℕ) (names : List PartFile) → IsNamed (file_names names) (scripts_for upsets system ticks names)
+scripts_named upsets system ticks [] = refl
+scripts_named upsets system ticks (named ∷ names) = at (script_denial upsets system ticks named) (scripts_for upsets system ticks names) (scripts_named upsets system ticks names)
   where
     at : (refusal : Option Denial) (later : Result (List Output) Denial) → IsNamed (file_names names) later
-        → IsNamed (named.file ∷ file_names names) (unless_denied refusal (script_before (script_output system ticks named) later))
+        → IsNamed (named.file ∷ file_names names) (unless_denied refusal (script_before (script_output upsets system ticks named) later))
     at (Some refusal) later are = tt
     at None (Ok outputs) are = ap (λ (files : List (List ℕ)). named.file ∷ files) are
     at None (Err refusal) are = tt
 
-ran-later : (ticks : ℕ) (cores : List PartFile) (scripts : List Output) (names : List (List ℕ)) (system : System) (inputs : List (List ℕ)) → output_names scripts ≡ names
-    → AreNamed (file_names cores ++ names) (outcome_of_run ticks cores scripts system inputs).later
+ran-later : (upsets : List UpsetLine) (ticks : ℕ) (cores : List PartFile) (scripts : List Output) (names : List (List ℕ)) (system : System) (inputs : List (List ℕ)) → output_names scripts ≡ names
+    → AreNamed (file_names cores ++ names) (outcome_of_run upsets ticks cores scripts system inputs).later
 unfolding outcome_of_run
-ran-later ticks cores scripts names system inputs are =
+ran-later upsets ticks cores scripts names system inputs are =
     inl (map-append (λ (output : Output). output.file) (core_outputs _ cores) scripts ∙ ap (λ (files : List (List ℕ)). files ++ output_names scripts) (core_outputs-files _ cores)
     ∙ ap (λ (files : List (List ℕ)). file_names cores ++ files) are)
 
@@ -69,41 +70,44 @@ bare-later : (file : List ℕ) (ticks : ℕ) (image : List ℕ) → AreNamed [] 
 unfolding bare_outcome
 bare-later file ticks image = at ((length image == 0) || nat_lt IMAGE_BYTES (length image))
   where
-    at : (t : Bool) → AreNamed [] (if t then command_refused file (length_text (length image)) else outcome_of_run ticks [] [] (bare_system image) (no_inputs 1)).later
+    at : (t : Bool) → AreNamed [] (if t then command_refused file (length_text (length image)) else outcome_of_run [] ticks [] [] (bare_system image) (no_inputs 1)).later
     at true = inr refl
-    at false = ran-later ticks [] [] [] (bare_system image) (no_inputs 1) refl
+    at false = ran-later [] ticks [] [] [] (bare_system image) (no_inputs 1) refl
 
 -- the names of the core files and the scripts of a run
 abbrev run_names : List RunOption → List (List ℕ)
 run_names options = file_names (cores_in options) ++ file_names (scripts_in options)
 
-scripted-later : (ticks : ℕ) (options : List RunOption) (system : System) (inputs : List (List ℕ)) (scripts : Result (List Output) Denial) → IsNamed (file_names (scripts_in options)) scripts
-    → AreNamed (run_names options) (ran_scripted ticks (cores_in options) system inputs scripts).later
-scripted-later ticks options system inputs (Ok scripts) are = ran-later ticks (cores_in options) scripts (file_names (scripts_in options)) system inputs are
-scripted-later ticks options system inputs (Err refusal) are = inr refl
+scripted-later : (upsets : List UpsetLine) (ticks : ℕ) (options : List RunOption) (system : System) (inputs : List (List ℕ)) (scripts : Result (List Output) Denial) → IsNamed (file_names (scripts_in options)) scripts
+    → AreNamed (run_names options) (ran_scripted upsets ticks (cores_in options) system inputs scripts).later
+scripted-later upsets ticks options system inputs (Ok scripts) are = ran-later upsets ticks (cores_in options) scripts (file_names (scripts_in options)) system inputs are
+scripted-later upsets ticks options system inputs (Err refusal) are = inr refl
 
-within-later : (file : List ℕ) (options : List RunOption) (system : System) (inputs : List (List ℕ)) → AreNamed (run_names options) (ran_within file options system inputs).later
+struck-later : (ticks : ℕ) (options : List RunOption) (system : System) (inputs : List (List ℕ)) (read : Result (List UpsetLine) Denial) → AreNamed (run_names options) (ran_struck ticks options system inputs read).later
+struck-later ticks options system inputs (Ok upsets) = scripted-later upsets ticks options system inputs _ (scripts_named upsets (with_inputs system inputs) ticks (scripts_in options))
+struck-later ticks options system inputs (Err refusal) = inr refl
+
+within-later : (file : List ℕ) (options : List RunOption) (contents : List (List ℕ)) (system : System) (inputs : List (List ℕ)) → AreNamed (run_names options) (ran_within file options contents system inputs).later
 unfolding ran_within
-within-later file options system inputs = at (ticks_asked (span_in options) system.conf)
+within-later file options contents system inputs = at (ticks_asked (span_in options) system.conf)
   where
-    by : (asked : ℕ) (t : Bool) (scripts : Result (List Output) Denial) → IsNamed (file_names (scripts_in options)) scripts
-        → AreNamed (run_names options) (if t then command_refused file (ticks_text asked) else ran_scripted asked (cores_in options) system inputs scripts).later
-    by asked true scripts are = inr refl
-    by asked false scripts are = scripted-later asked options system inputs scripts are
+    by : (asked : ℕ) (t : Bool) → AreNamed (run_names options) (if t then command_refused file (ticks_text asked) else ran_struck asked options system inputs (upsets_for system.conf asked options contents)).later
+    by asked true = inr refl
+    by asked false = struck-later asked options system inputs (upsets_for system.conf asked options contents)
 
-    at : (asked : ℕ) → AreNamed (run_names options) (ran_for file asked options system inputs).later
-    at asked = by asked (nat_lt TICKS asked) _ (scripts_named (with_inputs system inputs) asked (scripts_in options))
+    at : (asked : ℕ) → AreNamed (run_names options) (ran_for file asked options contents system inputs).later
+    at asked = by asked (nat_lt TICKS asked)
 
-with-later : (file : List ℕ) (options : List RunOption) (system : System) (read : Result (List (List ℕ)) Denial) → AreNamed (run_names options) (ran_with file options system read).later
-with-later file options system (Ok inputs) = within-later file options system inputs
-with-later file options system (Err refusal) = inr refl
+with-later : (file : List ℕ) (options : List RunOption) (contents : List (List ℕ)) (system : System) (read : Result (List (List ℕ)) Denial) → AreNamed (run_names options) (ran_with file options contents system read).later
+with-later file options contents system (Ok inputs) = within-later file options contents system inputs
+with-later file options contents system (Err refusal) = inr refl
 
 run-later : (file : List ℕ) (options : List RunOption) (bytes : List ℕ) (contents : List (List ℕ)) → AreNamed (run_names options) (run_outcome file options bytes contents).later
 unfolding run_outcome
 run-later file options bytes contents = at (unpacked bytes)
   where
     at : (read : Result System BoxFault) → AreNamed (run_names options) (run_by file options contents read).later
-    at (Ok system) = with-later file options system _
+    at (Ok system) = with-later file options contents system _
     at (Err fault) = inr refl
 
 made-later : (file : List ℕ) (outcome : List ℕ → Outcome) (made_of : Result (List ℕ) (List ℕ)) → ((bytes : List ℕ) → (outcome bytes).later ≡ []) → (converted file outcome made_of).later ≡ []

@@ -6,13 +6,14 @@ use Rattle.xm_container.specs.Reading.{unpacked}
 use Rattle.fault_messages.specs.declared.fault.BoxFault.{BoxFault}
 use Rattle.loaded_system.specs.Bare.{bare_system}
 use Rattle.loaded_system.specs.System.{System}
+use Rattle.upset_model.specs.declared.upset_line.UpsetLine.{UpsetLine}
 use Rattle.system_state.specs.State.{with_inputs}
 use Rattle.file_commands.specs.Ending.{length_text, ticks_text}
 use Rattle.file_commands.specs.Inputs.{no_inputs}
 use Rattle.file_commands.specs.Packing.{container_of}
 use Rattle.builders.specs.Ready.{Replay as Readied, Unready, replay_of}
 use Rattle.file_commands.specs.Denial.{Denial}
-use Rattle.file_commands.specs.Outcome.{Output, bare_outcome, content, first_long, input_bytes, converted, outcome_of_file, outcome_of_print, packed_to, played, outcome_of_run, ran_for, ran_scripted, ran_with, ran_within, command_refused, replay_outcome_by, replay_outcome, run_by, run_outcome, inputs_of, outcome_of, output_of, scripts_for, ticks_asked, unless_long, outcome_of_contents}
+use Rattle.file_commands.specs.Outcome.{Output, bare_outcome, content, first_long, input_bytes, converted, outcome_of_file, outcome_of_print, packed_to, played, outcome_of_run, ran_for, ran_scripted, ran_struck, ran_with, ran_within, command_refused, replay_outcome_by, replay_outcome, run_by, run_outcome, inputs_of, outcome_of, output_of, scripts_for, ticks_asked, unless_long, outcome_of_contents, upsets_for}
 use Rattle.file_commands.specs.Work.{counted_by, Outside, after_store_call, called_for}
 
 -- Calls.
@@ -44,40 +45,45 @@ reported-output file (Ok text) output e = cc
 reported-output file (Err text) output e = cc
 
 -- a run of a system writes no file
-ran-output : (ticks : ℕ) (cores : List PartFile) (scripts : List Output) (system : System) (inputs : List (List ℕ)) (output : Output) → (outcome_of_run ticks cores scripts system inputs).output ≡ Some output → ⊥
+ran-output : (upsets : List UpsetLine) (ticks : ℕ) (cores : List PartFile) (scripts : List Output) (system : System) (inputs : List (List ℕ)) (output : Output) → (outcome_of_run upsets ticks cores scripts system inputs).output ≡ Some output → ⊥
 unfolding outcome_of_run
-ran-output ticks cores scripts system inputs output e = cc
+ran-output upsets ticks cores scripts system inputs output e = cc
 
 -- a run of an image writes no file
 bare-output : (file : List ℕ) (ticks : ℕ) (image : List ℕ) (output : Output) → (bare_outcome file ticks image).output ≡ Some output → ⊥
 unfolding bare_outcome
 bare-output file ticks image output e = at ((length image == 0) || nat_lt IMAGE_BYTES (length image)) e
   where
-    at : (t : Bool) → (if t then command_refused file (length_text (length image)) else outcome_of_run ticks [] [] (bare_system image) (no_inputs 1)).output ≡ Some output → ⊥
+    at : (t : Bool) → (if t then command_refused file (length_text (length image)) else outcome_of_run [] ticks [] [] (bare_system image) (no_inputs 1)).output ≡ Some output → ⊥
     at true e = cc
-    at false e = ran-output ticks [] [] (bare_system image) (no_inputs 1) output e
+    at false e = ran-output [] ticks [] [] (bare_system image) (no_inputs 1) output e
 
 -- a run whose scripts may be too long writes no file
-scripted-output : (ticks : ℕ) (cores : List PartFile) (system : System) (inputs : List (List ℕ)) (scripts : Result (List Output) Denial) (output : Output) → (ran_scripted ticks cores system inputs scripts).output ≡ Some output → ⊥
-scripted-output ticks cores system inputs (Ok scripts) output e = ran-output ticks cores scripts system inputs output e
-scripted-output ticks cores system inputs (Err refusal) output e = cc
+scripted-output : (upsets : List UpsetLine) (ticks : ℕ) (cores : List PartFile) (system : System) (inputs : List (List ℕ)) (scripts : Result (List Output) Denial) (output : Output) → (ran_scripted upsets ticks cores system inputs scripts).output ≡ Some output → ⊥
+scripted-output upsets ticks cores system inputs (Ok scripts) output e = ran-output upsets ticks cores scripts system inputs output e
+scripted-output upsets ticks cores system inputs (Err refusal) output e = cc
+
+-- a run whose upsets may be refused writes no file
+struck-output : (ticks : ℕ) (options : List RunOption) (system : System) (inputs : List (List ℕ)) (read : Result (List UpsetLine) Denial) (output : Output) → (ran_struck ticks options system inputs read).output ≡ Some output → ⊥
+struck-output ticks options system inputs (Ok upsets) output e = scripted-output upsets ticks (cores_in options) system inputs (scripts_for upsets (with_inputs system inputs) ticks (scripts_in options)) output e
+struck-output ticks options system inputs (Err refusal) output e = cc
 
 -- a run that may be too long writes no file
-within-output : (file : List ℕ) (options : List RunOption) (system : System) (inputs : List (List ℕ)) (output : Output) → (ran_within file options system inputs).output ≡ Some output → ⊥
+within-output : (file : List ℕ) (options : List RunOption) (contents : List (List ℕ)) (system : System) (inputs : List (List ℕ)) (output : Output) → (ran_within file options contents system inputs).output ≡ Some output → ⊥
 unfolding ran_within
-within-output file options system inputs output e = at (ticks_asked (span_in options) system.conf) e
+within-output file options contents system inputs output e = at (ticks_asked (span_in options) system.conf) e
   where
-    by : (asked : ℕ) (t : Bool) (scripts : Result (List Output) Denial) → (if t then command_refused file (ticks_text asked) else ran_scripted asked (cores_in options) system inputs scripts).output ≡ Some output → ⊥
-    by asked true scripts e = cc
-    by asked false scripts e = scripted-output asked (cores_in options) system inputs scripts output e
+    by : (asked : ℕ) (t : Bool) → (if t then command_refused file (ticks_text asked) else ran_struck asked options system inputs (upsets_for system.conf asked options contents)).output ≡ Some output → ⊥
+    by asked true e = cc
+    by asked false e = struck-output asked options system inputs (upsets_for system.conf asked options contents) output e
 
-    at : (asked : ℕ) → (ran_for file asked options system inputs).output ≡ Some output → ⊥
-    at asked e = by asked (nat_lt TICKS asked) (scripts_for (with_inputs system inputs) asked (scripts_in options)) e
+    at : (asked : ℕ) → (ran_for file asked options contents system inputs).output ≡ Some output → ⊥
+    at asked e = by asked (nat_lt TICKS asked) e
 
 -- a run whose inputs may be refused writes no file
-with-output : (file : List ℕ) (options : List RunOption) (system : System) (read : Result (List (List ℕ)) Denial) (output : Output) → (ran_with file options system read).output ≡ Some output → ⊥
-with-output file options system (Ok inputs) output e = within-output file options system inputs output e
-with-output file options system (Err refusal) output e = cc
+with-output : (file : List ℕ) (options : List RunOption) (contents : List (List ℕ)) (system : System) (read : Result (List (List ℕ)) Denial) (output : Output) → (ran_with file options contents system read).output ≡ Some output → ⊥
+with-output file options contents system (Ok inputs) output e = within-output file options contents system inputs output e
+with-output file options contents system (Err refusal) output e = cc
 
 -- a run of a container writes no file
 run-output : (file : List ℕ) (options : List RunOption) (bytes : List ℕ) (contents : List (List ℕ)) (output : Output) → (run_outcome file options bytes contents).output ≡ Some output → ⊥
@@ -85,7 +91,7 @@ unfolding run_outcome
 run-output file options bytes contents output e = at (unpacked bytes) e
   where
     at : (read : Result System BoxFault) → (run_by file options contents read).output ≡ Some output → ⊥
-    at (Ok system) e = with-output file options system _ output e
+    at (Ok system) e = with-output file options contents system _ output e
     at (Err fault) e = cc
 
 -- a replay writes no file before its report
