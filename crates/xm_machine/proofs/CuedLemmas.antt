@@ -104,9 +104,9 @@ keeps_counted asked g new goes runs =
     ap (λ (m : Machine). m.ticks) goes.state ∙ ticks_exact goes.done g.state (sym (ap (λ (m : Machine). m.halted) goes.state) ∙ runs)
 
 -- it has reached its end: the hypervisor has halted, or all ticks are done
-pub keeps_out : (asked : ℕ) (g new : Meaning) → KeepsUpTo asked g new → g.state.ticks ≡ 0 → (new.state.halted ≡ false → asked ≤ new.state.ticks)
+pub keeps_out : (asked : ℕ) (g new : Meaning) → KeepsUpTo asked g new → (new.state.halted ≡ false → g.state.ticks + asked ≤ new.state.ticks)
     → new.kept ≡ kept_after g.state asked g.kept
-keeps_out asked g new goes fresh ends = at new.state.halted refl
+keeps_out asked g new goes ends = at new.state.halted refl
   where
     at : (b : Bool) → new.state.halted ≡ b → new.kept ≡ kept_after g.state asked g.kept
     at true halts =
@@ -116,7 +116,7 @@ keeps_out asked g new goes fresh ends = at new.state.halted refl
         ∙ sym (kept_add goes.done (asked - goes.done) g.state g.kept)
         ∙ ap (λ n. kept_after g.state n g.kept) rest
     at false runs =
-        let all : goes.done ≡ asked = omega (arith, keeps_counted asked g new goes runs, fresh, ends runs, goes.within) in
+        let all : goes.done ≡ asked = omega (arith, keeps_counted asked g new goes runs, ends runs, goes.within) in
         goes.kept ∙ ap (λ n. kept_after g.state n g.kept) all
 
 -- what is kept after ticks gives a partition the last cue of its script

@@ -212,13 +212,13 @@ halted_run g new done ticks printed had got are halts within =
     }
 
 -- the run has reached its end: the hypervisor has halted, or all ticks are done
-pub goes_out : (printed ticks : ℕ) (g new : Machine) (had got : Option (List ℕ)) → Goes printed ticks g new had got → g.ticks ≡ 0 → (new.halted ≡ false → ticks ≤ new.ticks) → AreRun ticks printed g new had got
-goes_out printed ticks g new had got goes fresh ends = at new.halted refl
+pub goes_out : (printed ticks : ℕ) (g new : Machine) (had got : Option (List ℕ)) → Goes printed ticks g new had got → (new.halted ≡ false → g.ticks + ticks ≤ new.ticks) → AreRun ticks printed g new had got
+goes_out printed ticks g new had got goes ends = at new.halted refl
   where
     at : (b : Bool) → new.halted ≡ b → AreRun ticks printed g new had got
     at true halts = halted_run g new goes.done ticks printed had got goes.are halts goes.within
     at false runs =
-        let all : goes.done ≡ ticks = omega (arith, counted printed ticks g new had got goes runs, fresh, ends runs, goes.within) in
+        let all : goes.done ≡ ticks = omega (arith, counted printed ticks g new had got goes runs, ends runs, goes.within) in
         subst (λ (n : ℕ). AreRun n printed g new had got) all goes.are
 
 -- what a run has still to do: ticks, and to halt

@@ -232,7 +232,7 @@ lines_runs g uart runs =
     ∙ silent_after f a b (none_said f (order_lines g h) g.parts (λ p ps. orders_silent g h uart p ps))
 
 -- a machine that has halted says nothing
-console_halted : (g : Machine) (uart : ℕ) → g.halted ≡ true → step_console g uart ≡ []
+pub console_halted : (g : Machine) (uart : ℕ) → g.halted ≡ true → step_console g uart ≡ []
 unfolding step_console step_said
 console_halted g uart halts =
     none_of (λ p ps. if has_console g uart p then step_said g p else []) g.parts

@@ -10,5 +10,7 @@ pub mod RangeLemmas
 pub mod SaidLemmas
 pub mod SpanLemmas
 pub mod StretchLemmas
+pub mod StruckLemmas
+pub mod StruckWholeLemmas
 pub mod UpsetLemmas
 pub mod WholeLemmas

@@ -8,5 +8,6 @@ pub mod Outcome
 pub mod Spans
 pub mod Steps
 pub mod Stretch
+pub mod Striking
 pub mod Struck
 pub mod lemmas

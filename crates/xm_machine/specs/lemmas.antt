@@ -7,3 +7,5 @@ pub mod ScriptLemmas
 pub mod SpansTerms
 pub mod StepsTerms
 pub mod StretchTerms
+pub mod StrikingLemmas
+pub mod StruckTerms

@@ -1,17 +1,20 @@
 //! The machine: it boots, and does its ticks one by one.
 
-ghost use Rattle.std.specs.Prelude.{◌≡◌, ◌+◌, ◌-◌, ◌*◌, ◌<◌, ◌≤◌, ◌∷◌, ◌++◌, [], false, true, All, IfOk, length, replicate};
+ghost use Rattle.std.specs.Prelude.{◌≡◌, ◌+◌, ◌-◌, ◌*◌, ◌<◌, ◌≤◌, ◌∷◌, ◌++◌, [], false, All, IfOk, length, map, replicate};
 ghost use Rattle.cyclic_plans.specs.PlanClock.{started};
 ghost use Rattle.system_state.specs.State.{with_inputs};
 ghost use Rattle.core_files.specs.Length.{core_length_of};
 ghost use Rattle.machine_model.specs.CoreFile.{core_file};
 ghost use Rattle.machine_model.specs.Lines.{console, end_lines};
-ghost use Rattle.machine_model.specs.Machine.{start};
+ghost use Rattle.machine_model.specs.Machine.{run, start};
 ghost use Rattle.machine_model.specs.Partition.{reset};
 ghost use Rattle.machine_model.specs.Emission.{AllReset};
 ghost use Rattle.machine_model.specs.View.{view_of};
 ghost use Rattle.span_model.specs.Passes.{evented, part_at, with_part};
-ghost use Rattle.upset_model.specs.Places.{is_place, upset_of};
+ghost use Rattle.upset_files.specs.Fits.{AllFit};
+ghost use Rattle.upset_model.specs.Coming.{AreOrdered};
+ghost use Rattle.upset_model.specs.Places.{Timetable, due, upset_of};
+ghost use Rattle.upset_model.specs.lemmas.Segments.{AreNoneLater};
 ghost use Rattle.upset_model.specs.Upsets.{ready};
 ghost use Rattle.uart_board.specs.Heard.{IsHeard};
 ghost use Rattle.replay_model.specs.Step.{IsOfSystem};
@@ -32,6 +35,9 @@ ghost use Rattle.xm_machine.specs.lemmas.StepsTerms.{RunsTicks, Prints};
 ghost use Rattle.xm_machine.specs.lemmas.StretchTerms.{AreAllOfStretch, KeepsStepped, Steps};
 ghost use Rattle.xm_machine.specs.Spans.{ReceiveSpan, ReceivesInRanges, Spans};
 ghost use Rattle.xm_machine.specs.lemmas.SpansTerms.{span_left};
+ghost use Rattle.xm_machine.specs.lemmas.StruckTerms.{HasCounted, RunsStruck};
+ghost use Rattle.xm_machine.specs.Striking.{MayStrike};
+ghost use Rattle.xm_machine.specs.Struck.{IsStruckRun};
 ghost use Rattle.xm_machine.specs.Stretch.{Stretches, StretchesAlone, StretchesCued, left_of};
 ghost use Rattle.xm_ports.specs.Channels.{shapes_of};
 ghost use Rattle.xm_report.specs.Report.{line_value};
@@ -41,7 +47,7 @@ use crate::report::{end_parts, print_alone, print_tick};
 use crate::run::Ran;
 use crate::said::Said;
 use crate::stretch::{Stepped, ends_stretch, stepped_by};
-use crate::upset::strike;
+use crate::upset::{put_struck, strike_all};
 use core_files::{core_into, core_length};
 use cyclic_plans::{Here, PlanClock};
 use hypercalls::{Inputs, Sys};
@@ -56,7 +62,8 @@ use std::alloc::Global;
 use std::marker::Model;
 use tick_steps::{Cue, Lines, reset};
 use uart_board::{Board, ViewBoard};
-use upset_model::UpsetLine;
+use upset_files::places_are_spelled;
+use upset_model::{Coming, UpsetLine};
 use xm_base::{Memory, Mode, PartId, TICKS, proof};
 use xm_outside::Sink;
 use xm_ports::Channels;
@@ -332,6 +339,46 @@ impl Machine {
         })
     }
 
+    /// The run of this many ticks with the upsets of a file, as `run`, and with a line for each upset that strikes, before the lines of its
+    /// tick. After `WriteFault` at such a line the upsets of that tick have not struck.
+    pub fn run_struck<O: Sink>(
+        &mut self,
+        ticks: u64,
+        upsets: &[UpsetLine],
+        out: &mut O,
+        board: &mut Board,
+    ) -> Result<Ran, WriteFault>
+        // Called at tick 0, on a machine that has not halted, and for at most the limit of ticks,
+        requires fresh { self.old.state.ticks ≡ 0 }
+        requires running { self.old.state.halted ≡ false }
+        requires most { ticks ≤ TICKS }
+        // and with upsets that fit the system and this many ticks, in the order of their ticks.
+        requires fit { AllFit self.old.state.system.conf ticks 0 upsets.now }
+        // A run with upsets: the state is that of as many defined steps, before each of which the upsets of its tick strike,
+        // and the whole report of the definitions went out; `Ran` has its ticks, fewer than asked exactly where the
+        // hypervisor halted, its lines and whether it halted; after `WriteFault` a prefix of the report, the current tick
+        // done and no later one. The state, the report and what each UART of the board got are those of one number of
+        // ticks.
+        ensures run { IsStruckRun result upsets.now ticks self.old.state self.new.state (O.got out.old) (O.got out.new) (⟦<Board as ViewBoard>⟧.board_view board.old) (⟦<Board as ViewBoard>⟧.board_view board.new) }
+        // `WriteFault` comes only where the sink's count rose, and nothing else moves it.
+        ensures cause { HasWriteCause result (O.faults out.old) (O.faults out.new) }
+        // No counter wraps but those of resets.
+        ensures counters { IsCounted self.new.state }
+    {
+        proof! {
+            keeps_numbers();
+            places_are_spelled();
+        }
+        put_line(out, &first_line(&self.sys, ticks))?;
+        let reported = self.struck_ticks(ticks, upsets, out, board)?;
+        let ended = self.end(out)?;
+        Ok(Ran {
+            ticks: self.done(),
+            halted: self.halted(),
+            lines: 1 + reported + ended,
+        })
+    }
+
     /// One tick of partition `p` in isolation: it does its own work, and receives by the cue what others did. Its lines go out, and
     /// its console bytes go to their UART. `Cue` comes where the partition cannot take the cue, and then another tick or a part of one was
     /// done; after `Write` the tick was done whole. What the other partitions do, and the plan, is left open.
@@ -473,20 +520,19 @@ impl Machine {
         self.sys.set_now(0);
     }
 
-    /// The upset of a line strikes, unless the hypervisor has halted: the bit of the place of the partition flips.
-    pub fn upset(&mut self, line: UpsetLine)
-        // Called for a partition that exists, and for a bit that it has and where it may be struck.
-        requires partition { line.part < length self.old.state.parts }
-        requires place { is_place (view_of self.old.state.system line.part) line.place line.bit ≡ true }
-        // The machine is as a tick finds it before which this upset strikes: the bit flips, and nothing else changes; one
+    /// The upsets of these lines strike one after the other, unless the hypervisor has halted: the bit of the place of the partition flips.
+    pub fn strike(&mut self, lines: &[UpsetLine])
+        // Called for partitions that exist, and for bits that they have and where they may be struck.
+        requires { All (MayStrike self.old.state) lines.now }
+        // The machine is as a tick finds it before which these upsets strike: the bits flip, and nothing else changes; one
         // that has halted is not struck.
-        ensures state { self.new.state ≡ ready (upset_of line ∷ []) self.old.state }
+        ensures state { self.new.state ≡ ready (map upset_of lines.now) self.old.state }
         // An upset keeps what the last tick left to be asked for,
         ensures kept { self.new.kept ≡ self.old.kept }
         // and the console bytes of the last ticks in isolation.
         ensures said { self.new.said ≡ self.old.said }
     {
-        strike(&mut self.sys, line);
+        strike_all(&mut self.sys, lines);
     }
 
     // At most this many ticks, up to the first that emits something. Its lines go out, and its console bytes go to their UART.
@@ -567,16 +613,15 @@ impl Machine {
         Ok(Stepped { ticks, lines, ends })
     }
 
-    // Ticks up to this many in all, or to the one in which the hypervisor halts, and how many lines they printed.
+    // This many ticks more, or those up to the one in which the hypervisor halts, and how many lines they printed.
     fn run_ticks<O: Sink>(
         &mut self,
         ticks: u64,
         out: &mut O,
         board: &mut Board,
     ) -> Result<u64, WriteFault>
-        requires fresh { self.old.state.ticks ≡ 0 }
         requires running { self.old.state.halted ≡ false }
-        requires most { ticks ≤ TICKS }
+        requires most { self.old.state.ticks + ticks ≤ TICKS }
         ensures run { RunsTicks result ticks self.old.state self.new.state (O.got out.old) (O.got out.new) }
         ensures kept { KeepsTicks result ticks self.old self.new }
         ensures few { IfOk result (λ printed. printed ≤ 41 * ticks) }
@@ -585,13 +630,70 @@ impl Machine {
         ensures counters { IsCounted self.new.state }
     {
         proof! { keeps_numbers(); }
+        let end = self.sys.ticks() + ticks;
         let mut printed = 0;
-        while !self.sys.halted() && self.sys.ticks() < ticks {
-            let left = ticks - self.sys.ticks();
+        while !self.sys.halted() && self.sys.ticks() < end {
+            let left = end - self.sys.ticks();
             let next = self.step(left, out, board)?;
             printed += next.lines;
         }
         Ok(printed)
+    }
+
+    // Ticks up to this many in all, or to the one in which the hypervisor halts, with these upsets, and how many lines were printed.
+    fn struck_ticks<O: Sink>(
+        &mut self,
+        ticks: u64,
+        upsets: &[UpsetLine],
+        out: &mut O,
+        board: &mut Board,
+    ) -> Result<u64, WriteFault>
+        requires fresh { self.old.state.ticks ≡ 0 }
+        requires running { self.old.state.halted ≡ false }
+        requires most { ticks ≤ TICKS }
+        requires strike { All (MayStrike self.old.state) upsets.now }
+        requires ordered { AreOrdered 0 upsets.now }
+        ensures run { RunsStruck result (due upsets.now) ticks self.old.state self.new.state (O.got out.old) (O.got out.new) (⟦<Board as ViewBoard>⟧.board_view board.old) (⟦<Board as ViewBoard>⟧.board_view board.new) }
+        ensures counted { IfOk result (λ printed. HasCounted ticks self.new.state) }
+        ensures few { IfOk result (λ printed. printed ≤ 41 * ticks + length upsets.now) }
+        ensures cause { HasWriteCause result (O.faults out.old) (O.faults out.new) }
+        ensures counters { IsCounted self.new.state }
+    {
+        proof! { keeps_numbers(); }
+        let mut coming = Coming::new(upsets);
+        let mut printed = 0;
+        while !self.sys.halted() && self.sys.ticks() < ticks {
+            let begun = self.sys.ticks();
+            let now = coming.due(begun);
+            let count = coming.next(ticks) - begun;
+            printed += self.struck_piece(now, count, out, board)?;
+        }
+        Ok(printed)
+    }
+
+    // These upsets strike, each with its line, and then this many ticks are done, or those up to the one in which the hypervisor halts.
+    fn struck_piece<O: Sink>(
+        &mut self,
+        upsets: &[UpsetLine],
+        ticks: u64,
+        out: &mut O,
+        board: &mut Board,
+    ) -> Result<u64, WriteFault>
+        requires running { self.old.state.halted ≡ false }
+        requires some { 0 < ticks }
+        requires most { self.old.state.ticks + ticks ≤ TICKS }
+        requires strike { All (MayStrike self.old.state) upsets.now }
+        ensures run { (t : Timetable) → t 0 ≡ upsets.now → AreNoneLater ticks t → RunsStruck result t ticks self.old.state self.new.state (O.got out.old) (O.got out.new) (⟦<Board as ViewBoard>⟧.board_view board.old) (⟦<Board as ViewBoard>⟧.board_view board.new) }
+        ensures state { IfOk result (λ printed. self.new.state ≡ run (ready (map upset_of upsets.now) self.old.state) ticks) }
+        ensures few { IfOk result (λ printed. printed ≤ 41 * ticks + length upsets.now) }
+        ensures cause { HasWriteCause result (O.faults out.old) (O.faults out.new) }
+        ensures counters { IsCounted self.new.state }
+    {
+        proof! { let _ = &self.sys; }
+        let struck = put_struck(out, upsets)?;
+        self.strike(upsets);
+        let done = self.run_ticks(ticks, out, board)?;
+        Ok(struck + done)
     }
 
     // The lines of the end, and how many they are.
