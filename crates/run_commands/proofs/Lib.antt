@@ -2,4 +2,5 @@ pub mod NumberLemmas
 pub mod ReadyLemmas
 pub mod RunLemmas
 pub mod ScriptLemmas
+pub mod StrikingLemmas
 pub mod WorkLemmas

@@ -6,7 +6,8 @@ use Rattle.command_line.specs.Words.{PartFile, RunOption}
 use Rattle.file_commands.specs.lemmas.CommandLemmas.{refused_outcome}
 use Rattle.file_commands.specs.Denial.{Denial}
 use Rattle.file_commands.specs.Ending.{Ending, Done, Usage, ReadFault, Refused, WriteFaultReport, WriteFaultFile, UartFault, NoMemory}
-use Rattle.file_commands.specs.Outcome.{Outcome, Output, ran_scripted, ran_with}
+use Rattle.upset_model.specs.declared.upset_line.UpsetLine.{UpsetLine}
+use Rattle.file_commands.specs.Outcome.{Outcome, Output, ran_scripted, ran_struck, ran_with}
 use Rattle.file_commands.specs.lemmas.EndingValuesTerms.{IsDenied}
 use Rattle.file_commands.specs.lemmas.WorkTerms.{HasOutcome}
 use Rattle.file_commands.specs.Work.{Outside}
@@ -15,26 +16,37 @@ use Rattle.run_commands.specs.Numbers.{HasScripts}
 use Rattle.run_commands.specs.lemmas.ReadyRuns.{IsRefusing}
 
 -- because of its input words
-pub inputs_refuse : (e : Ending) (file : List ℕ) (options : List RunOption) (system : System) (made : Result (List (List ℕ)) Denial) → IsDenied e made → IsRefusing e (ran_with file options system made)
-inputs_refuse Done file options system made denied = absurd denied
-inputs_refuse Usage file options system made denied = absurd denied
-inputs_refuse (ReadFault other) file options system made denied = absurd denied
-inputs_refuse (Refused other text) file options system made denied = ap (ran_with file options system) denied
-inputs_refuse WriteFaultReport file options system made denied = absurd denied
-inputs_refuse (WriteFaultFile other) file options system made denied = absurd denied
-inputs_refuse (UartFault place) file options system made denied = absurd denied
-inputs_refuse NoMemory file options system made denied = tt
+pub inputs_refuse : (e : Ending) (file : List ℕ) (options : List RunOption) (contents : List (List ℕ)) (system : System) (made : Result (List (List ℕ)) Denial) → IsDenied e made → IsRefusing e (ran_with file options contents system made)
+inputs_refuse Done file options contents system made denied = absurd denied
+inputs_refuse Usage file options contents system made denied = absurd denied
+inputs_refuse (ReadFault other) file options contents system made denied = absurd denied
+inputs_refuse (Refused other text) file options contents system made denied = ap (ran_with file options contents system) denied
+inputs_refuse WriteFaultReport file options contents system made denied = absurd denied
+inputs_refuse (WriteFaultFile other) file options contents system made denied = absurd denied
+inputs_refuse (UartFault place) file options contents system made denied = absurd denied
+inputs_refuse NoMemory file options contents system made denied = tt
+
+-- because of its upsets
+pub upsets_refuse : (e : Ending) (ticks : ℕ) (options : List RunOption) (system : System) (inputs : List (List ℕ)) (made : Result (List UpsetLine) Denial) → IsDenied e made → IsRefusing e (ran_struck ticks options system inputs made)
+upsets_refuse Done ticks options system inputs made denied = absurd denied
+upsets_refuse Usage ticks options system inputs made denied = absurd denied
+upsets_refuse (ReadFault other) ticks options system inputs made denied = absurd denied
+upsets_refuse (Refused other text) ticks options system inputs made denied = ap (ran_struck ticks options system inputs) denied
+upsets_refuse WriteFaultReport ticks options system inputs made denied = absurd denied
+upsets_refuse (WriteFaultFile other) ticks options system inputs made denied = absurd denied
+upsets_refuse (UartFault place) ticks options system inputs made denied = absurd denied
+upsets_refuse NoMemory ticks options system inputs made denied = tt
 
 -- because of a script
-pub scripts_refuse : (e : Ending) (ticks : ℕ) (cores : List PartFile) (system : System) (inputs : List (List ℕ)) (made : Result (List Output) Denial) → IsDenied e made → IsRefusing e (ran_scripted ticks cores system inputs made)
-scripts_refuse Done ticks cores system inputs made denied = absurd denied
-scripts_refuse Usage ticks cores system inputs made denied = absurd denied
-scripts_refuse (ReadFault other) ticks cores system inputs made denied = absurd denied
-scripts_refuse (Refused other text) ticks cores system inputs made denied = ap (ran_scripted ticks cores system inputs) denied
-scripts_refuse WriteFaultReport ticks cores system inputs made denied = absurd denied
-scripts_refuse (WriteFaultFile other) ticks cores system inputs made denied = absurd denied
-scripts_refuse (UartFault place) ticks cores system inputs made denied = absurd denied
-scripts_refuse NoMemory ticks cores system inputs made denied = tt
+pub scripts_refuse : (e : Ending) (upsets : List UpsetLine) (ticks : ℕ) (cores : List PartFile) (system : System) (inputs : List (List ℕ)) (made : Result (List Output) Denial) → IsDenied e made → IsRefusing e (ran_scripted upsets ticks cores system inputs made)
+scripts_refuse Done upsets ticks cores system inputs made denied = absurd denied
+scripts_refuse Usage upsets ticks cores system inputs made denied = absurd denied
+scripts_refuse (ReadFault other) upsets ticks cores system inputs made denied = absurd denied
+scripts_refuse (Refused other text) upsets ticks cores system inputs made denied = ap (ran_scripted upsets ticks cores system inputs) denied
+scripts_refuse WriteFaultReport upsets ticks cores system inputs made denied = absurd denied
+scripts_refuse (WriteFaultFile other) upsets ticks cores system inputs made denied = absurd denied
+scripts_refuse (UartFault place) upsets ticks cores system inputs made denied = absurd denied
+scripts_refuse NoMemory upsets ticks cores system inputs made denied = tt
 
 -- then nothing is done
 pub refusing_outcome : (e : Ending) (outcome : Outcome) (before : Outside) → IsRefusing e outcome → HasOutcome e outcome before before

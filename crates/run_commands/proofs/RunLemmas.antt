@@ -1,26 +1,36 @@
 -- What is recorded in a run, span by span.
 use Rattle.std.proofs.Common.{◌≡◌, ◌≢◌, ℕ, zero, suc, ◌+◌, ◌-◌, ◌<◌, ◌≤◌, Bool, true, false, not, List, [], ◌∷◌, ◌++◌, length, map, get_or, set, replicate, All, IfOk, OnOk, Option, Some, None, Result, Ok, Err, refl, sym, ap, subst, ◌∙◌, arith, below_more, get_or-set_other, get_or-set_same}
 use Rattle.std.specs.List.{AllByRecursion}
+use Rattle.std.specs.Prelude.{◌==◌, if◌then◌else◌}
+use Rattle.std.proofs.lemmas.List.Elements.{All-cons, All-head, All-nil, All-tail}
 use Rattle.std.proofs.lemmas.List.{get_or-map, length-map, replicate_more}
-use Rattle.machine_model.specs.Cue.{Cue, cue, script, script_unless}
+use Rattle.machine_model.specs.Cue.{Cue, script}
 use Rattle.loaded_system.specs.System.{System}
+use Rattle.xm_conf.specs.Configuration.{Conf}
+use Rattle.upset_files.specs.Fits.{AllFit, FitsRun}
+use Rattle.upset_files.specs.Laws.{UpsetsMayStrike}
 use Rattle.machine_model.specs.Facts.{BootsComplete, RunsKeepNumbers}
-use Rattle.machine_model.specs.Machine.{Machine, run, start, step}
-use Rattle.machine_model.specs.View.{System as Booted}
-use Rattle.span_model.specs.lemmas.RunLemmas.{run_add}
+use Rattle.machine_model.specs.Machine.{Machine, run, start}
+use Rattle.machine_model.specs.View.{System as Booted, view_of}
+use Rattle.upset_model.specs.Coming.{AreOrdered}
+use Rattle.upset_model.specs.Places.{due, is_place, schedule_of, upset_of}
+use Rattle.upset_model.specs.Upsets.{Schedule, ready, upset_run, upset_script}
+use Rattle.upset_model.specs.declared.upset_line.UpsetLine.{UpsetLine}
+use Rattle.upset_model.specs.lemmas.ComingLemmas.{ordered_from}
+use Rattle.upset_model.specs.lemmas.Segments.{ready_ticks}
 use Rattle.system_state.specs.State.{with_inputs}
-use Rattle.tick_steps.specs.lemmas.KeptLemmas.{ticks_most}
 use Rattle.cue_scripts.specs.Entries.{bare_cue, is_away, is_bare, plain_kind}
 use Rattle.cue_scripts.specs.Spelling.{script_text}
 use Rattle.cue_scripts.specs.Written.{IsScriptFile, IsWritten, Written, closed_by, entry_closed, is_open, plain_repeated, repeated_by, with_alike, with_cue, with_script_entry}
 use Rattle.fault_messages.specs.declared.fault.ScriptFault.{ScriptFault}
 use Rattle.recording_model.specs.Receiving.{HasNumbers}
 use Rattle.run_commands.specs.declared.recording.Recording.{Recording}
-use Rattle.run_commands.specs.lemmas.Recordings.{HasReceived, IsRecorded}
+use Rattle.run_commands.specs.lemmas.Recordings.{IsRecorded, ReceivesMore}
+use Rattle.run_commands.specs.lemmas.StruckRuns.{quiet_script, ready_parts, segment_run, segment_script, struck_ends, struck_few, struck_numbered, struck_ticks}
 use Rattle.xm_machine.specs.Cues.{last_received}
 use Rattle.xm_machine.specs.Machine.{Meaning}
+use Rattle.xm_machine.specs.Striking.{MayStrike}
 use Rattle.xm_machine.specs.Spans.{ReceiveSpan, span_cues}
-use Rattle.xm_machine.specs.lemmas.ScriptLemmas.{script_add, script_ends}
 
 -- numbers of cues, and then of others
 both_numbered : (cues more : List Cue) → AllByRecursion HasNumbers cues → AllByRecursion HasNumbers more → AllByRecursion HasNumbers (cues ++ more)
@@ -86,30 +96,29 @@ span_numbered : (ticks : ℕ) (last : Cue) → HasNumbers last → AllByRecursio
 span_numbered ticks last has = both_numbered (replicate (ticks - 1) (bare_cue (not (is_away last.mine)))) (last ∷ []) (alike_numbered (ticks - 1) (not (is_away last.mine))) (has, tt)
 
 -- a recording with a span more
-span_recorded : (g : Machine) (done ticks : ℕ) (now : Meaning) (old new : Recording) → HasReceived ticks (run g done) now → old.p < length now.state.parts → new.p ≡ old.p
+span_recorded : (s : Schedule) (g : Machine) (done ticks : ℕ) (now : Meaning) (old new : Recording) → ReceivesMore s g done ticks now → old.p < length now.state.parts → new.p ≡ old.p
     → ((cues : List Cue) → IsWritten cues old.writer → IsWritten (cues ++ span_cues ticks (last_received now old.p)) new.writer) → HasNumbers (last_received now old.p)
-    → IsRecorded g done old → IsRecorded g (done + ticks) new
-span_recorded g done ticks now old new received there same adds has is =
-    let all : script g old.p done ++ span_cues ticks (last_received now old.p) ≡ script g old.p (done + ticks) =
-    ap (λ cues. script g old.p done ++ cues) (sym (received old.p there)) ∙ sym (script_add done ticks g old.p) in
+    → IsRecorded s g done old → IsRecorded s g (done + ticks) new
+span_recorded s g done ticks now old new received there same adds has is =
+    let all : upset_script s g old.p done ++ span_cues ticks (last_received now old.p) ≡ upset_script s g old.p (done + ticks) = sym (received old.p there) in
     record {
-      written = subst (λ p. IsWritten (script g p (done + ticks)) new.writer) (sym same) (subst (λ cues. IsWritten cues new.writer) all (adds (script g old.p done) is.written));
-      numbers = subst (λ p. AllByRecursion HasNumbers (script g p (done + ticks))) (sym same)
-          (subst (AllByRecursion HasNumbers) all (both_numbered (script g old.p done) (span_cues ticks (last_received now old.p)) is.numbers (span_numbered ticks (last_received now old.p) has)));
+      written = subst (λ p. IsWritten (upset_script s g p (done + ticks)) new.writer) (sym same) (subst (λ cues. IsWritten cues new.writer) all (adds (upset_script s g old.p done) is.written));
+      numbers = subst (λ p. AllByRecursion HasNumbers (upset_script s g p (done + ticks))) (sym same)
+          (subst (AllByRecursion HasNumbers) all (both_numbered (upset_script s g old.p done) (span_cues ticks (last_received now old.p)) is.numbers (span_numbered ticks (last_received now old.p) has)));
     }
 
 -- the first `count` recordings have this span, and the others are as they were
 pub record AreSpanned (ticks : ℕ) (now : Meaning) (count : ℕ) (old new : List Recording) : Type 0 where
   pub parts : map (λ recording. recording.p) new ≡ map (λ recording. recording.p) old
   pub rest : (k : ℕ) (d : Recording) → count ≤ k → get_or new k d ≡ get_or old k d
-  pub spanned : (g : Machine) (done : ℕ) → HasReceived ticks (run g done) now → All (IsRecorded g done) old → (k : ℕ) → k < count → (d : Recording) → IsRecorded g (done + ticks) (get_or new k d)
+  pub spanned : (s : Schedule) (g : Machine) (done : ℕ) → ReceivesMore s g done ticks now → All (IsRecorded s g done) old → (k : ℕ) → k < count → (d : Recording) → IsRecorded s g (done + ticks) (get_or new k d)
 
 -- none has it
 pub none_spanned : (ticks : ℕ) (now : Meaning) (recordings : List Recording) → AreSpanned ticks now 0 recordings recordings
 none_spanned ticks now recordings = record {
   parts = refl;
   rest = λ k d above. refl;
-  spanned = λ g done received all k below d. absurd (omega (arith, below));
+  spanned = λ s g done received all k below d. absurd (omega (arith, below));
 }
 
 -- a recording that replaces another is of the same partition
@@ -129,13 +138,13 @@ one_spanned ticks now count old new d this next last below long is here inside r
     record {
       parts = same_parts new count d next (same ∙ ap (λ (recording : Recording). recording.p) here) ∙ is.parts;
       rest = λ k e above. let other : k ≢ count = omega (arith, above) in let past : count ≤ k = omega (arith, above) in get_or-set_other new count k next e other ∙ is.rest k e past;
-      spanned = λ g done spans all.
+      spanned = λ s g done spans all.
           below_more _ _
-          (λ k less e. let other : k ≢ count = omega (arith, less) in subst (IsRecorded g (done + ticks)) (sym (get_or-set_other new count k next e other)) (is.spanned g done spans all k less e))
+          (λ k less e. let other : k ≢ count = omega (arith, less) in subst (IsRecorded s g (done + ticks)) (sym (get_or-set_other new count k next e other)) (is.spanned s g done spans all k less e))
           (λ e.
-          subst (IsRecorded g (done + ticks)) (sym (get_or-set_same new count next e within))
-          (span_recorded g done ticks now this next spans there same (λ cues written. subst (λ cue. IsWritten (cues ++ span_cues ticks cue) next.writer) received (adds cues written)) (subst HasNumbers received has)
-          (subst (IsRecorded g done) (sym before) (all count d below))));
+          subst (IsRecorded s g (done + ticks)) (sym (get_or-set_same new count next e within))
+          (span_recorded s g done ticks now this next spans there same (λ cues written. subst (λ cue. IsWritten (cues ++ span_cues ticks cue) next.writer) received (adds cues written)) (subst HasNumbers received has)
+          (subst (IsRecorded s g done) (sym before) (all count d below))));
     }
 
 -- a recording that is not whole is of the same partition
@@ -145,8 +154,8 @@ parts_kept ticks now count old new d this next is here same = same_parts new cou
 
 -- all have it
 pub all_spanned : (ticks : ℕ) (now : Meaning) (count : ℕ) (old new : List Recording) → length new ≤ count → AreSpanned ticks now count old new
-    → (g : Machine) (done : ℕ) → HasReceived ticks (run g done) now → All (IsRecorded g done) old → All (IsRecorded g (done + ticks)) new
-all_spanned ticks now count old new whole is g done received all = λ k d within. is.spanned g done received all k (omega (arith, within, whole)) d
+    → (s : Schedule) (g : Machine) (done : ℕ) → ReceivesMore s g done ticks now → All (IsRecorded s g done) old → All (IsRecorded s g (done + ticks)) new
+all_spanned ticks now count old new whole is s g done received all = λ k d within. is.spanned s g done received all k (omega (arith, within, whole)) d
 
 -- what holds of each partition of recordings holds of those of others of the same partitions
 parts_hold : (P : ℕ → Type 0) (old new : List Recording) → map (λ recording. recording.p) new ≡ map (λ recording. recording.p) old → All (λ recording. P recording.p) old → All (λ recording. P recording.p) new
@@ -156,45 +165,55 @@ parts_hold P old new same all = λ k d within.
     subst P (sym (get_or-map (λ recording. recording.p) old k d d.p there) ∙ ap (λ parts. get_or parts k d.p) (sym same) ∙ get_or-map (λ recording. recording.p) new k d d.p within) (all k d there)
 
 -- this many of the ticks asked were done, and what partitions received in them is recorded
-pub record AreRecorded (g : Machine) (asked done : ℕ) (now : Machine) (first recordings : List Recording) : Type 0 where
+pub record AreRecorded (s : Schedule) (g : Machine) (asked done : ℕ) (now : Machine) (first recordings : List Recording) : Type 0 where
   pub within : done ≤ asked
-  pub state : now ≡ run g done
+  pub state : now ≡ upset_run s g done
   pub parts : map (λ recording. recording.p) recordings ≡ map (λ recording. recording.p) first
-  pub recorded : All (IsRecorded g done) recordings
+  pub recorded : All (IsRecorded s g done) recordings
 
 -- none is done
-pub none_recorded : (g : Machine) (asked : ℕ) (now : Machine) (recordings : List Recording) → now ≡ g → All (λ recording. IsWritten [] recording.writer) recordings → AreRecorded g asked 0 now recordings recordings
-none_recorded g asked now recordings same empty = record {
+pub none_recorded : (s : Schedule) (g : Machine) (asked : ℕ) (now : Machine) (recordings : List Recording) → now ≡ g → All (λ recording. IsWritten [] recording.writer) recordings → AreRecorded s g asked 0 now recordings recordings
+none_recorded s g asked now recordings same empty = record {
   within = omega arith;
   state = same;
   parts = refl;
   recorded = λ k d within. record { written = empty k d within; numbers = tt };
 }
 
+-- upsets strike before the next ticks, and none in them
+pub record IsNext (s : Schedule) (done ticks : ℕ) (now next : Machine) : Type 0 where
+  pub some : 0 < ticks
+  pub struck : next ≡ ready (s done) now
+  pub quiet : (k : ℕ) → done < k → k < done + ticks → s k ≡ []
+
 -- a span more
-pub more_recorded : (g : Machine) (asked done ticks : ℕ) (now : Machine) (next : Meaning) (first old new : List Recording) → done < asked → ticks ≤ asked - done → AreRecorded g asked done now first old
-    → next.state ≡ run now ticks → map (λ recording. recording.p) new ≡ map (λ recording. recording.p) old
-    → ((g : Machine) (done : ℕ) → HasReceived ticks (run g done) next → All (IsRecorded g done) old → All (IsRecorded g (done + ticks)) new) → HasReceived ticks now next → AreRecorded g asked (done + ticks) next.state first new
-more_recorded g asked done ticks now next first old new below few is goes same spanned received = record {
-  within = omega (arith, below, few);
-  state = goes ∙ ap (λ (m : Machine). run m ticks) is.state ∙ sym (run_add g done ticks);
-  parts = same ∙ is.parts;
-  recorded = spanned g done (subst (λ (m : Machine). HasReceived ticks m next) is.state received) is.recorded;
-}
+pub more_recorded : (s : Schedule) (g : Machine) (asked done ticks : ℕ) (now struck : Machine) (next : Meaning) (first old new : List Recording) → ticks ≤ asked - done → IsNext s done ticks now struck
+    → AreRecorded s g asked done now first old → next.state ≡ run struck ticks → map (λ recording. recording.p) new ≡ map (λ recording. recording.p) old
+    → ((s : Schedule) (g : Machine) (done : ℕ) → ReceivesMore s g done ticks next → All (IsRecorded s g done) old → All (IsRecorded s g (done + ticks)) new)
+    → ((p : ℕ) → p < length next.state.parts → script struck p ticks ≡ span_cues ticks (last_received next p)) → AreRecorded s g asked (done + ticks) next.state first new
+more_recorded s g asked done ticks now struck next first old new few comes is goes same spanned received =
+    let begins : struck ≡ ready (s done) (upset_run s g done) = comes.struck ∙ ap (ready (s done)) is.state in
+    record {
+      within = omega (arith, few, is.within);
+      state = goes ∙ ap (λ (m : Machine). run m ticks) begins ∙ sym (segment_run done ticks s g comes.some comes.quiet);
+      parts = same ∙ is.parts;
+      recorded = spanned s g done
+          (λ p there. segment_script done ticks s g p comes.some comes.quiet ∙ ap (λ cues. upset_script s g p done ++ cues) (ap (λ (m : Machine). script m p ticks) (sym begins) ∙ received p there)) is.recorded;
+    }
 
 -- all are done
-pub all_recorded : (g : Machine) (asked done : ℕ) (now : Machine) (first recordings : List Recording) → asked ≤ done → AreRecorded g asked done now first recordings → All (IsRecorded g asked) recordings
-all_recorded g asked done now first recordings enough is =
+pub all_recorded : (s : Schedule) (g : Machine) (asked done : ℕ) (now : Machine) (first recordings : List Recording) → asked ≤ done → AreRecorded s g asked done now first recordings → All (IsRecorded s g asked) recordings
+all_recorded s g asked done now first recordings enough is =
     let same : done ≡ asked = omega (arith, enough, is.within) in
-    subst (λ n. All (IsRecorded g n) recordings) same is.recorded
+    subst (λ n. All (IsRecorded s g n) recordings) same is.recorded
 
 -- the hypervisor has halted
-pub halt_recorded : (g : Machine) (asked done : ℕ) (now : Machine) (first recordings : List Recording) → now.halted ≡ true → AreRecorded g asked done now first recordings → All (IsRecorded g asked) recordings
-halt_recorded g asked done now first recordings halts is = λ k d within. whole (get_or recordings k d) (is.recorded k d within)
+pub halt_recorded : (s : Schedule) (g : Machine) (asked done : ℕ) (now : Machine) (first recordings : List Recording) → now.halted ≡ true → AreRecorded s g asked done now first recordings → All (IsRecorded s g asked) recordings
+halt_recorded s g asked done now first recordings halts is = λ k d within. whole (get_or recordings k d) (is.recorded k d within)
   where
-    whole : (recording : Recording) → IsRecorded g done recording → IsRecorded g asked recording
+    whole : (recording : Recording) → IsRecorded s g done recording → IsRecorded s g asked recording
     whole recording has =
-        let all : script g recording.p done ≡ script g recording.p asked = script_ends done asked g recording.p is.within (ap (λ (m : Machine). m.halted) (sym is.state) ∙ halts) in
+        let all : upset_script s g recording.p done ≡ upset_script s g recording.p asked = struck_ends done asked s g recording.p is.within (ap (λ (m : Machine). m.halted) (sym is.state) ∙ halts) in
         record {
           written = subst (λ cues. IsWritten cues recording.writer) all has.written;
           numbers = subst (AllByRecursion HasNumbers) all has.numbers;
@@ -205,63 +224,144 @@ pub are_numbered : {X E : Type 0} (made : Result X E) (cues : List Cue) → AllB
 are_numbered (Ok file) cues has = has
 are_numbered (Err fault) cues has = tt
 
--- a script has a cue for each tick at most
-script_few : (count : ℕ) (g : Machine) (p : ℕ) → length (script g p count) ≤ count
-script_few zero g p = omega arith
-script_few (suc count) g p = at g.halted (script_few count (step g) p)
-  where
-    at : (b : Bool) → length (script (step g) p count) ≤ count → length (script_unless b (cue g p) (script (step g) p count)) ≤ suc count
-    at true few = omega arith
-    at false few = omega (arith, few)
-
--- so there is room for a span of the ticks that are left
-pub room_left : (g : Machine) (asked most done ticks : ℕ) (now : Machine) (first recordings : List Recording) → asked ≤ most → done < asked → ticks ≤ asked - done → AreRecorded g asked done now first recordings
+-- there is room for a span of the ticks that are left
+pub room_left : (s : Schedule) (g : Machine) (asked most done ticks : ℕ) (now : Machine) (first recordings : List Recording) → asked ≤ most → done < asked → ticks ≤ asked - done → AreRecorded s g asked done now first recordings
     → All (λ recording. recording.writer.cues + ticks ≤ most) recordings
-room_left g asked most done ticks now first recordings few below left is = λ k d within.
-    omega (arith, few, below, left, (is.recorded k d within).written.count, script_few done g (get_or recordings k d).p)
+room_left s g asked most done ticks now first recordings few below left is = λ k d within.
+    omega (arith, few, below, left, (is.recorded k d within).written.count, struck_few done s g (get_or recordings k d).p)
 
 -- and these may be done
-pub ticks_left : (g : Machine) (asked most done : ℕ) (now : Machine) (first recordings : List Recording) → g.ticks ≡ 0 → asked ≤ most → done < asked → AreRecorded g asked done now first recordings → now.ticks + (asked - done) ≤ most
-ticks_left g asked most done now first recordings fresh few below is = omega (arith, fresh, few, below, ticks_most done g, ap (λ (m : Machine). m.ticks) is.state)
+pub ticks_left : (s : Schedule) (g : Machine) (asked most done : ℕ) (now struck : Machine) (first recordings : List Recording) → g.ticks ≡ 0 → asked ≤ most → done < asked → AreRecorded s g asked done now first recordings
+    → struck ≡ ready (s done) now → struck.ticks + (asked - done) ≤ most
+ticks_left s g asked most done now struck first recordings fresh few below is begins =
+    omega (arith, fresh, few, below, struck_ticks done s g, ap (λ (m : Machine). m.ticks) is.state, ap (λ (m : Machine). m.ticks) begins, ready_ticks (s done) now)
 
 -- the partitions are as many as at first
-pub parts_left : RunsKeepNumbers → (g : Machine) (count asked done ticks : ℕ) (now next : Machine) (first recordings : List Recording) → length g.parts ≡ count → All (λ recording. recording.p < count) first
-    → AreRecorded g asked done now first recordings → next ≡ run now ticks → All (λ recording. recording.p < length next.parts) recordings
-parts_left keeps g count asked done ticks now next first recordings many there is goes =
+pub parts_left : RunsKeepNumbers → (s : Schedule) (g : Machine) (count asked done ticks : ℕ) (now struck next : Machine) (first recordings : List Recording) → length g.parts ≡ count → All (λ recording. recording.p < count) first
+    → AreRecorded s g asked done now first recordings → struck ≡ ready (s done) now → next ≡ run struck ticks → All (λ recording. recording.p < length next.parts) recordings
+parts_left keeps s g count asked done ticks now struck next first recordings many there is begins goes =
     let same : length next.parts ≡ count =
-    omega (arith, many, (keeps g done).parts, (keeps now ticks).parts, ap (λ (m : Machine). length m.parts) is.state, ap (λ (m : Machine). length m.parts) goes) in
+    omega (
+      arith,
+      many,
+      (struck_numbered keeps done s g).0,
+      ready_parts (s done) now,
+      (keeps struck ticks).parts,
+      ap (λ (m : Machine). length m.parts) is.state,
+      ap (λ (m : Machine). length m.parts) begins,
+      ap (λ (m : Machine). length m.parts) goes,
+    ) in
     parts_hold (λ p. p < length next.parts) first recordings is.parts (λ k d within. omega (arith, same, there k d within))
 
 -- so each of them received what a span says
-pub has_received : RunsKeepNumbers → (ticks : ℕ) (old new : Meaning) → new.state ≡ run old.state ticks → ReceiveSpan ticks old new → HasReceived ticks old.state new
+pub has_received : RunsKeepNumbers → (ticks : ℕ) (old new : Meaning) → new.state ≡ run old.state ticks → ReceiveSpan ticks old new
+    → (p : ℕ) → p < length new.state.parts → script old.state p ticks ≡ span_cues ticks (last_received new p)
 has_received keeps ticks old new goes received = λ p there. received p (omega (arith, there, (keeps old.state ticks).parts, ap (λ (m : Machine). length m.parts) goes))
 
+-- a machine boots with the partitions of its configuration
+pub started-parts : BootsComplete → (system : System) (inputs : List (List ℕ)) → length (start (with_inputs system inputs)).parts ≡ length system.conf.parts
+unfolding start
+started-parts law system inputs = (law (with_inputs system inputs)).parts
+
+-- The upsets that are to come.
+
+-- the lines of a file for ticks that are not done
+pub record AreComing (all : List UpsetLine) (done : ℕ) (coming : List UpsetLine) : Type 0 where
+  pub ordered : AreOrdered done coming
+  pub same : (k : ℕ) → done ≤ k → due coming k ≡ due all k
+
+-- all of a run that begins
+pub fit_ordered : (conf : Conf) (ticks before : ℕ) (lines : List UpsetLine) → AllFit conf ticks before lines → AreOrdered before lines
+fit_ordered conf ticks before [] fit = tt
+fit_ordered conf ticks before (line ∷ lines) fit = ((fit.0).order, fit_ordered conf ticks line.tick lines fit.1)
+
+pub coming_all : (all coming : List UpsetLine) → coming ≡ all → AreOrdered 0 all → AreComing all 0 coming
+coming_all all coming same ordered = subst (AreComing all 0) (sym same) (record { ordered = ordered; same = λ k above. refl })
+
+-- they may strike the machine that boots
+started-place : UpsetsMayStrike → (system : System) (inputs : List (List ℕ)) (ticks before : ℕ) (line : UpsetLine) → FitsRun system.conf ticks before line
+    → is_place (view_of (start (with_inputs system inputs)).system line.part) line.place line.bit ≡ true
+unfolding start
+started-place may system inputs ticks before line fits = may (with_inputs system inputs) ticks before line fits
+
+pub all_may : UpsetsMayStrike → BootsComplete → (system : System) (inputs : List (List ℕ)) (g : Machine) (ticks before : ℕ) (lines : List UpsetLine) → g ≡ start (with_inputs system inputs)
+    → AllFit system.conf ticks before lines → All (MayStrike g) lines
+all_may may boots system inputs g ticks before [] is fit = All-nil (MayStrike g)
+all_may may boots system inputs g ticks before (line ∷ lines) is fit =
+    All-cons (MayStrike g) line lines
+    (subst (λ (m : Machine). MayStrike m line) (sym is)
+    (record { partition = omega (arith, started-parts boots system inputs, (fit.0).partition); place = started-place may system inputs ticks before line fit.0 }))
+    (all_may may boots system inputs g ticks line.tick lines is fit.1)
+
+-- those before one tick are some of all
+due_all : (P : UpsetLine → Type 0) (k : ℕ) (lines : List UpsetLine) → All P lines → All P (due lines k)
+due_all P k [] all = all
+due_all P k (line ∷ lines) all = at (line.tick == k) (due_all P k lines (All-tail P line lines all))
+  where
+    at : (b : Bool) → All P (due lines k) → All P (if b then line ∷ due lines k else due lines k)
+    at true rest = All-cons P line (due lines k) (All-head P line lines all) rest
+    at false rest = rest
+
+-- and may strike the machine after the ticks before it
+pub may_next : RunsKeepNumbers → (s : Schedule) (g : Machine) (asked done : ℕ) (now : Machine) (first recordings : List Recording) (all coming these : List UpsetLine) → AreRecorded s g asked done now first recordings
+    → AreComing all done coming → these ≡ due coming done → All (MayStrike g) all → All (MayStrike now) these
+may_next keeps s g asked done now first recordings all coming these is comes are may =
+    subst (All (MayStrike now)) (sym (are ∙ comes.same done (omega arith))) (λ k d within. still (get_or (due all done) k d) (due_all (MayStrike g) done all may k d within))
+  where
+    system_is : now.system ≡ g.system
+    system_is = ap (λ (m : Machine). m.system) is.state ∙ (struck_numbered keeps done s g).1
+
+    still : (line : UpsetLine) → MayStrike g line → MayStrike now line
+    still line may = record {
+      partition = omega (arith, may.partition, (struck_numbered keeps done s g).0, ap (λ (m : Machine). length m.parts) is.state);
+      place = subst (λ (system : Booted). is_place (view_of system line.part) line.place line.bit ≡ true) (sym system_is) may.place;
+    }
+
+-- those of the next tick strike
+pub begins_with : (all coming these : List UpsetLine) (done : ℕ) (now struck : Machine) → AreComing all done coming → these ≡ due coming done → struck ≡ ready (map upset_of these) now → struck ≡ ready (schedule_of all done) now
+begins_with all coming these done now struck comes are begins = begins ∙ ap (λ (lines : List UpsetLine). ready (map upset_of lines) now) (are ∙ comes.same done (omega arith))
+
+-- and none before the tick of the first of the others
+pub comes_next : (all coming rest : List UpsetLine) (done next ticks : ℕ) (now struck : Machine) → AreComing all done coming → struck ≡ ready (schedule_of all done) now
+    → ((k : ℕ) → done < k → due rest k ≡ due coming k) → ((k : ℕ) → k < next → due rest k ≡ []) → 0 < ticks → done + ticks ≤ next → IsNext (schedule_of all) done ticks now struck
+comes_next all coming rest done next ticks now struck is begins kept none some within = record {
+  some = some;
+  struck = begins;
+  quiet = λ k above below. ap (map upset_of) (sym (is.same k (omega (arith, above))) ∙ sym (kept k above) ∙ none k (omega (arith, below, within)));
+}
+
+-- and the others are to come
+pub comes_after : (all coming rest : List UpsetLine) (done next ticks : ℕ) → AreComing all done coming → ((k : ℕ) → done < k → due rest k ≡ due coming k) → AreOrdered next rest → 0 < ticks → done + ticks ≤ next
+    → AreComing all (done + ticks) rest
+comes_after all coming rest done next ticks is kept ordered some within = record {
+  ordered = ordered_from (done + ticks) next rest within ordered;
+  same = λ k above. kept k (omega (arith, above, some)) ∙ is.same k (omega (arith, above));
+}
+
 -- what is recorded of one partition
-pub only_recorded : (g : Machine) (ticks p : ℕ) (first : Recording) (lent recordings : List Recording) → first.p ≡ p → lent ≡ first ∷ [] → map (λ recording. recording.p) recordings ≡ map (λ recording. recording.p) lent
-    → All (IsRecorded g ticks) recordings → ((get_or recordings 0 first).p ≡ p) × IsRecorded g ticks (get_or recordings 0 first)
-only_recorded g ticks p first lent recordings of one same all =
+pub only_recorded : (s : Schedule) (g : Machine) (ticks p : ℕ) (first : Recording) (lent recordings : List Recording) → first.p ≡ p → lent ≡ first ∷ [] → map (λ recording. recording.p) recordings ≡ map (λ recording. recording.p) lent
+    → All (IsRecorded s g ticks) recordings → ((get_or recordings 0 first).p ≡ p) × IsRecorded s g ticks (get_or recordings 0 first)
+only_recorded s g ticks p first lent recordings of one same all =
     let parts : map (λ (recording : Recording). recording.p) recordings ≡ p ∷ [] = same ∙ ap (map (λ (recording : Recording). recording.p)) one ∙ ap (λ part. part ∷ []) of in
     let long : length recordings ≡ 1 = sym (length-map recordings (λ recording. recording.p)) ∙ ap (λ (parts : List ℕ). length parts) parts in
     let there : 0 < length recordings = omega (arith, long) in
     (sym (get_or-map (λ recording. recording.p) recordings 0 first p there) ∙ ap (λ parts. get_or parts 0 p) parts, all 0 first there)
 
--- the file of it
-pub file_recorded : {X : Type 0} (view : X → List ℕ) (made : Result X ScriptFault) (g : Machine) (ticks p : ℕ) (recording : Recording) → recording.p ≡ p → IsRecorded g ticks recording
+-- the file of it, in a run without upsets
+pub file_recorded : {X : Type 0} (view : X → List ℕ) (made : Result X ScriptFault) (s : Schedule) (g : Machine) (ticks p : ℕ) (recording : Recording) → ((k : ℕ) → s k ≡ []) → recording.p ≡ p → IsRecorded s g ticks recording
     → ((cues : List Cue) → IsWritten cues recording.writer → IsScriptFile view (script_text recording.p cues) made) → IsScriptFile view (script_text p (script g p ticks)) made
-file_recorded view made g ticks p recording same is finishes =
-    subst (λ part. IsScriptFile view (script_text part (script g part ticks)) made) same (finishes (script g recording.p ticks) is.written)
+file_recorded view made s g ticks p recording none same is finishes =
+    subst (λ part. IsScriptFile view (script_text part (script g part ticks)) made) same
+    (subst (λ cues. IsScriptFile view (script_text recording.p cues) made) (quiet_script ticks s g recording.p none) (finishes (upset_script s g recording.p ticks) is.written))
 
 -- and its numbers
-pub numbers_recorded : {X E : Type 0} (made : Result X E) (g : Machine) (ticks p : ℕ) (recording : Recording) → recording.p ≡ p → IsRecorded g ticks recording
+pub numbers_recorded : {X E : Type 0} (made : Result X E) (s : Schedule) (g : Machine) (ticks p : ℕ) (recording : Recording) → ((k : ℕ) → s k ≡ []) → recording.p ≡ p → IsRecorded s g ticks recording
     → IfOk made (λ _. AllByRecursion HasNumbers (script g p ticks))
-numbers_recorded made g ticks p recording same is = are_numbered made (script g p ticks) (subst (λ part. AllByRecursion HasNumbers (script g part ticks)) same is.numbers)
+numbers_recorded made s g ticks p recording none same is =
+    are_numbered made (script g p ticks)
+    (subst (λ part. AllByRecursion HasNumbers (script g part ticks)) same (subst (AllByRecursion HasNumbers) (quiet_script ticks s g recording.p none) is.numbers))
 
 -- a machine boots with no tick done
 pub started-ticks : (system : Booted) → (start system).ticks ≡ 0
 unfolding start
 started-ticks system = refl
-
--- and with the partitions of its configuration
-pub started-parts : BootsComplete → (system : System) (inputs : List (List ℕ)) → length (start (with_inputs system inputs)).parts ≡ length system.conf.parts
-unfolding start
-started-parts law system inputs = (law (with_inputs system inputs)).parts

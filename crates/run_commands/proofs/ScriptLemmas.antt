@@ -12,7 +12,7 @@ use Rattle.loaded_system.specs.System.{System}
 use Rattle.machine_model.specs.Machine.{Machine, start}
 use Rattle.machine_model.specs.View.{System as Booted}
 use Rattle.system_state.specs.State.{with_inputs}
-use Rattle.command_line.specs.Words.{PartFile, RunOption, cores_in, scripts_in, span_in}
+use Rattle.command_line.specs.Words.{PartFile, RunOption, span_in}
 use Rattle.std.specs.String.{string_bytes}
 use Rattle.fault_messages.specs.Texts.{script_fault_text}
 use Rattle.cue_scripts.specs.Written.{IsScriptFile}
@@ -24,7 +24,9 @@ use Rattle.builders.specs.declared.unmade.Unmade.TheVariants as unmade
 use Rattle.file_commands.specs.Makes.{IsUnmadeOf}
 use Rattle.file_commands.specs.Denial.{Denial}
 use Rattle.file_commands.specs.Ending.{Ending, Done, Usage, ReadFault, Refused, WriteFaultReport, WriteFaultFile, UartFault, NoMemory, ticks_text}
-use Rattle.file_commands.specs.Outcome.{Output, ran_for, ran_scripted, ran_within, command_refused, script_before, script_bytes, script_denial, script_output, scripts_for, ticks_asked, unless_denied}
+use Rattle.upset_model.specs.Upsets.{Schedule}
+use Rattle.upset_model.specs.declared.upset_line.UpsetLine.{UpsetLine}
+use Rattle.file_commands.specs.Outcome.{Output, ran_for, ran_struck, ran_within, command_refused, script_before, script_bytes, script_denial, script_output, scripts_for, ticks_asked, unless_denied, upsets_for}
 use Rattle.run_commands.specs.declared.recording.Recording.{Recording}
 use Rattle.run_commands.specs.lemmas.Cores.{AreForPartitions}
 use Rattle.run_commands.specs.lemmas.Recordings.{IsRecorded, parts_of}
@@ -38,37 +40,37 @@ use Rattle.run_commands.specs.lemmas.CoreLemmas.{saves_after}
 -- One script.
 
 -- one that is not too long
-pub script_made : (system : Booted) (ticks part : ℕ) (file bytes : List ℕ) → bytes ≡ script_bytes system ticks part → length (script_bytes system ticks part) ≤ FILE_BYTES
-    → script_or (script_denial system ticks (record { part = part; file = file })) (script_output system ticks (record { part = part; file = file })) ≡ Ok (record { file = file; bytes = bytes })
-script_made system ticks part file bytes is few =
-    let test : nat_lt FILE_BYTES (length (script_bytes system ticks part)) ≡ false = grind (arith, nat_tests, few) in
+pub script_made : (upsets : List UpsetLine) (system : Booted) (ticks part : ℕ) (file bytes : List ℕ) → bytes ≡ script_bytes upsets system ticks part → length (script_bytes upsets system ticks part) ≤ FILE_BYTES
+    → script_or (script_denial upsets system ticks (record { part = part; file = file })) (script_output upsets system ticks (record { part = part; file = file })) ≡ Ok (record { file = file; bytes = bytes })
+script_made upsets system ticks part file bytes is few =
+    let test : nat_lt FILE_BYTES (length (script_bytes upsets system ticks part)) ≡ false = grind (arith, nat_tests, few) in
     rw test (ap (λ (b : List ℕ). Ok (record { file = file; bytes = b })) (sym is))
 
 -- one that is
-pub script_long : (system : Booted) (ticks part : ℕ) (file : List ℕ) (found : ℕ) → found ≡ length (script_bytes system ticks part) → FILE_BYTES < length (script_bytes system ticks part)
-    → script_or (script_denial system ticks (record { part = part; file = file })) (script_output system ticks (record { part = part; file = file })) ≡ Err (record { file = file; text = script_fault_text (fault.Length found) })
-script_long system ticks part file found is long =
-    let test : nat_lt FILE_BYTES (length (script_bytes system ticks part)) ≡ true = grind (arith, nat_tests, long) in
+pub script_long : (upsets : List UpsetLine) (system : Booted) (ticks part : ℕ) (file : List ℕ) (found : ℕ) → found ≡ length (script_bytes upsets system ticks part) → FILE_BYTES < length (script_bytes upsets system ticks part)
+    → script_or (script_denial upsets system ticks (record { part = part; file = file })) (script_output upsets system ticks (record { part = part; file = file })) ≡ Err (record { file = file; text = script_fault_text (fault.Length found) })
+script_long upsets system ticks part file found is long =
+    let test : nat_lt FILE_BYTES (length (script_bytes upsets system ticks part)) ≡ true = grind (arith, nat_tests, long) in
     rw test (ap (λ (n : ℕ). Err (record { file = file; text = script_fault_text (fault.Length n) })) (sym is))
 
 -- one that was not made
-pub script_unmade : {X : Type 0} (view : X → List ℕ) (system : Booted) (ticks part : ℕ) (file : List ℕ) (why : ScriptFault) (said : Unmade) (e : Ending)
-    → IsScriptFile view (script_bytes system ticks part) (Err why) → IsRefusalText said (script_fault_text why) → (why ≡ fault.Memory → said ≡ unmade.Memory) → IsUnmadeOf e file said
-    → IsDenied e (script_or (script_denial system ticks (record { part = part; file = file })) (script_output system ticks (record { part = part; file = file })))
-script_unmade view system ticks part file (fault.Length found) (unmade.Refused words) e is stated memory ends =
+pub script_unmade : {X : Type 0} (view : X → List ℕ) (upsets : List UpsetLine) (system : Booted) (ticks part : ℕ) (file : List ℕ) (why : ScriptFault) (said : Unmade) (e : Ending)
+    → IsScriptFile view (script_bytes upsets system ticks part) (Err why) → IsRefusalText said (script_fault_text why) → (why ≡ fault.Memory → said ≡ unmade.Memory) → IsUnmadeOf e file said
+    → IsDenied e (script_or (script_denial upsets system ticks (record { part = part; file = file })) (script_output upsets system ticks (record { part = part; file = file })))
+script_unmade view upsets system ticks part file (fault.Length found) (unmade.Refused words) e is stated memory ends =
     let text_is : string_bytes words ≡ script_fault_text (fault.Length found) = stated in
-    rw (ends, text_is) (script_long system ticks part file found is.0 is.1)
-script_unmade view system ticks part file (fault.Length found) unmade.Memory e is stated memory ends = rw ends tt
-script_unmade view system ticks part file fault.Memory said e is stated memory ends =
+    rw (ends, text_is) (script_long upsets system ticks part file found is.0 is.1)
+script_unmade view upsets system ticks part file (fault.Length found) unmade.Memory e is stated memory ends = rw ends tt
+script_unmade view upsets system ticks part file fault.Memory said e is stated memory ends =
     let starved : said ≡ unmade.Memory = memory refl in
     let ended : e ≡ NoMemory = subst (IsUnmadeOf e file) starved ends in
     rw ended tt
-script_unmade view system ticks part file fault.Magic said e is stated memory ends = absurd is
-script_unmade view system ticks part file (fault.Version found) said e is stated memory ends = absurd is
-script_unmade view system ticks part file (fault.Short at) said e is stated memory ends = absurd is
-script_unmade view system ticks part file (fault.Trailing at) said e is stated memory ends = absurd is
-script_unmade view system ticks part file (fault.Field at) said e is stated memory ends = absurd is
-script_unmade view system ticks part file (fault.Cue tick) said e is stated memory ends = absurd is
+script_unmade view upsets system ticks part file fault.Magic said e is stated memory ends = absurd is
+script_unmade view upsets system ticks part file (fault.Version found) said e is stated memory ends = absurd is
+script_unmade view upsets system ticks part file (fault.Short at) said e is stated memory ends = absurd is
+script_unmade view upsets system ticks part file (fault.Trailing at) said e is stated memory ends = absurd is
+script_unmade view upsets system ticks part file (fault.Field at) said e is stated memory ends = absurd is
+script_unmade view upsets system ticks part file (fault.Cue tick) said e is stated memory ends = absurd is
 
 -- Recordings, one for each script.
 
@@ -128,19 +130,19 @@ as_many old new same =
     sym (length-map new (λ (recording : Recording). recording.p)) ∙ ap length same ∙ length-map old (λ (recording : Recording). recording.p)
 
 -- what is recorded of the first, and of the others
-pub first_recorded : (g : Machine) (ticks : ℕ) (more recordings : List Recording) (one : Recording) → more ≡ one ∷ recordings → All (IsRecorded g ticks) more
-    → IsRecorded g ticks one × All (IsRecorded g ticks) recordings
-first_recorded g ticks more recordings one is all =
-    let both = subst (All (IsRecorded g ticks)) is all in
-    (All-head (IsRecorded g ticks) one recordings both, All-tail (IsRecorded g ticks) one recordings both)
+pub first_recorded : (s : Schedule) (g : Machine) (ticks : ℕ) (more recordings : List Recording) (one : Recording) → more ≡ one ∷ recordings → All (IsRecorded s g ticks) more
+    → IsRecorded s g ticks one × All (IsRecorded s g ticks) recordings
+first_recorded s g ticks more recordings one is all =
+    let both = subst (All (IsRecorded s g ticks)) is all in
+    (All-head (IsRecorded s g ticks) one recordings both, All-tail (IsRecorded s g ticks) one recordings both)
 
 -- what is recorded of a system that is made once more is that of the first
-pub recorded_again : (again system : System) (ticks : ℕ) (read : Result (List (List ℕ)) Denial) (inputs given : List (List ℕ)) (recordings all : List Recording) → again ≡ system → read ≡ Ok inputs → read ≡ Ok given
-    → all ≡ recordings → All (IsRecorded (start (with_inputs again inputs)) ticks) recordings → All (IsRecorded (start (with_inputs system given)) ticks) all
-recorded_again again system ticks read inputs given recordings all same is other whole have =
+pub recorded_again : (s : Schedule) (again system : System) (ticks : ℕ) (read : Result (List (List ℕ)) Denial) (inputs given : List (List ℕ)) (recordings all : List Recording) → again ≡ system → read ≡ Ok inputs → read ≡ Ok given
+    → all ≡ recordings → All (IsRecorded s (start (with_inputs again inputs)) ticks) recordings → All (IsRecorded s (start (with_inputs system given)) ticks) all
+recorded_again s again system ticks read inputs given recordings all same is other whole have =
     let words : inputs ≡ given = (let both : Ok inputs ≡ Ok given = sym is ∙ other in cc) in
-    subst (All (IsRecorded (start (with_inputs system given)) ticks)) (sym whole)
-    (subst (λ (machine : Machine). All (IsRecorded machine ticks) recordings)
+    subst (All (IsRecorded s (start (with_inputs system given)) ticks)) (sym whole)
+    (subst (λ (machine : Machine). All (IsRecorded s machine ticks) recordings)
     (ap (λ (s : System). start (with_inputs s inputs)) same ∙ ap (λ (ws : List (List ℕ)). start (with_inputs system ws)) words) have)
 
 -- Scripts, one after another.
@@ -156,11 +158,11 @@ none_before (Ok outputs) = refl
 none_before (Err refusal) = refl
 
 -- so it begins
-pub scripts_begun : (system : Booted) (ticks : ℕ) (all rest : List PartFile) (first : List Output) → rest ≡ all → first ≡ []
-    → scripts_for system ticks all ≡ scripts_before first (scripts_for system ticks rest)
-scripts_begun system ticks all rest first same none =
-    none_before (scripts_for system ticks all) ∙ ap (λ (outputs : List Output). scripts_before outputs (scripts_for system ticks all)) (sym none)
-    ∙ ap (λ (names : List PartFile). scripts_before first (scripts_for system ticks names)) (sym same)
+pub scripts_begun : (upsets : List UpsetLine) (system : Booted) (ticks : ℕ) (all rest : List PartFile) (first : List Output) → rest ≡ all → first ≡ []
+    → scripts_for upsets system ticks all ≡ scripts_before first (scripts_for upsets system ticks rest)
+scripts_begun upsets system ticks all rest first same none =
+    none_before (scripts_for upsets system ticks all) ∙ ap (λ (outputs : List Output). scripts_before outputs (scripts_for upsets system ticks all)) (sym none)
+    ∙ ap (λ (names : List PartFile). scripts_before first (scripts_for upsets system ticks names)) (sym same)
 
 -- one before others, after the first
 one_before : (first : List Output) (output : Output) (made : Result (List Output) Denial) → scripts_before first (script_before output made) ≡ scripts_before (first ++ output ∷ []) made
@@ -168,62 +170,63 @@ one_before first output (Ok outputs) = ap Ok (sym (append_assoc first (output �
 one_before first output (Err refusal) = refl
 
 -- the next one was made
-pub next_made : (system : Booted) (ticks : ℕ) (all rest others : List PartFile) (named : PartFile) (first next : List Output) (output : Output)
-    → rest ≡ named ∷ others → script_or (script_denial system ticks named) (script_output system ticks named) ≡ Ok output → next ≡ first ++ output ∷ []
-    → scripts_for system ticks all ≡ scripts_before first (scripts_for system ticks rest)
-    → scripts_for system ticks all ≡ scripts_before next (scripts_for system ticks others)
-next_made system ticks all rest others named first next output is made more goes =
-    at (script_denial system ticks named) made (goes ∙ ap (λ (names : List PartFile). scripts_before first (scripts_for system ticks names)) is)
-    ∙ ap (λ (outputs : List Output). scripts_before outputs (scripts_for system ticks others)) (sym more)
+pub next_made : (upsets : List UpsetLine) (system : Booted) (ticks : ℕ) (all rest others : List PartFile) (named : PartFile) (first next : List Output) (output : Output)
+    → rest ≡ named ∷ others → script_or (script_denial upsets system ticks named) (script_output upsets system ticks named) ≡ Ok output → next ≡ first ++ output ∷ []
+    → scripts_for upsets system ticks all ≡ scripts_before first (scripts_for upsets system ticks rest)
+    → scripts_for upsets system ticks all ≡ scripts_before next (scripts_for upsets system ticks others)
+next_made upsets system ticks all rest others named first next output is made more goes =
+    at (script_denial upsets system ticks named) made (goes ∙ ap (λ (names : List PartFile). scripts_before first (scripts_for upsets system ticks names)) is)
+    ∙ ap (λ (outputs : List Output). scripts_before outputs (scripts_for upsets system ticks others)) (sym more)
   where
-    at : (refusal : Option Denial) → script_or refusal (script_output system ticks named) ≡ Ok output
-        → scripts_for system ticks all ≡ scripts_before first (unless_denied refusal (script_before (script_output system ticks named) (scripts_for system ticks others)))
-        → scripts_for system ticks all ≡ scripts_before (first ++ output ∷ []) (scripts_for system ticks others)
+    at : (refusal : Option Denial) → script_or refusal (script_output upsets system ticks named) ≡ Ok output
+        → scripts_for upsets system ticks all ≡ scripts_before first (unless_denied refusal (script_before (script_output upsets system ticks named) (scripts_for upsets system ticks others)))
+        → scripts_for upsets system ticks all ≡ scripts_before (first ++ output ∷ []) (scripts_for upsets system ticks others)
     at None made goes =
-        let same : script_output system ticks named ≡ output = cc in
-        goes ∙ one_before first (script_output system ticks named) (scripts_for system ticks others)
-        ∙ ap (λ (o : Output). scripts_before (first ++ o ∷ []) (scripts_for system ticks others)) same
+        let same : script_output upsets system ticks named ≡ output = cc in
+        goes ∙ one_before first (script_output upsets system ticks named) (scripts_for upsets system ticks others)
+        ∙ ap (λ (o : Output). scripts_before (first ++ o ∷ []) (scripts_for upsets system ticks others)) same
     at (Some refusal) made goes = absurd (cc)
 
 -- the next one is refused, or memory ran out for it
-pub next_denied : (system : Booted) (ticks : ℕ) (all rest others : List PartFile) (named : PartFile) (first : List Output) (e : Ending)
-    → rest ≡ named ∷ others → IsDenied e (script_or (script_denial system ticks named) (script_output system ticks named))
-    → scripts_for system ticks all ≡ scripts_before first (scripts_for system ticks rest)
-    → IsDenied e (scripts_for system ticks all)
-next_denied system ticks all rest others named first Done is denied goes = absurd denied
-next_denied system ticks all rest others named first Usage is denied goes = absurd denied
-next_denied system ticks all rest others named first (ReadFault file) is denied goes = absurd denied
-next_denied system ticks all rest others named first (Refused file text) is denied goes =
-    at (script_denial system ticks named) denied (goes ∙ ap (λ (names : List PartFile). scripts_before first (scripts_for system ticks names)) is)
+pub next_denied : (upsets : List UpsetLine) (system : Booted) (ticks : ℕ) (all rest others : List PartFile) (named : PartFile) (first : List Output) (e : Ending)
+    → rest ≡ named ∷ others → IsDenied e (script_or (script_denial upsets system ticks named) (script_output upsets system ticks named))
+    → scripts_for upsets system ticks all ≡ scripts_before first (scripts_for upsets system ticks rest)
+    → IsDenied e (scripts_for upsets system ticks all)
+next_denied upsets system ticks all rest others named first Done is denied goes = absurd denied
+next_denied upsets system ticks all rest others named first Usage is denied goes = absurd denied
+next_denied upsets system ticks all rest others named first (ReadFault file) is denied goes = absurd denied
+next_denied upsets system ticks all rest others named first (Refused file text) is denied goes =
+    at (script_denial upsets system ticks named) denied (goes ∙ ap (λ (names : List PartFile). scripts_before first (scripts_for upsets system ticks names)) is)
   where
-    at : (refusal : Option Denial) → script_or refusal (script_output system ticks named) ≡ Err (record { file = file; text = text })
-        → scripts_for system ticks all ≡ scripts_before first (unless_denied refusal (script_before (script_output system ticks named) (scripts_for system ticks others)))
-        → scripts_for system ticks all ≡ Err (record { file = file; text = text })
+    at : (refusal : Option Denial) → script_or refusal (script_output upsets system ticks named) ≡ Err (record { file = file; text = text })
+        → scripts_for upsets system ticks all ≡ scripts_before first (unless_denied refusal (script_before (script_output upsets system ticks named) (scripts_for upsets system ticks others)))
+        → scripts_for upsets system ticks all ≡ Err (record { file = file; text = text })
     at None denied goes = absurd (cc)
     at (Some refusal) denied goes = (let same : refusal ≡ record { file = file; text = text } = cc in goes ∙ ap Err same)
-next_denied system ticks all rest others named first WriteFaultReport is denied goes = absurd denied
-next_denied system ticks all rest others named first (WriteFaultFile file) is denied goes = absurd denied
-next_denied system ticks all rest others named first (UartFault place) is denied goes = absurd denied
-next_denied system ticks all rest others named first NoMemory is denied goes = tt
+next_denied upsets system ticks all rest others named first WriteFaultReport is denied goes = absurd denied
+next_denied upsets system ticks all rest others named first (WriteFaultFile file) is denied goes = absurd denied
+next_denied upsets system ticks all rest others named first (UartFault place) is denied goes = absurd denied
+next_denied upsets system ticks all rest others named first NoMemory is denied goes = tt
 
 -- all were made
-pub all_made : (system : Booted) (ticks : ℕ) (all rest : List PartFile) (first : List Output) → rest ≡ [] → scripts_for system ticks all ≡ scripts_before first (scripts_for system ticks rest)
-    → scripts_for system ticks all ≡ Ok first
-all_made system ticks all rest first none goes =
-    goes ∙ ap (λ (names : List PartFile). scripts_before first (scripts_for system ticks names)) none ∙ ap Ok (append-nil first)
+pub all_made : (upsets : List UpsetLine) (system : Booted) (ticks : ℕ) (all rest : List PartFile) (first : List Output) → rest ≡ [] → scripts_for upsets system ticks all ≡ scripts_before first (scripts_for upsets system ticks rest)
+    → scripts_for upsets system ticks all ≡ Ok first
+all_made upsets system ticks all rest first none goes =
+    goes ∙ ap (λ (names : List PartFile). scripts_before first (scripts_for upsets system ticks names)) none ∙ ap Ok (append-nil first)
 
 -- A run with scripts.
 
--- a run that may have this many ticks has its outcome, with its scripts
-pub within_is : (file : List ℕ) (options : List RunOption) (system : System) (inputs : List (List ℕ)) (asked : ℕ) (made : Result (List Output) Denial) → asked ≡ ticks_asked (span_in options) system.conf → asked ≤ TICKS
-    → scripts_for (with_inputs system inputs) asked (scripts_in options) ≡ made → ran_within file options system inputs ≡ ran_scripted asked (cores_in options) system inputs made
+-- a run that may have this many ticks has its outcome, with its upsets
+pub within_is : (file : List ℕ) (options : List RunOption) (contents : List (List ℕ)) (system : System) (inputs : List (List ℕ)) (asked : ℕ) (read : Result (List UpsetLine) Denial)
+    → asked ≡ ticks_asked (span_in options) system.conf → asked ≤ TICKS → upsets_for system.conf asked options contents ≡ read
+    → ran_within file options contents system inputs ≡ ran_struck asked options system inputs read
 unfolding ran_within
-within_is file options system inputs asked made is few are =
+within_is file options contents system inputs asked read is few are =
     let test : nat_lt TICKS asked ≡ false = grind (arith, nat_tests, few) in
-    let by_test : ran_for file asked options system inputs ≡ ran_scripted asked (cores_in options) system inputs made =
-    ap (λ (t : Bool). if t then command_refused file (ticks_text asked) else ran_scripted asked (cores_in options) system inputs (scripts_for (with_inputs system inputs) asked (scripts_in options))) test
-    ∙ ap (ran_scripted asked (cores_in options) system inputs) are in
-    ap (λ (n : ℕ). ran_for file n options system inputs) (sym is) ∙ by_test
+    let by_test : ran_for file asked options contents system inputs ≡ ran_struck asked options system inputs read =
+    ap (λ (t : Bool). if t then command_refused file (ticks_text asked) else ran_struck asked options system inputs (upsets_for system.conf asked options contents)) test
+    ∙ ap (ran_struck asked options system inputs) are in
+    ap (λ (n : ℕ). ran_for file n options contents system inputs) (sym is) ∙ by_test
 
 -- Files that are written.
 

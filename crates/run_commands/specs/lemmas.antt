@@ -9,3 +9,4 @@ pub mod NumbersTerms
 pub mod ReadyRuns
 pub mod Recordings
 pub mod Scripts
+pub mod StruckRuns

@@ -10,6 +10,7 @@ mod received;
 mod recording;
 mod running;
 mod scripts;
+mod striking;
 mod unpacking;
 
 pub use later::ended;

@@ -1,4 +1,4 @@
-//! A run is made ready: its input words, how many ticks it has, and the scripts that are written after it.
+//! A run is made ready: its input words, how many ticks it has, the upsets that strike, and the scripts that are written after it.
 
 ghost use Rattle.std.specs.Prelude.{◌≡◌, ◌≤◌, ℕ, IfOk, List, None, Ok, OnOk, drop, length, map};
 ghost use Rattle.xm_base.specs.declared.limits.TheConstants.{TICKS};
@@ -9,18 +9,21 @@ ghost use Rattle.system_state.specs.State.{with_inputs};
 ghost use Rattle.run_commands.specs.Numbers.{AllReceiveNumbers};
 ghost use Rattle.run_commands.specs.lemmas.ReadyRuns.{IsReadyFor};
 ghost use Rattle.file_commands.specs.Inputs.{inputs_for};
-ghost use Rattle.file_commands.specs.Outcome.{content, first_long, ran_with, ran_within, ticks_asked};
-ghost use Rattle.file_commands.specs.Packing.{file_names};
+ghost use Rattle.file_commands.specs.Outcome.{content, first_long, ran_struck, ran_with, ran_within, run_inputs, ticks_asked, upsets_for};
 ghost use Rattle.file_commands.specs.EndingValues.{vector_bytes};
 ghost use Rattle.command_line.specs.Grammar.{count_of};
 ghost use Rattle.command_line.specs.Seen.{seen_options};
-ghost use Rattle.command_line.specs.Words.{cores_in, inputs_in, scripts_in, span_in};
+ghost use Rattle.command_line.specs.Words.{cores_in, scripts_in, span_in};
+ghost use Rattle.upset_files.specs.Fits.{AllFit};
+ghost use Rattle.upset_model.specs.declared.upset_line.UpsetLine.{UpsetLine as Upset};
 
 use crate::inputs::inputs_for;
 use crate::scripts::{MadeScript, make_scripts};
+use crate::striking::upsets_for;
 use command_line::{RunOptions, Span};
 use file_commands::{Ending, Refusal, split_contents};
 use std::alloc::Global;
+use upset_model::UpsetLine;
 use xm_base::TICKS;
 use xm_conf::Conf;
 use xm_container::System;
@@ -31,6 +34,7 @@ use xm_machine::Inputs;
 pub(crate) struct ReadyRun<'a> {
     pub(crate) ticks: u64,
     pub(crate) inputs: Inputs,
+    pub(crate) upsets: Vec<UpsetLine>,
     pub(crate) scripts: Vec<MadeScript<'a>>,
 }
 
@@ -43,23 +47,27 @@ pub(crate) fn ready_run<'a>(
     system: &System,
 ) -> Result<ReadyRun<'a>, Ending<'a>>
     requires most { count_of (span_in (seen_options options)) ≤ TICKS }
-    requires short { first_long (file_names (inputs_in (seen_options options))) (drop 1 (map vector_bytes contents.now))
+    requires short { first_long (run_inputs (seen_options options)) (drop 1 (map vector_bytes contents.now))
         ≡ None }
     requires same { unpacked (content 0 (map vector_bytes contents.now)) ≡ Ok system.now }
     ensures value { IsReadyFor result (seen_options options.entry) system.now
-        (ran_with container.now (seen_options options.entry) system.now
+        (ran_with container.now (seen_options options.entry) (drop 1 (map vector_bytes contents.now)) system.now
         (inputs_for (length system.now.conf.parts) (seen_options options.entry)
         (drop 1 (map vector_bytes contents.now)))) }
     ensures most { IfOk result (λ ready. ready.ticks ≤ TICKS) }
     ensures given { IfOk result (λ ready. length ready.inputs ≡ length system.now.conf.parts) }
     ensures inside { OnOk result
         (AreForPartitions (length system.now.conf.parts) (cores_in (seen_options options.entry))) }
-    ensures numbers { (inputs : List (List ℕ))
+    ensures fit { IfOk result (λ ready. AllFit system.now.conf ready.ticks 0 ready.upsets.items) }
+    ensures numbers { (inputs : List (List ℕ)) (upsets : List Upset)
         → inputs_for (length system.now.conf.parts) (seen_options options.entry)
         (drop 1 (map vector_bytes contents.now))
         ≡ Ok inputs
+        → upsets_for system.now.conf (ticks_asked (span_in (seen_options options.entry)) system.now.conf)
+        (seen_options options.entry) (drop 1 (map vector_bytes contents.now))
+        ≡ Ok upsets
         → IfOk result
-        (λ _. AllReceiveNumbers (with_inputs system.now inputs)
+        (λ _. AllReceiveNumbers upsets (with_inputs system.now inputs)
         (ticks_asked (span_in (seen_options options.entry)) system.now.conf)
         (scripts_in (seen_options options.entry))) }
 {
@@ -81,7 +89,7 @@ fn ready_with<'a>(
     inputs: Inputs,
 ) -> Result<ReadyRun<'a>, Ending<'a>>
     requires most { count_of (span_in (seen_options options)) ≤ TICKS }
-    requires short { first_long (file_names (inputs_in (seen_options options))) (drop 1 (map vector_bytes contents.now))
+    requires short { first_long (run_inputs (seen_options options)) (drop 1 (map vector_bytes contents.now))
         ≡ None }
     requires same { unpacked (content 0 (map vector_bytes contents.now)) ≡ Ok system.now }
     requires inputs { inputs_for (length system.now.conf.parts) (seen_options options)
@@ -89,11 +97,17 @@ fn ready_with<'a>(
         ≡ Ok inputs }
     requires scripts { AreForPartitions (length system.now.conf.parts) (scripts_in (seen_options options)) }
     ensures value { IsReadyFor result (seen_options options.entry) system.now
-        (ran_within container.now (seen_options options.entry) system.now inputs) }
+        (ran_within container.now (seen_options options.entry) (drop 1 (map vector_bytes contents.now)) system.now
+        inputs) }
     ensures most { IfOk result (λ ready. ready.ticks ≤ TICKS) }
     ensures same { IfOk result (λ ready. ready.inputs ≡ inputs) }
-    ensures numbers { IfOk result
-        (λ _. AllReceiveNumbers (with_inputs system.now inputs)
+    ensures fit { IfOk result (λ ready. AllFit system.now.conf ready.ticks 0 ready.upsets.items) }
+    ensures numbers { (upsets : List Upset)
+        → upsets_for system.now.conf (ticks_asked (span_in (seen_options options.entry)) system.now.conf)
+        (seen_options options.entry) (drop 1 (map vector_bytes contents.now))
+        ≡ Ok upsets
+        → IfOk result
+        (λ _. AllReceiveNumbers upsets (with_inputs system.now inputs)
         (ticks_asked (span_in (seen_options options.entry)) system.now.conf)
         (scripts_in (seen_options options.entry))) }
 {
@@ -104,10 +118,45 @@ fn ready_with<'a>(
             why: Refusal::Ticks { asked },
         });
     }
-    match make_scripts(alloc, asked, options, contents, system) {
+    let (_, words) = split_contents(contents);
+    match upsets_for(alloc, system.conf(), asked, options, words) {
+        Ok(upsets) => ready_struck(alloc, asked, options, contents, system, inputs, upsets),
+        Err(ending) => Err(ending),
+    }
+}
+
+// What the run of this many ticks is given beside these input words and upsets.
+fn ready_struck<'a>(
+    alloc: Global,
+    ticks: u64,
+    options: RunOptions<'a>,
+    contents: &[Vec<u8>],
+    system: &System,
+    inputs: Inputs,
+    upsets: Vec<UpsetLine>,
+) -> Result<ReadyRun<'a>, Ending<'a>>
+    requires most { ticks ≤ TICKS }
+    requires short { first_long (run_inputs (seen_options options)) (drop 1 (map vector_bytes contents.now)) ≡ None }
+    requires same { unpacked (content 0 (map vector_bytes contents.now)) ≡ Ok system.now }
+    requires inputs { inputs_for (length system.now.conf.parts) (seen_options options)
+        (drop 1 (map vector_bytes contents.now))
+        ≡ Ok inputs }
+    requires fit { AllFit system.now.conf ticks 0 upsets.items }
+    requires scripts { AreForPartitions (length system.now.conf.parts) (scripts_in (seen_options options)) }
+    ensures value { IsReadyFor result (seen_options options.entry) system.now
+        (ran_struck ticks (seen_options options.entry) system.now inputs (Ok upsets.items)) }
+    ensures most { IfOk result (λ ready. ready.ticks ≤ TICKS) }
+    ensures same { IfOk result (λ ready. ready.inputs ≡ inputs) }
+    ensures fit { IfOk result (λ ready. AllFit system.now.conf ready.ticks 0 ready.upsets.items) }
+    ensures numbers { IfOk result
+        (λ _. AllReceiveNumbers upsets.items (with_inputs system.now inputs) ticks
+        (scripts_in (seen_options options.entry))) }
+{
+    match make_scripts(alloc, ticks, &upsets, options, contents, system) {
         Ok(scripts) => Ok(ReadyRun {
-            ticks: asked,
+            ticks,
             inputs,
+            upsets,
             scripts,
         }),
         Err(ending) => Err(ending),

@@ -7,10 +7,15 @@ ghost use Rattle.cue_scripts.specs.Spelling.{script_text};
 ghost use Rattle.cue_scripts.specs.Written.{IsScriptFile, IsWritten};
 ghost use Rattle.machine_model.specs.Cue.{Cue as ModelCue, script};
 ghost use Rattle.machine_model.specs.Machine.{Machine as ModelMachine, run, start};
+ghost use Rattle.upset_files.specs.Fits.{AllFit};
+ghost use Rattle.upset_model.specs.Coming.{AreOrdered};
+ghost use Rattle.upset_model.specs.Places.{schedule_of};
+ghost use Rattle.upset_model.specs.Upsets.{Schedule};
 ghost use Rattle.recording_model.specs.Receiving.{HasNumbers};
-ghost use Rattle.run_commands.specs.lemmas.Recordings.{HasReceived, IsRecorded};
+ghost use Rattle.run_commands.specs.lemmas.Recordings.{IsRecorded, ReceivesMore};
 ghost use Rattle.system_state.specs.State.{with_inputs};
 ghost use Rattle.tick_steps.specs.CueValues.{cue_value};
+ghost use Rattle.xm_machine.specs.Striking.{MayStrike};
 ghost use Rattle.xm_machine.specs.Spans.{ReceiveSpan, ReceivesInRanges, span_cues};
 
 use crate::received::{bare_slot, is_own, kept_cue};
@@ -21,6 +26,8 @@ use recording_model::has_numbers;
 use std::alloc::Global;
 use std::slice;
 use uart_board::Board;
+use upset_files::places_are_spelled;
+use upset_model::{Coming, UpsetLine};
 use xm_base::{Memory, PartId, TICKS, proof};
 use xm_machine::{Cue, Inputs, Machine};
 use xm_outside::SureSink;
@@ -53,6 +60,7 @@ pub fn script_of(
         system,
         inputs,
         ticks,
+        &[],
         slice::from_mut(&mut recording),
     )?;
     recording.finish(alloc)
@@ -120,49 +128,62 @@ impl Recording {
     }
 }
 
-/// Records what partitions receive in a run of `ticks` ticks. A machine of its own does the run, and its lines and console bytes go
-/// nowhere.
+/// Records what partitions receive in a run of `ticks` ticks while these upsets strike. A machine of its own does the run, and its lines
+/// and console bytes go nowhere.
 pub(crate) fn record(
     alloc: Global,
     system: System,
     inputs: Inputs,
     ticks: u64,
+    upsets: &[UpsetLine],
     recordings: &mut [Recording],
 ) -> Result<(), Memory>
     requires inputs { length inputs ≡ length system.conf.parts }
     requires most { ticks ≤ TICKS }
+    requires fit { AllFit system.conf ticks 0 upsets.now }
     requires inside { All (λ recording. recording.p < length system.conf.parts) recordings.old }
     requires empty { All (λ recording. IsWritten [] recording.writer) recordings.old }
     ensures partitions { map (λ recording. recording.p) recordings.new ≡ map (λ recording. recording.p) recordings.old }
-    ensures recorded { OnOk result (All (IsRecorded (start (with_inputs system inputs)) ticks) recordings.new) }
+    ensures recorded { OnOk result
+        (All (IsRecorded (schedule_of upsets.now) (start (with_inputs system inputs)) ticks) recordings.new) }
 {
-    proof! { keeps_numbers(); }
+    proof! {
+        keeps_numbers();
+        places_are_spelled();
+    }
     let mut machine = Machine::boot(alloc, system, inputs)?;
-    record_run(alloc, &mut machine, ticks, recordings)
+    record_run(alloc, &mut machine, ticks, upsets, recordings)
 }
 
-/// Records what partitions receive in `ticks` ticks of a machine.
+/// Records what partitions receive in `ticks` ticks of a machine while these upsets strike. A span ends before the next upset.
 fn record_run(
     alloc: Global,
     machine: &mut Machine,
     ticks: u64,
+    upsets: &[UpsetLine],
     recordings: &mut [Recording],
 ) -> Result<(), Memory>
     requires fresh { machine.old.state.ticks ≡ 0 }
     requires most { ticks ≤ TICKS }
+    requires strike { All (MayStrike machine.old.state) upsets.now }
+    requires ordered { AreOrdered 0 upsets.now }
     requires inside { All (λ recording. recording.p < length machine.old.state.parts) recordings.old }
     requires empty { All (λ recording. IsWritten [] recording.writer) recordings.old }
     ensures partitions { map (λ recording. recording.p) recordings.new ≡ map (λ recording. recording.p) recordings.old }
-    ensures recorded { OnOk result (All (IsRecorded machine.old.state ticks) recordings.new) }
+    ensures recorded { OnOk result (All (IsRecorded (schedule_of upsets.now) machine.old.state ticks) recordings.new) }
 {
     proof! { keeps_numbers(); }
     let mut board = Board::new();
+    let mut coming = Coming::new(upsets);
     let mut done = 0;
     while done < ticks {
         if machine.halted() {
             return Ok(());
         }
-        let span = next_span(machine, ticks - done, &mut board);
+        let struck = coming.due(done);
+        machine.strike(struck);
+        let end = coming.next(ticks);
+        let span = next_span(machine, end - done, &mut board);
         record_span(alloc, machine, span, recordings)?;
         done += u64::from(span);
     }
@@ -199,8 +220,9 @@ fn record_span(
     requires inside { All (λ recording. recording.p < length machine.now.state.parts) recordings.old }
     requires few { All (λ recording. recording.writer.cues + ticks ≤ TICKS) recordings.old }
     ensures partitions { map (λ recording. recording.p) recordings.new ≡ map (λ recording. recording.p) recordings.old }
-    ensures recorded { (g : ModelMachine) (done : ℕ) → HasReceived ticks (run g done) machine.now
-        → All (IsRecorded g done) recordings.old → OnOk result (All (IsRecorded g (done + ticks)) recordings.new) }
+    ensures recorded { (s : Schedule) (g : ModelMachine) (done : ℕ) → ReceivesMore s g done ticks machine.now
+        → All (IsRecorded s g done) recordings.old
+        → OnOk result (All (IsRecorded s g (done + ticks)) recordings.new) }
 {
     for recording in recordings.iter_mut() {
         recording.add_span(alloc, ticks, machine.cue(recording.p))?;

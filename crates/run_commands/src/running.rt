@@ -15,6 +15,7 @@ ghost use Rattle.file_commands.specs.lemmas.WorkTerms.{HasOutcome};
 ghost use Rattle.file_commands.specs.Work.{outside};
 ghost use Rattle.command_line.specs.Seen.{seen_files};
 ghost use Rattle.command_line.specs.Words.{Bare};
+ghost use Rattle.upset_files.specs.Fits.{AllFit};
 
 use crate::cores::core_room;
 use crate::later::{ended, write_later};
@@ -24,6 +25,7 @@ use file_commands::{Ending, Refusal, read_file};
 use machine_model::keeps_numbers;
 use std::alloc::Global;
 use uart_board::{Board, ViewBoard};
+use upset_model::UpsetLine;
 use xm_base::{FILE_BYTES, Memory, proof};
 use xm_container::{BareFault, System, bare};
 use xm_machine::{Inputs, Machine, WriteFault};
@@ -87,7 +89,16 @@ fn run_bytes<'a, S: Store, O: Sink>(
                 let cores = PartFiles::none();
                 let scripts = Vec::new(alloc);
                 run_system(
-                    alloc, ticks, cores, &scripts, system, inputs, files, out, board,
+                    alloc,
+                    ticks,
+                    &[],
+                    cores,
+                    &scripts,
+                    system,
+                    inputs,
+                    files,
+                    out,
+                    board,
                 )
             }
             Err(_) => Ending::NoMemory,
@@ -100,11 +111,12 @@ fn run_bytes<'a, S: Store, O: Sink>(
     }
 }
 
-/// Boots a system whose partitions have these input words and runs it; then core files of its partitions are written, and these scripts
-/// after them. All memory is taken before the run.
+/// Boots a system whose partitions have these input words and runs it, while these upsets strike; then core files of its partitions are
+/// written, and these scripts after them. All memory is taken before the run.
 pub(crate) fn run_system<'a, S: Store, O: Sink>(
     alloc: Global,
     ticks: u64,
+    upsets: &[UpsetLine],
     cores: PartFiles<'a>,
     scripts: &[MadeScript<'a>],
     system: System,
@@ -115,15 +127,16 @@ pub(crate) fn run_system<'a, S: Store, O: Sink>(
 ) -> Ending<'a>
     requires most { ticks ≤ TICKS }
     requires given { length inputs ≡ length system.conf.parts }
+    requires fit { AllFit system.conf ticks 0 upsets.now }
     requires inside { AreForPartitions (length system.conf.parts) (seen_files cores) }
     ensures outcome { HasOutcome (ending_of result)
-        (outcome_of_run ticks (seen_files cores.entry) (map made_output scripts.now) system inputs)
+        (outcome_of_run upsets.now ticks (seen_files cores.entry) (map made_output scripts.now) system inputs)
         (outside (S.files files.old) (S.read_faults files.old) (S.write_faults files.old) (S.calls files.old)
         (O.got out.old) (O.faults out.old))
         (outside (S.files files.new) (S.read_faults files.new) (S.write_faults files.new) (S.calls files.new)
         (O.got out.new) (O.faults out.new)) }
     ensures board { LeavesBoard (ending_of result)
-        (outcome_of_run ticks (seen_files cores.entry) (map made_output scripts.now) system inputs).run
+        (outcome_of_run upsets.now ticks (seen_files cores.entry) (map made_output scripts.now) system inputs).run
         (O.got out.old) (O.got out.new)
         (⟦<Board as ViewBoard>⟧.board_view board.old) (⟦<Board as ViewBoard>⟧.board_view board.new) }
 {
@@ -131,7 +144,9 @@ pub(crate) fn run_system<'a, S: Store, O: Sink>(
     match Machine::boot(alloc, system, inputs) {
         Ok(mut machine) => {
             let machine = &mut machine;
-            run_booted(alloc, ticks, cores, scripts, machine, files, out, board)
+            run_booted(
+                alloc, ticks, upsets, cores, scripts, machine, files, out, board,
+            )
         }
         Err(Memory) => Ending::NoMemory,
     }
@@ -141,6 +156,7 @@ pub(crate) fn run_system<'a, S: Store, O: Sink>(
 fn run_booted<'a, S: Store, O: Sink>(
     alloc: Global,
     ticks: u64,
+    upsets: &[UpsetLine],
     cores: PartFiles<'a>,
     scripts: &[MadeScript<'a>],
     machine: &mut Machine,
@@ -151,22 +167,25 @@ fn run_booted<'a, S: Store, O: Sink>(
     requires most { ticks ≤ TICKS }
     requires fresh { machine.old.state.ticks ≡ 0 }
     requires running { machine.old.state.halted ≡ false }
+    requires fit { AllFit machine.old.state.system.conf ticks 0 upsets.now }
     requires inside { AreForPartitions (length machine.old.state.parts) (seen_files cores) }
     ensures outcome { (system : Loaded) (inputs : List (List ℕ)) → machine.old.state ≡ start (with_inputs system inputs)
         → HasOutcome (ending_of result)
-        (outcome_of_run ticks (seen_files cores.entry) (map made_output scripts.now) system inputs)
+        (outcome_of_run upsets.now ticks (seen_files cores.entry) (map made_output scripts.now) system inputs)
         (outside (S.files files.old) (S.read_faults files.old) (S.write_faults files.old) (S.calls files.old)
         (O.got out.old) (O.faults out.old))
         (outside (S.files files.new) (S.read_faults files.new) (S.write_faults files.new) (S.calls files.new)
         (O.got out.new) (O.faults out.new)) }
     ensures board { (system : Loaded) (inputs : List (List ℕ)) → machine.old.state ≡ start (with_inputs system inputs)
         → LeavesBoard (ending_of result)
-        (outcome_of_run ticks (seen_files cores.entry) (map made_output scripts.now) system inputs).run
+        (outcome_of_run upsets.now ticks (seen_files cores.entry) (map made_output scripts.now) system inputs).run
         (O.got out.old) (O.got out.new)
         (⟦<Board as ViewBoard>⟧.board_view board.old) (⟦<Board as ViewBoard>⟧.board_view board.new) }
 {
     match core_room(alloc, machine, cores) {
-        Ok(mut room) => run_into(ticks, cores, scripts, machine, &mut room, files, out, board),
+        Ok(mut room) => run_into(
+            ticks, upsets, cores, scripts, machine, &mut room, files, out, board,
+        ),
         Err(Memory) => Ending::NoMemory,
     }
 }
@@ -174,6 +193,7 @@ fn run_booted<'a, S: Store, O: Sink>(
 // Runs a machine that boots, with room for its core files, and writes these and the scripts after the report.
 fn run_into<'a, S: Store, O: Sink>(
     ticks: u64,
+    upsets: &[UpsetLine],
     cores: PartFiles<'a>,
     scripts: &[MadeScript<'a>],
     machine: &mut Machine,
@@ -185,24 +205,25 @@ fn run_into<'a, S: Store, O: Sink>(
     requires most { ticks ≤ TICKS }
     requires fresh { machine.old.state.ticks ≡ 0 }
     requires running { machine.old.state.halted ≡ false }
+    requires fit { AllFit machine.old.state.system.conf ticks 0 upsets.now }
     requires inside { AreForPartitions (length machine.old.state.parts) (seen_files cores) }
     requires room { FitInto machine.old.state.system (length room.old) (seen_files cores) }
     ensures outcome { (system : Loaded) (inputs : List (List ℕ)) → machine.old.state ≡ start (with_inputs system inputs)
         → HasOutcome (ending_of result)
-        (outcome_of_run ticks (seen_files cores.entry) (map made_output scripts.now) system inputs)
+        (outcome_of_run upsets.now ticks (seen_files cores.entry) (map made_output scripts.now) system inputs)
         (outside (S.files files.old) (S.read_faults files.old) (S.write_faults files.old) (S.calls files.old)
         (O.got out.old) (O.faults out.old))
         (outside (S.files files.new) (S.read_faults files.new) (S.write_faults files.new) (S.calls files.new)
         (O.got out.new) (O.faults out.new)) }
     ensures board { (system : Loaded) (inputs : List (List ℕ)) → machine.old.state ≡ start (with_inputs system inputs)
         → LeavesBoard (ending_of result)
-        (outcome_of_run ticks (seen_files cores.entry) (map made_output scripts.now) system inputs).run
+        (outcome_of_run upsets.now ticks (seen_files cores.entry) (map made_output scripts.now) system inputs).run
         (O.got out.old) (O.got out.new)
         (⟦<Board as ViewBoard>⟧.board_view board.old) (⟦<Board as ViewBoard>⟧.board_view board.new) }
 {
     proof! { keeps_numbers(); }
     board.begin();
-    match machine.run(ticks, out, board) {
+    match machine.run_struck(ticks, upsets, out, board) {
         Ok(_) => ended(write_later(machine, cores, scripts, room, files), board),
         Err(WriteFault) => Ending::WriteFaultReport,
     }

@@ -10,8 +10,7 @@ ghost use Rattle.xm_container.specs.Reading.{unpacked};
 ghost use Rattle.run_commands.specs.lemmas.Cores.{AreForPartitions};
 ghost use Rattle.file_commands.specs.Inputs.{inputs_for};
 ghost use Rattle.run_commands.specs.Numbers.{AllReceiveNumbers};
-ghost use Rattle.file_commands.specs.Outcome.{content, first_long, script_bytes, script_denial, script_output, scripts_for};
-ghost use Rattle.file_commands.specs.Packing.{file_names};
+ghost use Rattle.file_commands.specs.Outcome.{content, first_long, run_inputs, script_bytes, script_denial, script_output, scripts_for};
 ghost use Rattle.run_commands.specs.lemmas.Recordings.{IsRecorded, parts_of};
 ghost use Rattle.run_commands.specs.lemmas.Scripts.{made_output, made_outputs, script_or};
 ghost use Rattle.file_commands.specs.EndingValues.{AreSaved, vector_bytes};
@@ -19,7 +18,10 @@ ghost use Rattle.file_commands.specs.lemmas.EndingValuesTerms.{MakesOr};
 ghost use Rattle.file_commands.specs.lemmas.WorkTerms.{Saves};
 ghost use Rattle.file_commands.specs.Work.{outside};
 ghost use Rattle.command_line.specs.Seen.{seen_file, seen_files, seen_options};
-ghost use Rattle.command_line.specs.Words.{inputs_in, scripts_in};
+ghost use Rattle.command_line.specs.Words.{scripts_in};
+ghost use Rattle.upset_files.specs.Fits.{AllFit};
+ghost use Rattle.upset_model.specs.Places.{schedule_of};
+ghost use Rattle.upset_model.specs.declared.upset_line.UpsetLine.{UpsetLine as Upset};
 
 use crate::inputs::inputs_for;
 use crate::recording::{Recording, record};
@@ -28,6 +30,7 @@ use command_line::{PartFile, PartFiles, RunOptions};
 use cue_scripts::ScriptFault;
 use file_commands::{Ending, split_contents, unmade};
 use std::alloc::Global;
+use upset_model::UpsetLine;
 use xm_base::Memory;
 use xm_container::{System, unpack};
 use xm_machine::Inputs;
@@ -40,17 +43,19 @@ pub(crate) struct MadeScript<'a> {
     pub(crate) bytes: Vec<u8>,
 }
 
-/// The scripts that options of a run of this many ticks ask for, in their order; or the first that is too long for a file. One run of its
-/// own, of the same files, makes all of them.
+/// The scripts that options of a run of this many ticks with these upsets ask for, in their order; or the first that is too long for a
+/// file. One run of its own, of the same files, makes all of them.
 pub(crate) fn make_scripts<'a>(
     alloc: Global,
     ticks: u64,
+    upsets: &[UpsetLine],
     options: RunOptions<'a>,
     contents: &[Vec<u8>],
     system: &System,
 ) -> Result<Vec<MadeScript<'a>>, Ending<'a>>
     requires most { ticks ≤ TICKS }
-    requires short { first_long (file_names (inputs_in (seen_options options))) (drop 1 (map vector_bytes contents.now))
+    requires fit { AllFit system.now.conf ticks 0 upsets.now }
+    requires short { first_long (run_inputs (seen_options options)) (drop 1 (map vector_bytes contents.now))
         ≡ None }
     requires same { unpacked (content 0 (map vector_bytes contents.now)) ≡ Ok system.now }
     requires inside { AreForPartitions (length system.now.conf.parts) (scripts_in (seen_options options)) }
@@ -59,34 +64,37 @@ pub(crate) fn make_scripts<'a>(
         (drop 1 (map vector_bytes contents.now))
         ≡ Ok inputs
         → IfOk result
-        (λ _. AllReceiveNumbers (with_inputs system.now inputs) ticks (scripts_in (seen_options options.entry))) }
+        (λ _. AllReceiveNumbers upsets.now (with_inputs system.now inputs) ticks
+        (scripts_in (seen_options options.entry))) }
     ensures made { (inputs : List (List ℕ))
         → inputs_for (length system.now.conf.parts) (seen_options options.entry)
         (drop 1 (map vector_bytes contents.now))
         ≡ Ok inputs
         → MakesOr made_outputs result
-        (scripts_for (with_inputs system.now inputs) ticks (scripts_in (seen_options options.entry))) }
+        (scripts_for upsets.now (with_inputs system.now inputs) ticks (scripts_in (seen_options options.entry))) }
 {
     if options.scripts().split_first().is_none() {
         return Ok(Vec::new(alloc));
     }
-    match record_all(alloc, ticks, options, contents, system) {
+    match record_all(alloc, ticks, upsets, options, contents, system) {
         Ok(recordings) => finish_all(alloc, options.scripts(), recordings),
         Err(Memory) => Err(Ending::NoMemory),
     }
 }
 
-// What the partitions of the options' scripts receive in a run of this many ticks of these files, in the order of the options. One
-// machine does the run for all of them.
+// What the partitions of the options' scripts receive in a run of this many ticks of these files with these upsets, in the order of the
+// options. One machine does the run for all of them.
 fn record_all(
     alloc: Global,
     ticks: u64,
+    upsets: &[UpsetLine],
     options: RunOptions<'_>,
     contents: &[Vec<u8>],
     system: &System,
 ) -> Result<Vec<Recording>, Memory>
     requires most { ticks ≤ TICKS }
-    requires short { first_long (file_names (inputs_in (seen_options options))) (drop 1 (map vector_bytes contents.now))
+    requires fit { AllFit system.now.conf ticks 0 upsets.now }
+    requires short { first_long (run_inputs (seen_options options)) (drop 1 (map vector_bytes contents.now))
         ≡ None }
     requires same { unpacked (content 0 (map vector_bytes contents.now)) ≡ Ok system.now }
     requires inside { AreForPartitions (length system.now.conf.parts) (scripts_in (seen_options options)) }
@@ -97,11 +105,12 @@ fn record_all(
         (drop 1 (map vector_bytes contents.now))
         ≡ Ok inputs
         → IfOk result
-        (λ recordings. All (IsRecorded (start (with_inputs system.now inputs)) ticks) recordings.items) }
+        (λ recordings. All (IsRecorded (schedule_of upsets.now) (start (with_inputs system.now inputs)) ticks)
+        recordings.items) }
 {
     let mut recordings = begun(alloc, options.scripts())?;
     let (system, inputs) = made_again(alloc, options, contents, system)?;
-    record(alloc, system, inputs, ticks, &mut recordings)?;
+    record(alloc, system, inputs, ticks, upsets, &mut recordings)?;
     Ok(recordings)
 }
 
@@ -128,8 +137,9 @@ fn finish_all<'a>(
     recordings: Vec<Recording>,
 ) -> Result<Vec<MadeScript<'a>>, Ending<'a>>
     requires { map (λ recording. recording.p) recordings.items ≡ parts_of (seen_files scripts) }
-    ensures { (system : Booted) (ticks : ℕ) → All (IsRecorded (start system) ticks) recordings.items
-        → MakesOr made_outputs result (scripts_for system ticks (seen_files scripts.entry)) }
+    ensures { (upsets : List Upset) (system : Booted) (ticks : ℕ)
+        → All (IsRecorded (schedule_of upsets) (start system) ticks) recordings.items
+        → MakesOr made_outputs result (scripts_for upsets system ticks (seen_files scripts.entry)) }
 {
     let mut made = Vec::new(alloc);
     let mut rest = scripts;
@@ -157,9 +167,11 @@ fn finished<'a>(
     recording: Recording,
 ) -> Result<MadeScript<'a>, Ending<'a>>
     requires { recording.p ≡ named.part }
-    ensures { (system : Booted) (ticks : ℕ) → IsRecorded (start system) ticks recording
+    ensures { (upsets : List Upset) (system : Booted) (ticks : ℕ)
+        → IsRecorded (schedule_of upsets) (start system) ticks recording
         → MakesOr made_output result
-        (script_or (script_denial system ticks (seen_file named.entry)) (script_output system ticks (seen_file named.entry))) }
+        (script_or (script_denial upsets system ticks (seen_file named.entry))
+        (script_output upsets system ticks (seen_file named.entry))) }
 {
     script_or_ending(alloc, named.file, recording.finish(alloc))
 }
@@ -182,7 +194,7 @@ fn made_again(
     contents: &[Vec<u8>],
     system: &System,
 ) -> Result<(System, Inputs), Memory>
-    requires short { first_long (file_names (inputs_in (seen_options options))) (drop 1 (map vector_bytes contents.now))
+    requires short { first_long (run_inputs (seen_options options)) (drop 1 (map vector_bytes contents.now))
         ≡ None }
     requires same { unpacked (content 0 (map vector_bytes contents.now)) ≡ Ok system.now }
     ensures system { IfOk result (λ again. again.0 ≡ system.now) }
@@ -208,11 +220,11 @@ fn script_or_ending<'a>(
     file: &'a str,
     script: Result<Vec<u8>, ScriptFault>,
 ) -> Result<MadeScript<'a>, Ending<'a>>
-    ensures { (system : Booted) (ticks : ℕ) (part : ℕ)
-        → IsScriptFile vector_bytes (script_bytes system ticks part) script
+    ensures { (upsets : List Upset) (system : Booted) (ticks : ℕ) (part : ℕ)
+        → IsScriptFile vector_bytes (script_bytes upsets system ticks part) script
         → MakesOr made_output result
-        (script_or (script_denial system ticks (record { part = part; file = file.now }))
-        (script_output system ticks (record { part = part; file = file.now }))) }
+        (script_or (script_denial upsets system ticks (record { part = part; file = file.now }))
+        (script_output upsets system ticks (record { part = part; file = file.now }))) }
 {
     match script {
         Ok(bytes) => Ok(MadeScript { file, bytes }),

@@ -11,14 +11,15 @@ ghost use Rattle.run_commands.specs.Numbers.{AllReceiveNumbers, HasScripts, Rece
 ghost use Rattle.run_commands.specs.lemmas.NumbersTerms.{ReceivesShort};
 ghost use Rattle.run_commands.specs.lemmas.Scripts.{made_output};
 ghost use Rattle.file_commands.specs.Inputs.{inputs_for};
-ghost use Rattle.file_commands.specs.Outcome.{content, first_long, outcome_of, outcome_of_run, ran_with, run_outcome, ticks_asked};
-ghost use Rattle.file_commands.specs.Packing.{file_names};
+ghost use Rattle.file_commands.specs.Outcome.{content, first_long, outcome_of, outcome_of_run, ran_with, run_inputs, run_outcome, ticks_asked, upsets_for};
 ghost use Rattle.file_commands.specs.EndingValues.{vector_bytes, ending_of};
 ghost use Rattle.file_commands.specs.lemmas.WorkTerms.{HasOutcome};
 ghost use Rattle.file_commands.specs.Work.{outside};
 ghost use Rattle.command_line.specs.Grammar.{count_of};
 ghost use Rattle.command_line.specs.Seen.{seen_files, seen_options};
-ghost use Rattle.command_line.specs.Words.{Run, inputs_in, scripts_in, span_in};
+ghost use Rattle.command_line.specs.Words.{Run, scripts_in, span_in};
+ghost use Rattle.upset_files.specs.Fits.{AllFit};
+ghost use Rattle.upset_model.specs.declared.upset_line.UpsetLine.{UpsetLine};
 
 use crate::readiness::{ReadyRun, ready_run};
 use crate::running::run_system;
@@ -30,7 +31,7 @@ use uart_board::{Board, ViewBoard};
 use xm_container::{System, unpack};
 use xm_outside::{Sink, Store};
 
-/// Reads a container and the inputs of a run, and runs it.
+/// Reads a container, the inputs of a run and its upsets, and runs it.
 pub fn run_container<'a, S: Store, O: Sink>(
     alloc: Global,
     container: &'a str,
@@ -53,7 +54,7 @@ pub fn run_container<'a, S: Store, O: Sink>(
     ensures numbers { HasScripts (ending_of result)
         → ReceivesOf container.now (seen_options options.entry) (S.files files.old) }
 {
-    match read_files(alloc, container, options.inputs(), files) {
+    match read_files(alloc, container, options.inputs(), options.upsets(), files) {
         Ok(contents) => run_files(alloc, container, options, &contents, files, out, board),
         Err(ending) => ending,
     }
@@ -83,7 +84,7 @@ fn run_files<'a, S: Store, O: Sink>(
     ensures numbers { HasScripts (ending_of result)
         → ReceivesShort container.now (seen_options options.entry) (map vector_bytes contents.now) }
 {
-    match first_long(container, options.inputs(), contents) {
+    match first_long(container, options.inputs(), options.upsets(), contents) {
         Some(file) => Ending::Refused {
             file,
             why: Refusal::TooLong,
@@ -103,8 +104,7 @@ fn run_packed<'a, S: Store, O: Sink>(
     board: &mut Board,
 ) -> Ending<'a>
     requires most { count_of (span_in (seen_options options)) ≤ TICKS }
-    requires short { first_long (container.now ∷ file_names (inputs_in (seen_options options)))
-        (map vector_bytes contents.now)
+    requires short { first_long (container.now ∷ run_inputs (seen_options options)) (map vector_bytes contents.now)
         ≡ None }
     ensures outcome { HasOutcome (ending_of result)
         (run_outcome container.now (seen_options options.entry) (content 0 (map vector_bytes contents.now))
@@ -142,26 +142,28 @@ fn run_unpacked<'a, S: Store, O: Sink>(
     board: &mut Board,
 ) -> Ending<'a>
     requires most { count_of (span_in (seen_options options)) ≤ TICKS }
-    requires short { first_long (file_names (inputs_in (seen_options options))) (drop 1 (map vector_bytes contents.now))
-        ≡ None }
+    requires short { first_long (run_inputs (seen_options options)) (drop 1 (map vector_bytes contents.now)) ≡ None }
     requires same { unpacked (content 0 (map vector_bytes contents.now)) ≡ Ok system }
     ensures outcome { HasOutcome (ending_of result)
-        (ran_with container.now (seen_options options.entry) system
+        (ran_with container.now (seen_options options.entry) (drop 1 (map vector_bytes contents.now)) system
         (inputs_for (length system.conf.parts) (seen_options options.entry) (drop 1 (map vector_bytes contents.now))))
         (outside (S.files files.old) (S.read_faults files.old) (S.write_faults files.old) (S.calls files.old)
         (O.got out.old) (O.faults out.old))
         (outside (S.files files.new) (S.read_faults files.new) (S.write_faults files.new) (S.calls files.new)
         (O.got out.new) (O.faults out.new)) }
     ensures board { LeavesBoard (ending_of result)
-        (ran_with container.now (seen_options options.entry) system
+        (ran_with container.now (seen_options options.entry) (drop 1 (map vector_bytes contents.now)) system
         (inputs_for (length system.conf.parts) (seen_options options.entry)
         (drop 1 (map vector_bytes contents.now)))).run
         (O.got out.old) (O.got out.new)
         (⟦<Board as ViewBoard>⟧.board_view board.old) (⟦<Board as ViewBoard>⟧.board_view board.new) }
-    ensures numbers { HasScripts (ending_of result) → (inputs : List (List ℕ))
+    ensures numbers { HasScripts (ending_of result) → (inputs : List (List ℕ)) (upsets : List UpsetLine)
         → inputs_for (length system.conf.parts) (seen_options options.entry) (drop 1 (map vector_bytes contents.now))
         ≡ Ok inputs
-        → AllReceiveNumbers (with_inputs system inputs) (ticks_asked (span_in (seen_options options.entry)) system.conf)
+        → upsets_for system.conf (ticks_asked (span_in (seen_options options.entry)) system.conf)
+        (seen_options options.entry) (drop 1 (map vector_bytes contents.now))
+        ≡ Ok upsets
+        → AllReceiveNumbers upsets (with_inputs system inputs) (ticks_asked (span_in (seen_options options.entry)) system.conf)
         (scripts_in (seen_options options.entry)) }
 {
     match ready_run(alloc, container, options, contents, &system) {
@@ -182,26 +184,28 @@ fn run_ready<'a, S: Store, O: Sink>(
 ) -> Ending<'a>
     requires most { ready.ticks ≤ TICKS }
     requires given { length ready.inputs ≡ length system.conf.parts }
+    requires fit { AllFit system.conf ready.ticks 0 ready.upsets.items }
     requires inside { AreForPartitions (length system.conf.parts) (seen_files cores) }
     ensures outcome { HasOutcome (ending_of result)
-        (outcome_of_run ready.entry.ticks (seen_files cores.entry) (map made_output ready.entry.scripts.items)
-        system ready.entry.inputs)
+        (outcome_of_run ready.entry.upsets.items ready.entry.ticks (seen_files cores.entry)
+        (map made_output ready.entry.scripts.items) system ready.entry.inputs)
         (outside (S.files files.old) (S.read_faults files.old) (S.write_faults files.old) (S.calls files.old)
         (O.got out.old) (O.faults out.old))
         (outside (S.files files.new) (S.read_faults files.new) (S.write_faults files.new) (S.calls files.new)
         (O.got out.new) (O.faults out.new)) }
     ensures board { LeavesBoard (ending_of result)
-        (outcome_of_run ready.entry.ticks (seen_files cores.entry) (map made_output ready.entry.scripts.items)
-        system ready.entry.inputs).run
+        (outcome_of_run ready.entry.upsets.items ready.entry.ticks (seen_files cores.entry)
+        (map made_output ready.entry.scripts.items) system ready.entry.inputs).run
         (O.got out.old) (O.got out.new)
         (⟦<Board as ViewBoard>⟧.board_view board.old) (⟦<Board as ViewBoard>⟧.board_view board.new) }
 {
     let ReadyRun {
         ticks,
         inputs,
+        upsets,
         scripts,
     } = ready;
     run_system(
-        alloc, ticks, cores, &scripts, system, inputs, files, out, board,
+        alloc, ticks, &upsets, cores, &scripts, system, inputs, files, out, board,
     )
 }

@@ -6,11 +6,16 @@ use Rattle.xm_outside.specs.Causes.{Rose}
 use Rattle.xm_outside.specs.Files.{OthersStay}
 use Rattle.core_files.specs.Length.{core_length_of}
 use Rattle.loaded_system.specs.System.{System}
+use Rattle.xm_conf.specs.Configuration.{Conf}
+use Rattle.upset_files.specs.Fits.{AllFit}
+use Rattle.upset_model.specs.declared.upset_line.UpsetLine.{UpsetLine}
 use Rattle.machine_model.specs.Facts.{BootsComplete, RunsKeepNumbers}
-use Rattle.machine_model.specs.Machine.{Machine, run, start}
+use Rattle.machine_model.specs.Machine.{Machine, start}
+use Rattle.upset_model.specs.Upsets.{Schedule, upset_run}
+use Rattle.run_commands.specs.lemmas.StruckRuns.{struck_numbered}
 use Rattle.machine_model.specs.View.{System as Booted, view_of}
 use Rattle.system_state.specs.State.{with_inputs}
-use Rattle.command_line.specs.Words.{PartFile, RunOption, Length, ForPart, asked, cores_in, files_in, inputs_in, kind_place, scripts_in}
+use Rattle.command_line.specs.Words.{PartFile, RunOption, Length, Upsets, ForPart, asked, cores_in, files_in, inputs_in, kind_place, scripts_in}
 use Rattle.command_line.specs.declared.run_options.FileKind.{FileKind}
 use Rattle.command_line.specs.declared.run_options.FileKind.TheVariants.{Core, Input, Script}
 use Rattle.run_commands.specs.lemmas.Cores.{AreForPartitions, FitInto}
@@ -24,6 +29,7 @@ use Rattle.file_commands.specs.Work.{Outside, SavesAll, after_store_call, with_f
 options_inside : (parts : ℕ) (kind : FileKind) (options : List RunOption) → first_beyond parts options ≡ None → AreForPartitions parts (files_in kind options)
 options_inside parts kind [] none = tt
 options_inside parts kind (Length span ∷ options) none = options_inside parts kind options none
+options_inside parts kind (Upsets file ∷ options) none = options_inside parts kind options none
 options_inside parts kind (ForPart other named ∷ options) none = at (nat_le parts named.part) refl none (λ e. options_inside parts kind options e)
   where
     one : named.part < parts → AreForPartitions parts (files_in kind options) → (t : Bool) → AreForPartitions parts (cons_option (asked t named) (files_in kind options))
@@ -58,15 +64,24 @@ pub booted_inside : (system : System) (inputs : List (List ℕ)) (cores : List P
 booted_inside system inputs cores g law is inside =
     subst (λ (n : ℕ). AreForPartitions n cores) (sym (ap (λ (m : Machine). length m.parts) is ∙ booted_parts law system inputs)) inside
 
--- which a run leaves
-pub run_inside : RunsKeepNumbers → (old new : Machine) (count : ℕ) (cores : List PartFile) → new ≡ run old count → AreForPartitions (length old.parts) cores → AreForPartitions (length new.parts) cores
-run_inside law old new count cores is inside =
-    subst (λ (n : ℕ). AreForPartitions n cores) (sym (ap (λ (m : Machine). length m.parts) is ∙ (law old count).parts)) inside
+-- and upsets that fit its configuration
+booted_system : (system : System) (inputs : List (List ℕ)) → (start (with_inputs system inputs)).system.conf ≡ system.conf
+unfolding start
+booted_system system inputs = refl
+
+pub booted_fit : (system : System) (inputs : List (List ℕ)) (g : Machine) (ticks : ℕ) (upsets : List UpsetLine) → g ≡ start (with_inputs system inputs) → AllFit system.conf ticks 0 upsets → AllFit g.system.conf ticks 0 upsets
+booted_fit system inputs g ticks upsets is fit =
+    subst (λ (conf : Conf). AllFit conf ticks 0 upsets) (sym (ap (λ (m : Machine). m.system.conf) is ∙ booted_system system inputs)) fit
+
+-- the partitions of files stay when upsets strike in a run
+pub run_inside : RunsKeepNumbers → (s : Schedule) (old new : Machine) (count : ℕ) (cores : List PartFile) → new ≡ upset_run s old count → AreForPartitions (length old.parts) cores → AreForPartitions (length new.parts) cores
+run_inside law s old new count cores is inside =
+    subst (λ (n : ℕ). AreForPartitions n cores) (sym (ap (λ (m : Machine). length m.parts) is ∙ (struck_numbered law count s old).0)) inside
 
 -- and so it does the lengths of their core files
-pub run_fits : RunsKeepNumbers → (old new : Machine) (count most : ℕ) (cores : List PartFile) → new ≡ run old count → FitInto old.system most cores → FitInto new.system most cores
-run_fits law old new count most cores is fits =
-    subst (λ (s : Booted). FitInto s most cores) (sym (ap (λ (m : Machine). m.system) is ∙ (law old count).system)) fits
+pub run_fits : RunsKeepNumbers → (s : Schedule) (old new : Machine) (count most : ℕ) (cores : List PartFile) → new ≡ upset_run s old count → FitInto old.system most cores → FitInto new.system most cores
+run_fits law s old new count most cores is fits =
+    subst (λ (system : Booted). FitInto system most cores) (sym (ap (λ (m : Machine). m.system) is ∙ (struck_numbered law count s old).1)) fits
 
 -- The next file.
 

@@ -1,14 +1,14 @@
 -- The files of a run's inputs, one after another.
-use Rattle.std.proofs.Common.{◌≡◌, ◌≢◌, ◌↔◌, ℕ, ◌%◌, Bool, true, false, nat_lt, if◌then◌else◌, List, [], ◌∷◌, length, drop, Some, None, Ok, Err, refl, sym, ap, ◌∙◌, arith}
+use Rattle.std.proofs.Common.{◌≡◌, ◌≢◌, ◌↔◌, ℕ, ◌%◌, Bool, true, false, nat_lt, if◌then◌else◌, List, [], ◌∷◌, ◌++◌, length, drop, Option, Some, None, Ok, Err, refl, sym, ap, ◌∙◌, arith}
 use Rattle.std.proofs.lemmas.Bool.Decides.{nat_tests}
 use Rattle.std.specs.Prelude.{nat_eq, slice_set}
 use Rattle.xm_base.specs.declared.limits.TheConstants.{FILE_BYTES}
-use Rattle.command_line.specs.Words.{PartFile}
+use Rattle.command_line.specs.Words.{PartFile, RunOption, inputs_in, upsets_in}
 use Rattle.system_state.specs.Inputs.{words_in}
 use Rattle.file_commands.specs.Ending.{input_text}
 use Rattle.file_commands.specs.Inputs.{inputs_with}
-use Rattle.file_commands.specs.Outcome.{first_long}
-use Rattle.file_commands.specs.Packing.{denial}
+use Rattle.file_commands.specs.Outcome.{first_long, name_if_any, run_inputs}
+use Rattle.file_commands.specs.Packing.{denial, file_names}
 use Rattle.file_commands.specs.lemmas.CommandLemmas.{none_long}
 
 -- where no file is too long, none of those after the first is
@@ -19,6 +19,24 @@ rest_short file files (bytes ∷ contents) none = at (nat_lt FILE_BYTES (length 
     at : (t : Bool) → (if t then Some file else first_long files contents) ≡ None → first_long files contents ≡ None
     at true e = absurd (cc)
     at false e = e
+
+-- nor is any of those in front
+pub front_short : (files later contents : List (List ℕ)) → first_long (files ++ later) contents ≡ None → first_long files contents ≡ None
+front_short [] later contents none = refl
+front_short (file ∷ files) later [] none = refl
+front_short (file ∷ files) later (bytes ∷ contents) none = at (nat_lt FILE_BYTES (length bytes)) none (λ e. front_short files later contents e)
+  where
+    at : (t : Bool) → (if t then Some file else first_long (files ++ later) contents) ≡ None → (first_long (files ++ later) contents ≡ None → first_long files contents ≡ None)
+        → (if t then Some file else first_long files contents) ≡ None
+    at true e rest = absurd (cc)
+    at false e rest = rest e
+
+-- the first file of a run that is too long, where its files are known by other words
+pub long_of_run : (options : List RunOption) (found : Option (List ℕ)) (container : List ℕ) (inputs : List PartFile) (upsets : Option (List ℕ)) (contents : List (List ℕ)) → inputs ≡ inputs_in options → upsets ≡ upsets_in options
+    → found ≡ first_long (container ∷ file_names inputs ++ name_if_any upsets) contents → found ≡ first_long (container ∷ run_inputs options) contents
+long_of_run options found container inputs upsets contents same struck is =
+    is ∙ ap (λ (files : List PartFile). first_long (container ∷ file_names files ++ name_if_any upsets) contents) same
+    ∙ ap (λ (file : Option (List ℕ)). first_long (container ∷ file_names (inputs_in options) ++ name_if_any file) contents) struck
 
 -- without contents no more inputs are read
 pub no_more_inputs : (inputs : List (List ℕ)) (files : List PartFile) (contents : List (List ℕ)) → contents ≡ [] → inputs_with inputs files contents ≡ Ok inputs

@@ -1,15 +1,13 @@
 -- For proofs and private clauses: what partitions receive in a run that makes scripts of it.
 use Rattle.std.specs.Prelude.{◌≡◌, ℕ, List, ◌∷◌, Option, Some, None}
 use Rattle.xm_outside.specs.Files.{Files}
-use Rattle.machine_model.specs.Cue.{script}
-use Rattle.command_line.specs.Words.{Command, RunOption, Bare, Parse, Upgrade, BuildImage, ReadImage, Pack, ListContainer, CheckContainer, MakePlan, CheckPlan, ListGroups, ListSteerers, Generate, Run, Replay, inputs_in}
-use Rattle.file_commands.specs.Outcome.{first_long}
-use Rattle.file_commands.specs.Packing.{file_names}
+use Rattle.command_line.specs.Words.{Command, RunOption, Bare, Parse, Upgrade, BuildImage, ReadImage, Pack, ListContainer, CheckContainer, MakePlan, CheckPlan, ListGroups, ListSteerers, Generate, Run, Replay}
+use Rattle.file_commands.specs.Outcome.{first_long, run_inputs}
 use Rattle.run_commands.specs.Numbers.{ReceivesIn, ReceivesOf}
 
 -- they are, and none of the files is too long
 pub record ReceivesShort (container : List ℕ) (options : List RunOption) (contents : List (List ℕ)) : Type 0 where
-  pub short : first_long (container ∷ file_names (inputs_in options)) contents ≡ None
+  pub short : first_long (container ∷ run_inputs options) contents ≡ None
   pub received : ReceivesIn options contents
 
 -- the same of a command; only a run of a container makes scripts

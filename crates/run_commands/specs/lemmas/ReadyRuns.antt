@@ -22,5 +22,5 @@ IsRefusing NoMemory outcome = ⊤
 
 -- a run is ready that has this outcome, or it is refused
 abbrev pub IsReadyFor : Result ReadyRun code.Ending → List RunOption → System → Outcome → Type 0
-IsReadyFor (Ok ready) options system outcome = outcome ≡ outcome_of_run ready.ticks (cores_in options) (map made_output ready.scripts.items) system ready.inputs
+IsReadyFor (Ok ready) options system outcome = outcome ≡ outcome_of_run ready.upsets.items ready.ticks (cores_in options) (map made_output ready.scripts.items) system ready.inputs
 IsReadyFor (Err ending) options system outcome = IsRefusing (ending_of ending) outcome

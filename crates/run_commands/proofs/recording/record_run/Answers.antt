@@ -1,36 +1,76 @@
-use Rattle.std.proofs.Common.{◌+◌, refl, sym, subst, ◌∙◌}
+use Rattle.std.proofs.Common.{◌+◌, ◌≤◌, arith, refl, sym, subst, ◌∙◌, ap}
 use Rattle.xm_base.specs.declared.limits.TheConstants.{TICKS}
-use Rattle.run_commands.proofs.RunLemmas.{AreRecorded, all_recorded, halt_recorded, has_received, more_recorded, none_recorded, parts_left, room_left, ticks_left}
+use Rattle.upset_model.specs.Places.{schedule_of}
+use Rattle.run_commands.proofs.RunLemmas.{AreComing, AreRecorded, all_recorded, begins_with, comes_after, comes_next, coming_all, halt_recorded, has_received, may_next, more_recorded, none_recorded, parts_left, room_left, ticks_left}
+use Rattle.upset_model.specs.lemmas.Segments.{ready_halted}
+use Rattle.machine_model.specs.Machine.{Machine}
 use Rattle.run_commands.proofs.recording.record_run.Goals as goal
 
 pub loop-done-init : goal.loop-done-init
-loop-done-init c = none_recorded c.args.machine.now.state c.args.ticks c.args.machine.now.state c.args.recordings.now refl c.requires.empty
+loop-done-init c = record {
+  recorded = none_recorded (schedule_of c.args.upsets.now) c.args.machine.now.state c.args.ticks c.args.machine.now.state c.args.recordings.now refl c.requires.empty;
+  comes = coming_all c.args.upsets.now _ c.new-coming.ensures c.requires.ordered;
+}
 
 pub returns-then-halted-clause-recorded : goal.returns-then-halted-clause-recorded
 returns-then-halted-clause-recorded c =
-    halt_recorded c.args.machine.now.state c.args.ticks c.loop-done.done c.loop-done.machine.state c.args.recordings.now c.loop-done.recordings (sym c.halted.ensures ∙ c.if-halted.true) c.loop-done.invariant
+    halt_recorded (schedule_of c.args.upsets.now) c.args.machine.now.state c.args.ticks c.loop-done.done c.loop-done.machine.state c.args.recordings.now c.loop-done.recordings (sym c.halted.ensures ∙ c.if-halted.true)
+    c.loop-done.invariant.recorded
+
+pub due-struck-requires : goal.due-struck-requires
+due-struck-requires c = c.loop-done.invariant.comes.ordered
+
+pub strike-requires : goal.strike-requires
+strike-requires c =
+    may_next c.keeps_numbers.ensures.runs (schedule_of c.args.upsets.now) c.args.machine.now.state c.args.ticks c.loop-done.done c.loop-done.machine.state c.args.recordings.now c.loop-done.recordings
+    c.args.upsets.now c.loop-done.coming c.due-struck.result.now c.loop-done.invariant.recorded c.loop-done.invariant.comes c.due-struck.ensures.these c.requires.strike
+
+pub next_span-span-requires-clause-running : goal.next_span-span-requires-clause-running
+next_span-span-requires-clause-running c = ap (λ (m : Machine). m.halted) c.strike.ensures.state ∙ ready_halted _ c.loop-done.machine.state ∙ sym c.halted.ensures ∙ c.if-halted.false
+
+pub next_span-span-requires-clause-some : goal.next_span-span-requires-clause-some
+next_span-span-requires-clause-some c =
+    let after = c.next-end.ensures.later (c.loop-done.done + 1) c.due-struck.ensures.ordered (omega (arith, c.loop-done-test.true)) in
+    omega (arith, after)
 
 pub next_span-span-requires-clause-most : goal.next_span-span-requires-clause-most
 next_span-span-requires-clause-most c =
-    ticks_left c.args.machine.now.state c.args.ticks TICKS c.loop-done.done c.loop-done.machine.state c.args.recordings.now c.loop-done.recordings c.requires.fresh c.requires.most c.loop-done-test.true c.loop-done.invariant
+    let begins = begins_with c.args.upsets.now c.loop-done.coming c.due-struck.result.now c.loop-done.done c.loop-done.machine.state c.strike.new.self.state c.loop-done.invariant.comes c.due-struck.ensures.these c.strike.ensures.state in
+    let left =
+    ticks_left (schedule_of c.args.upsets.now) c.args.machine.now.state c.args.ticks TICKS c.loop-done.done c.loop-done.machine.state c.strike.new.self.state c.args.recordings.now c.loop-done.recordings
+    c.requires.fresh c.requires.most c.loop-done-test.true c.loop-done.invariant.recorded begins in
+    omega (arith, left, c.next-end.ensures.within)
 
 pub record_span-requires-clause-inside : goal.record_span-requires-clause-inside
 record_span-requires-clause-inside c =
-    parts_left c.keeps_numbers.ensures.runs c.args.machine.now.state _ c.args.ticks c.loop-done.done c.next_span-span.result c.loop-done.machine.state c.next_span-span.new.machine.state
-    c.args.recordings.now c.loop-done.recordings refl c.requires.inside c.loop-done.invariant c.next_span-span.ensures.state
+    let begins = begins_with c.args.upsets.now c.loop-done.coming c.due-struck.result.now c.loop-done.done c.loop-done.machine.state c.strike.new.self.state c.loop-done.invariant.comes c.due-struck.ensures.these c.strike.ensures.state in
+    parts_left c.keeps_numbers.ensures.runs (schedule_of c.args.upsets.now) c.args.machine.now.state _ c.args.ticks c.loop-done.done c.next_span-span.result c.loop-done.machine.state c.strike.new.self.state c.next_span-span.new.machine.state
+    c.args.recordings.now c.loop-done.recordings refl c.requires.inside c.loop-done.invariant.recorded begins c.next_span-span.ensures.state
 
 pub record_span-requires-clause-few : goal.record_span-requires-clause-few
 record_span-requires-clause-few c =
-    room_left c.args.machine.now.state c.args.ticks TICKS c.loop-done.done c.next_span-span.result c.loop-done.machine.state c.args.recordings.now c.loop-done.recordings
-    c.requires.most c.loop-done-test.true c.next_span-span.ensures.within c.loop-done.invariant
+    room_left (schedule_of c.args.upsets.now) c.args.machine.now.state c.args.ticks TICKS c.loop-done.done c.next_span-span.result c.loop-done.machine.state c.args.recordings.now c.loop-done.recordings
+    c.requires.most c.loop-done-test.true (omega (arith, c.next_span-span.ensures.within, c.next-end.ensures.within)) c.loop-done.invariant.recorded
 
 pub loop-done-preserved : goal.loop-done-preserved
 loop-done-preserved c =
-    subst (λ ticks. AreRecorded c.args.machine.now.state c.args.ticks (c.loop-done.done + ticks) c.next_span-span.new.machine.state c.args.recordings.now c.record_span.new.recordings) (sym c.from-done.ensures)
-    (more_recorded c.args.machine.now.state c.args.ticks c.loop-done.done c.next_span-span.result c.loop-done.machine.state c.next_span-span.new.machine c.args.recordings.now c.loop-done.recordings c.record_span.new.recordings
-    c.loop-done-test.true c.next_span-span.ensures.within c.loop-done.invariant c.next_span-span.ensures.state c.in_ok-record_span.ensures.partitions c.in_ok-record_span.ensures.recorded
-    (has_received c.keeps_numbers.ensures.runs c.next_span-span.result c.loop-done.machine c.next_span-span.new.machine c.next_span-span.ensures.state c.next_span-span.ensures.received))
+    let begins = begins_with c.args.upsets.now c.loop-done.coming c.due-struck.result.now c.loop-done.done c.loop-done.machine.state c.strike.new.self.state c.loop-done.invariant.comes c.due-struck.ensures.these c.strike.ensures.state in
+    let after = c.next-end.ensures.later (c.loop-done.done + 1) c.due-struck.ensures.ordered (omega (arith, c.loop-done-test.true)) in
+    let within : c.loop-done.done + c.next_span-span.result ≤ c.next-end.result = omega (arith, after, c.next_span-span.ensures.within) in
+    let next =
+    comes_next c.args.upsets.now c.loop-done.coming c.due-struck.new.self c.loop-done.done c.next-end.result c.next_span-span.result c.loop-done.machine.state c.strike.new.self.state c.loop-done.invariant.comes begins
+    c.due-struck.ensures.later (c.next-end.ensures.none (c.loop-done.done + 1) c.due-struck.ensures.ordered) c.next_span-span.ensures.some within in
+    record {
+      recorded = subst (λ ticks. AreRecorded (schedule_of c.args.upsets.now) c.args.machine.now.state c.args.ticks (c.loop-done.done + ticks) c.next_span-span.new.machine.state c.args.recordings.now c.record_span.new.recordings) (sym c.from-done.ensures)
+          (more_recorded (schedule_of c.args.upsets.now) c.args.machine.now.state c.args.ticks c.loop-done.done c.next_span-span.result c.loop-done.machine.state c.strike.new.self.state c.next_span-span.new.machine
+          c.args.recordings.now c.loop-done.recordings c.record_span.new.recordings
+          (omega (arith, c.next_span-span.ensures.within, c.next-end.ensures.within)) next c.loop-done.invariant.recorded c.next_span-span.ensures.state c.in_ok-record_span.ensures.partitions c.in_ok-record_span.ensures.recorded
+          (has_received c.keeps_numbers.ensures.runs c.next_span-span.result c.strike.new.self c.next_span-span.new.machine c.next_span-span.ensures.state c.next_span-span.ensures.received));
+      comes = subst (λ ticks. AreComing c.args.upsets.now (c.loop-done.done + ticks) c.due-struck.new.self) (sym c.from-done.ensures)
+          (comes_after c.args.upsets.now c.loop-done.coming c.due-struck.new.self c.loop-done.done c.next-end.result c.next_span-span.result c.loop-done.invariant.comes
+          c.due-struck.ensures.later (c.next-end.ensures.ordered (c.loop-done.done + 1) c.due-struck.ensures.ordered) c.next_span-span.ensures.some within);
+    }
 
 pub returns-clause-recorded : goal.returns-clause-recorded
 returns-clause-recorded c =
-    all_recorded c.args.machine.now.state c.args.ticks c.loop-done.done c.loop-done.machine.state c.args.recordings.now c.loop-done.recordings c.loop-done-test.false c.loop-done.invariant
+    all_recorded (schedule_of c.args.upsets.now) c.args.machine.now.state c.args.ticks c.loop-done.done c.loop-done.machine.state c.args.recordings.now c.loop-done.recordings c.loop-done-test.false c.loop-done.invariant.recorded

@@ -1,8 +1,6 @@
 use Rattle.std.proofs.Common.{map, refl}
 use Rattle.command_line.specs.Seen.{seen_options}
-use Rattle.command_line.specs.Words.{inputs_in}
-use Rattle.file_commands.specs.Outcome.{run_outcome}
-use Rattle.file_commands.specs.Packing.{file_names}
+use Rattle.file_commands.specs.Outcome.{run_inputs, run_outcome}
 use Rattle.file_commands.specs.EndingValues.{vector_bytes}
 use Rattle.run_commands.specs.lemmas.BoardLemmas.{unmade_leaves}
 use Rattle.builders.specs.lemmas.ImagingLemmas.{container_unmade}
@@ -12,7 +10,7 @@ use Rattle.run_commands.proofs.WorkLemmas.{fault_text_by, outcome-unpacked, unma
 use Rattle.run_commands.proofs.unpacking.run_packed.Goals as goal
 
 pub run_unpacked-requires-clause-short : goal.run_unpacked-requires-clause-short
-run_unpacked-requires-clause-short g c = rest_short c.args.container.now (file_names (inputs_in (seen_options c.args.options))) (map vector_bytes c.args.contents.now) c.requires.short
+run_unpacked-requires-clause-short g c = rest_short c.args.container.now (run_inputs (seen_options c.args.options)) (map vector_bytes c.args.contents.now) c.requires.short
 
 pub run_unpacked-requires-clause-same : goal.run_unpacked-requires-clause-same
 run_unpacked-requires-clause-same g c = rw c.split_contents.ensures.first at c.in-Ok.ensures.exact
@@ -38,9 +36,9 @@ pub returns-in-Err-clause-board : goal.returns-in-Err-clause-board
 returns-in-Err-clause-board g c = unmade_leaves _ c.args.container.now c.no_container.result _ _ _ (record { places = _; marks = _ }) c.unmade.ensures
 
 pub returns-in-Ok-clause-numbers : goal.returns-in-Ok-clause-numbers
-returns-in-Ok-clause-numbers g c = λ made system inputs unpacks given.
+returns-in-Ok-clause-numbers g c = λ made system inputs upsets unpacks given struck.
     let exact = rw c.split_contents.ensures.first at c.in-Ok.ensures.exact in
-    received_system (seen_options c.args.options) (map vector_bytes c.args.contents.now) c.in-Ok.system exact (c.run_unpacked.ensures.numbers made) system inputs unpacks given
+    received_system (seen_options c.args.options) (map vector_bytes c.args.contents.now) c.in-Ok.system exact (c.run_unpacked.ensures.numbers made) system inputs upsets unpacks given struck
 
 pub returns-in-Err-clause-numbers : goal.returns-in-Err-clause-numbers
-returns-in-Err-clause-numbers g c = λ made system inputs unpacks given. absurd (never_unpacked _ c.args.container.now c.no_container.result c.unmade.ensures made)
+returns-in-Err-clause-numbers g c = λ made system inputs upsets unpacks given struck. absurd (never_unpacked _ c.args.container.now c.no_container.result c.unmade.ensures made)

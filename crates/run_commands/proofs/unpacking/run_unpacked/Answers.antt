@@ -15,7 +15,7 @@ pub returns-clause-board : goal.returns-clause-board
 returns-clause-board g c = refusing_leaves (ending_of c.in-Err.ending) _ _ _ (record { places = _; marks = _ }) c.in-Err.ensures.value
 
 pub returns-in-Ok-clause-numbers : goal.returns-in-Ok-clause-numbers
-returns-in-Ok-clause-numbers g c = λ made inputs given. c.in-Ok.ensures.numbers inputs given
+returns-in-Ok-clause-numbers g c = λ made inputs upsets given struck. c.in-Ok.ensures.numbers inputs upsets given struck
 
 pub returns-clause-numbers : goal.returns-clause-numbers
-returns-clause-numbers g c = λ made inputs given. absurd (refusing_unmade (ending_of c.in-Err.ending) _ c.in-Err.ensures.value made)
+returns-clause-numbers g c = λ made inputs upsets given struck. absurd (refusing_unmade (ending_of c.in-Err.ending) _ c.in-Err.ensures.value made)
