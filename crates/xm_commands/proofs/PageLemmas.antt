@@ -1,7 +1,7 @@
 -- The promises of the top call together, from what the work did.
 use Rattle.std.proofs.Common.{List, ℕ, refl}
 use Rattle.replay_setup.specs.OfRun.{RunIsReplayed}
-use Rattle.machine_model.specs.Laws.{OwnLines, SameCoreFile}
+use Rattle.upset_laws.specs.ReportLaws.{OwnReports, SameUpsetCoreFile}
 use Rattle.command_line.specs.Words.{command_of}
 use Rattle.file_commands.specs.Ending.{Ending, complaint, status_of}
 use Rattle.file_commands.specs.Work.{Works}
@@ -18,7 +18,7 @@ use Rattle.xm_commands.proofs.SeparationLemmas.{are_alone, are_part}
 use Rattle.xm_commands.proofs.TopLemmas.{answers, barren, files_stay, has_causes, quiet, usage_exactly, writes_stay}
 
 -- what the work did, and the line after it, answer the words
-pub is_answer : OwnLines → SameCoreFile → RunIsReplayed → (ending : Ending) (contents words : List (List ℕ)) (before after : World)
+pub is_answer : OwnReports → SameUpsetCoreFile → RunIsReplayed → (ending : Ending) (contents words : List (List ℕ)) (before after : World)
     → Works ending contents (command_of words) before.disk after.disk → Plays ending contents (command_of words) before.disk.got after.disk.got before.board after.board
     → (HasScripts ending → WordsReceive (command_of words) before.disk.files) → IsSaid (complaint ending) before.errors after.errors → IsAnswer (status_of ending) words before after
 is_answer lines_law core_law replay_law ending contents words before after works plays numbers line = record {

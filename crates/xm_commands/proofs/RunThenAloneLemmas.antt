@@ -4,28 +4,31 @@ use Rattle.std.specs.Prelude.{slice_index_or, slice_set}
 use Rattle.std.specs.FinMap.{get, insert}
 use Rattle.std.proofs.lemmas.Bool.{eqb-true}
 use Rattle.std.proofs.lemmas.Bool.Decides.{nat_tests}
-use Rattle.std.proofs.lemmas.List.{append_assoc, get_or-set_other, get_or-set_same, length-replicate, length-set, map-append}
+use Rattle.std.proofs.lemmas.List.{append-nil, append_assoc, get_or-set_other, get_or-set_same, length-replicate, length-set, map-append}
 use Rattle.xm_base.specs.declared.limits.TheConstants.{FILE_BYTES, TICKS}
 use Rattle.xm_outside.specs.Files.{Files}
 use Rattle.xm_report.specs.Report.{texts}
 use Rattle.replay_setup.specs.OfRun.{IsOfRun, RunIsReplayed}
 use Rattle.fault_messages.specs.declared.fault.BoxFault.{BoxFault}
 use Rattle.loaded_system.specs.System.{System as Loaded}
-use Rattle.machine_model.specs.Lines.{report}
-use Rattle.machine_model.specs.Machine.{Machine, run, start}
+use Rattle.machine_model.specs.Machine.{Machine}
+use Rattle.cue_scripts.specs.Spelling.{script_text}
+use Rattle.upset_model.specs.Reports.{after_run, upset_report}
+use Rattle.upset_model.specs.declared.upset_line.UpsetLine.{UpsetLine}
+use Rattle.upset_laws.specs.ReportLaws.{PlainReports}
 use Rattle.machine_model.specs.View.{System, view_of}
 use Rattle.recording_model.specs.Replayed.{replay_lines}
 use Rattle.builders.specs.Ready.{Replay as Readied}
 use Rattle.system_state.specs.Inputs.{words_in}
 use Rattle.system_state.specs.State.{with_inputs}
 use Rattle.xm_container.specs.Reading.{unpacked}
-use Rattle.command_line.specs.Words.{Command, PartFile, ReplayFiles, RunOption, Run, Replay, command_of, cores_in, inputs_in, replay_core, replay_input, scripts_in, span_in}
+use Rattle.command_line.specs.Words.{Command, PartFile, ReplayFiles, RunOption, Run, Replay, command_of, cores_in, inputs_in, replay_core, replay_input, scripts_in, span_in, upsets_in}
 use Rattle.file_commands.specs.lemmas.CommandLemmas.{outcome-long, outcome-short}
 use Rattle.file_commands.specs.Denial.{Denial}
 use Rattle.file_commands.specs.Ending.{input_text, status_of, ticks_text}
 use Rattle.file_commands.specs.Inputs.{first_beyond, inputs_for, inputs_with, no_inputs, unless_beyond}
 use Rattle.file_commands.specs.lemmas.LaterLemmas.{output_names}
-use Rattle.file_commands.specs.Outcome.{Output, Outcome, command_refused, content, core_output, core_outputs, first_long, input_bytes, inputs_of, name_if_any, outcome_of, outcome_of_run, played, ran_scripted, replay_output, ran_with, ran_within, refused_by, run_by, run_outcome, script_bytes, script_denial, script_before, script_output, scripts_for, ticks_asked, unless_denied}
+use Rattle.file_commands.specs.Outcome.{Output, Outcome, command_refused, content, core_output, core_outputs, first_long, input_bytes, inputs_of, name_if_any, outcome_of, outcome_of_run, played, ran_scripted, ran_struck, replay_output, ran_with, ran_within, refused_by, run_by, run_inputs, run_outcome, script_bytes, script_denial, script_before, script_output, scripts_for, ticks_asked, unless_denied, upsets_for, upsets_named}
 use Rattle.file_commands.specs.Packing.{denial, file_names}
 use Rattle.file_commands.specs.declared.status.Status.TheVariants.{Done, ReadFault}
 use Rattle.run_commands.specs.Contents.{read_all, read_before}
@@ -76,18 +79,28 @@ record WasRan (container : List ℕ) (options : List RunOption) (contents : List
   given : inputs_for (length system.conf.parts) options (drop 1 contents) ≡ Ok inputs
   most : ticks_asked (span_in options) system.conf ≤ TICKS
   outputs : List Output
-  made : scripts_for (with_inputs system inputs) (ticks_asked (span_in options) system.conf) (scripts_in options) ≡ Ok outputs
-  is : outcome_of (Run container options) contents ≡ outcome_of_run (ticks_asked (span_in options) system.conf) (cores_in options) outputs system inputs
+  made : scripts_for [] (with_inputs system inputs) (ticks_asked (span_in options) system.conf) (scripts_in options) ≡ Ok outputs
+  is : outcome_of (Run container options) contents ≡ outcome_of_run [] (ticks_asked (span_in options) system.conf) (cores_in options) outputs system inputs
 
-module _ (container : List ℕ) (options : List RunOption) (contents : List (List ℕ)) (granted : (outcome_of (Run container options) contents).denial ≡ None) where
+-- a run without a file of upsets reads its inputs beside its container
+inputs_alone : (options : List RunOption) → upsets_in options ≡ None → run_inputs options ≡ file_names (inputs_in options)
+inputs_alone options unstruck = ap (λ (o : Option (List ℕ)). file_names (inputs_in options) ++ name_if_any o) unstruck ∙ append-nil (file_names (inputs_in options))
+
+-- and has no upsets
+none_given : (options : List RunOption) (contents : List (List ℕ)) (system : Loaded) → upsets_in options ≡ None → upsets_for system.conf (ticks_asked (span_in options) system.conf) options contents ≡ Ok []
+unfolding upsets_for
+none_given options contents system unstruck =
+    ap (λ (o : Option (List ℕ)). upsets_named o system.conf (ticks_asked (span_in options) system.conf) (content (length (inputs_in options)) contents)) unstruck
+
+module _ (container : List ℕ) (options : List RunOption) (contents : List (List ℕ)) (unstruck : upsets_in options ≡ None) (granted : (outcome_of (Run container options) contents).denial ≡ None) where
   -- its outcome is no refusal
   never : (denial : Denial) → outcome_of (Run container options) contents ≡ refused_by denial → ⊥
   never denial same = (let wrong : None ≡ Some denial = sym granted ∙ ap (λ (o : Outcome). o.denial) same in cc)
 
   by_scripts : first_long (container ∷ file_names (inputs_in options)) contents ≡ None → (system : Loaded) → unpacked (content 0 contents) ≡ Ok system
       → (inputs : List (List ℕ)) → inputs_for (length system.conf.parts) options (drop 1 contents) ≡ Ok inputs → ticks_asked (span_in options) system.conf ≤ TICKS
-      → (made : Result (List Output) Denial) → scripts_for (with_inputs system inputs) (ticks_asked (span_in options) system.conf) (scripts_in options) ≡ made
-      → outcome_of (Run container options) contents ≡ ran_scripted (ticks_asked (span_in options) system.conf) (cores_in options) system inputs made → WasRan container options contents
+      → (made : Result (List Output) Denial) → scripts_for [] (with_inputs system inputs) (ticks_asked (span_in options) system.conf) (scripts_in options) ≡ made
+      → outcome_of (Run container options) contents ≡ ran_scripted [] (ticks_asked (span_in options) system.conf) (cores_in options) system inputs made → WasRan container options contents
   by_scripts short system unpacks inputs given most (Ok outputs) made same = record {
     short = short;
     system = system;
@@ -106,13 +119,15 @@ module _ (container : List ℕ) (options : List RunOption) (contents : List (Lis
       → (t : Bool) → nat_lt TICKS (ticks_asked (span_in options) system.conf) ≡ t
       → outcome_of (Run container options) contents
       ≡ (if t then command_refused container (ticks_text (ticks_asked (span_in options) system.conf))
-      else ran_scripted (ticks_asked (span_in options) system.conf) (cores_in options) system inputs (scripts_for (with_inputs system inputs) (ticks_asked (span_in options) system.conf) (scripts_in options))) → WasRan container options contents
+      else ran_struck (ticks_asked (span_in options) system.conf) options system inputs (upsets_for system.conf (ticks_asked (span_in options) system.conf) options (drop 1 contents))) → WasRan container options contents
   by_ticks short system unpacks inputs given true over same = absurd (never _ same)
-  by_ticks short system unpacks inputs given false within same = by_scripts short system unpacks inputs given (grind (arith, nat_tests)) (scripts_for (with_inputs system inputs) (ticks_asked (span_in options) system.conf) (scripts_in options)) refl same
+  by_ticks short system unpacks inputs given false within same = 
+      by_scripts short system unpacks inputs given (grind (arith, nat_tests)) (scripts_for [] (with_inputs system inputs) (ticks_asked (span_in options) system.conf) (scripts_in options)) refl
+      (same ∙ ap (ran_struck (ticks_asked (span_in options) system.conf) options system inputs) (none_given options (drop 1 contents) system unstruck))
 
   by_inputs : first_long (container ∷ file_names (inputs_in options)) contents ≡ None → (system : Loaded) → unpacked (content 0 contents) ≡ Ok system
       → (read : Result (List (List ℕ)) Denial) → inputs_for (length system.conf.parts) options (drop 1 contents) ≡ read
-      → outcome_of (Run container options) contents ≡ ran_with container options system read → WasRan container options contents
+      → outcome_of (Run container options) contents ≡ ran_with container options (drop 1 contents) system read → WasRan container options contents
   unfolding ran_within
   by_inputs short system unpacks (Ok inputs) given same = by_ticks short system unpacks inputs given (nat_lt TICKS (ticks_asked (span_in options) system.conf)) refl same
   by_inputs short system unpacks (Err refusal) given same = absurd (never refusal same)
@@ -122,29 +137,31 @@ module _ (container : List ℕ) (options : List RunOption) (contents : List (Lis
   by_container short (Ok system) unpacks same = by_inputs short system unpacks (inputs_for (length system.conf.parts) options (drop 1 contents)) refl same
   by_container short (Err fault) unpacks same = absurd (never _ same)
 
-  by_length : (long : Option (List ℕ)) → first_long (container ∷ file_names (inputs_in options)) contents ≡ long → WasRan container options contents
+  by_length : (long : Option (List ℕ)) → first_long (container ∷ run_inputs options) contents ≡ long → WasRan container options contents
   unfolding run_outcome
-  by_length None short = by_container short (unpacked (content 0 contents)) refl (outcome-short (Run container options) contents short)
+  by_length None short =
+      by_container (subst (λ (names : List (List ℕ)). first_long (container ∷ names) contents ≡ None) (inputs_alone options unstruck) short) (unpacked (content 0 contents)) refl
+      (outcome-short (Run container options) contents short)
   by_length (Some file) long = absurd (never _ (outcome-long (Run container options) contents file long))
 
   was_ran : WasRan container options contents
-  was_ran = by_length (first_long (container ∷ file_names (inputs_in options)) contents) refl
+  was_ran = by_length (first_long (container ∷ run_inputs options) contents) refl
 
 -- a script that was made is short enough for a file
-script_short : (system : System) (ticks : ℕ) (earlier : List PartFile) (named : PartFile) (later : List PartFile) (outputs : List Output) → scripts_for system ticks (earlier ++ named ∷ later) ≡ Ok outputs
-    → length (script_bytes system ticks named.part) ≤ FILE_BYTES
-script_short system ticks [] named later outputs made = at _ (nat_lt FILE_BYTES (length (script_bytes system ticks named.part))) refl made
+script_short : (system : System) (ticks : ℕ) (earlier : List PartFile) (named : PartFile) (later : List PartFile) (outputs : List Output) → scripts_for [] system ticks (earlier ++ named ∷ later) ≡ Ok outputs
+    → length (script_bytes [] system ticks named.part) ≤ FILE_BYTES
+script_short system ticks [] named later outputs made = at _ (nat_lt FILE_BYTES (length (script_bytes [] system ticks named.part))) refl made
   where
-    at : (r : Denial) (t : Bool) → nat_lt FILE_BYTES (length (script_bytes system ticks named.part)) ≡ t
-        → unless_denied (if t then Some r else None) (script_before (script_output system ticks named) (scripts_for system ticks later)) ≡ Ok outputs → length (script_bytes system ticks named.part) ≤ FILE_BYTES
+    at : (r : Denial) (t : Bool) → nat_lt FILE_BYTES (length (script_bytes [] system ticks named.part)) ≡ t
+        → unless_denied (if t then Some r else None) (script_before (script_output [] system ticks named) (scripts_for [] system ticks later)) ≡ Ok outputs → length (script_bytes [] system ticks named.part) ≤ FILE_BYTES
     at r true over e = absurd (cc)
     at r false within e = grind (arith, nat_tests)
 script_short system ticks (one ∷ earlier) named later outputs made =
-    at (script_denial system ticks one) (scripts_for system ticks (earlier ++ named ∷ later)) refl (λ others rest. script_short system ticks earlier named later others rest) made
+    at (script_denial [] system ticks one) (scripts_for [] system ticks (earlier ++ named ∷ later)) refl (λ others rest. script_short system ticks earlier named later others rest) made
   where
-    at : (refusal : Option Denial) (others : Result (List Output) Denial) → scripts_for system ticks (earlier ++ named ∷ later) ≡ others
-        → ((outs : List Output) → scripts_for system ticks (earlier ++ named ∷ later) ≡ Ok outs → length (script_bytes system ticks named.part) ≤ FILE_BYTES)
-        → unless_denied refusal (script_before (script_output system ticks one) others) ≡ Ok outputs → length (script_bytes system ticks named.part) ≤ FILE_BYTES
+    at : (refusal : Option Denial) (others : Result (List Output) Denial) → scripts_for [] system ticks (earlier ++ named ∷ later) ≡ others
+        → ((outs : List Output) → scripts_for [] system ticks (earlier ++ named ∷ later) ≡ Ok outs → length (script_bytes [] system ticks named.part) ≤ FILE_BYTES)
+        → unless_denied refusal (script_before (script_output [] system ticks one) others) ≡ Ok outputs → length (script_bytes [] system ticks named.part) ≤ FILE_BYTES
     at (Some refusal) others is rest e = absurd (cc)
     at None (Err refusal) is rest e = absurd (cc)
     at None (Ok outs) is rest e = rest outs is
@@ -267,13 +284,13 @@ done_granted None done = refl
 done_granted (Some denial) done = absurd (cc)
 
 -- the outcome of a run that was not refused
-ran_report : (ticks : ℕ) (cores : List PartFile) (outputs : List Output) (system : Loaded) (inputs : List (List ℕ)) → (outcome_of_run ticks cores outputs system inputs).report ≡ texts (report (with_inputs system inputs) ticks)
+ran_report : (ticks : ℕ) (cores : List PartFile) (outputs : List Output) (system : Loaded) (inputs : List (List ℕ)) → (outcome_of_run [] ticks cores outputs system inputs).report ≡ texts (upset_report [] (with_inputs system inputs) ticks)
 unfolding outcome_of_run
 ran_report ticks cores outputs system inputs = refl
 
 ran_files : (ticks : ℕ) (cores : List PartFile) (outputs : List Output) (system : Loaded) (inputs : List (List ℕ)) (files : Files)
-    → saved_all (outcome_of_run ticks cores outputs system inputs).later (files_saved (outcome_of_run ticks cores outputs system inputs).output files)
-    ≡ saved_all (core_outputs (run (start (with_inputs system inputs)) ticks) cores ++ outputs) files
+    → saved_all (outcome_of_run [] ticks cores outputs system inputs).later (files_saved (outcome_of_run [] ticks cores outputs system inputs).output files)
+    ≡ saved_all (core_outputs (after_run [] (with_inputs system inputs) ticks) cores ++ outputs) files
 unfolding outcome_of_run
 ran_files ticks cores outputs system inputs files = refl
 
@@ -331,9 +348,9 @@ no_words zero part = refl
 no_words (suc parts) zero = refl
 no_words (suc parts) (suc part) = no_words parts part
 
-module _ (law : RunIsReplayed) (words others : List (List ℕ)) (files : Files) (container : List ℕ) (options : List RunOption) (part : ℕ) (script_name : List ℕ) (further : ReplayFiles)
+module _ (law : RunIsReplayed) (plain : PlainReports) (words others : List (List ℕ)) (files : Files) (container : List ℕ) (options : List RunOption) (part : ℕ) (script_name : List ℕ) (further : ReplayFiles)
     (is_run : command_of words ≡ Some (Run container options)) (is_replay : command_of others ≡ Some (Replay container part script_name further)) (belongs : BelongsTo container options part script_name further)
-    (holds : HoldsBytes files container) (contents : List (List ℕ)) (read : read_all files (container ∷ file_names (inputs_in options)) ≡ Ok contents) (ran : WasRan container options contents) where
+    (holds : HoldsBytes files container) (contents : List (List ℕ)) (reads : read_all files (container ∷ run_inputs options) ≡ Ok contents) (ran : WasRan container options contents) where
   abbrev system : System
   system = with_inputs ran.system ran.inputs
 
@@ -343,18 +360,22 @@ module _ (law : RunIsReplayed) (words others : List (List ℕ)) (files : Files) 
   abbrev named : PartFile
   named = record { part = part; file = script_name }
 
+  -- what it reads beside its container is its inputs
+  read : read_all files (container ∷ file_names (inputs_in options)) ≡ Ok contents
+  read = subst (λ (names : List (List ℕ)). read_all files (container ∷ names) ≡ Ok contents) (inputs_alone options belongs.unstruck) reads
+
   -- the outputs of the run
-  outputs_are : ran.outputs ≡ map (script_output system ticks) belongs.earlier ++ script_output system ticks named ∷ map (script_output system ticks) belongs.later
-  outputs_are = scripts_are system ticks (scripts_in options) ran.outputs ran.made ∙ ap (map (script_output system ticks)) belongs.named ∙ map-append (script_output system ticks) belongs.earlier (named ∷ belongs.later)
+  outputs_are : ran.outputs ≡ map (script_output [] system ticks) belongs.earlier ++ script_output [] system ticks named ∷ map (script_output [] system ticks) belongs.later
+  outputs_are = scripts_are [] system ticks (scripts_in options) ran.outputs ran.made ∙ ap (map (script_output [] system ticks)) belongs.named ∙ map-append (script_output [] system ticks) belongs.earlier (named ∷ belongs.later)
 
   -- the answer of the run
-  ran_answer : answer words files ≡ outcome_answer (outcome_of_run ticks (cores_in options) ran.outputs ran.system ran.inputs) files
-  ran_answer = answer_by words (Run container options) files contents is_run read ∙ ap (λ (o : Outcome). outcome_answer o files) ran.is
+  ran_answer : answer words files ≡ outcome_answer (outcome_of_run [] ticks (cores_in options) ran.outputs ran.system ran.inputs) files
+  ran_answer = answer_by words (Run container options) files contents is_run reads ∙ ap (λ (o : Outcome). outcome_answer o files) ran.is
 
   abbrev after : Files
   after = (answer words files).files
 
-  after_is : after ≡ saved_all (core_outputs (run (start system) ticks) (cores_in options) ++ ran.outputs) files
+  after_is : after ≡ saved_all (core_outputs (after_run [] system ticks) (cores_in options) ++ ran.outputs) files
   after_is = ap (λ (a : Answer). a.files) ran_answer ∙ ran_files ticks (cores_in options) ran.outputs ran.system ran.inputs files
 
   -- a file that the run does not write
@@ -362,21 +383,21 @@ module _ (law : RunIsReplayed) (words others : List (List ℕ)) (files : Files) 
   kept other none =
       let apart = none_apart (file_names (cores_in options)) (file_names (scripts_in options)) other none in
       let scripts : IsNoneOf (output_names ran.outputs) other =
-      subst (λ (os : List Output). IsNoneOf (output_names os) other) (sym (scripts_are system ticks (scripts_in options) ran.outputs ran.made)) (made_names (script_output system ticks) (λ n. refl) (scripts_in options) other apart.1) in
-      let cores = core_names (run (start system) ticks) (cores_in options) other apart.0 in
-      let all : IsNoneOf (output_names (core_outputs (run (start system) ticks) (cores_in options) ++ ran.outputs)) other =
-      subst (λ (names : List (List ℕ)). IsNoneOf names other) (sym (map-append (λ (o : Output). o.file) (core_outputs (run (start system) ticks) (cores_in options)) ran.outputs))
-      (none_both (output_names (core_outputs (run (start system) ticks) (cores_in options))) (output_names ran.outputs) other cores scripts) in
-      ap (λ (f : Files). get f other) after_is ∙ saved_keeps (core_outputs (run (start system) ticks) (cores_in options) ++ ran.outputs) files other all
+      subst (λ (os : List Output). IsNoneOf (output_names os) other) (sym (scripts_are [] system ticks (scripts_in options) ran.outputs ran.made)) (made_names (script_output [] system ticks) (λ n. refl) (scripts_in options) other apart.1) in
+      let cores = core_names (after_run [] system ticks) (cores_in options) other apart.0 in
+      let all : IsNoneOf (output_names (core_outputs (after_run [] system ticks) (cores_in options) ++ ran.outputs)) other =
+      subst (λ (names : List (List ℕ)). IsNoneOf names other) (sym (map-append (λ (o : Output). o.file) (core_outputs (after_run [] system ticks) (cores_in options)) ran.outputs))
+      (none_both (output_names (core_outputs (after_run [] system ticks) (cores_in options))) (output_names ran.outputs) other cores scripts) in
+      ap (λ (f : Files). get f other) after_is ∙ saved_keeps (core_outputs (after_run [] system ticks) (cores_in options) ++ ran.outputs) files other all
 
   -- the script that the run wrote
-  script_there : get after script_name ≡ Some (script_bytes system ticks part)
+  script_there : get after script_name ≡ Some (script_bytes [] system ticks part)
   script_there =
       ap (λ (f : Files). get f script_name) (after_is ∙ ap (λ (os : List Output). saved_all os files)
-      (ap (λ (os : List Output). core_outputs (run (start system) ticks) (cores_in options) ++ os) outputs_are
-      ∙ sym (append_assoc (core_outputs (run (start system) ticks) (cores_in options)) (map (script_output system ticks) belongs.earlier) (script_output system ticks named ∷ map (script_output system ticks) belongs.later))))
-      ∙ saved_has (core_outputs (run (start system) ticks) (cores_in options) ++ map (script_output system ticks) belongs.earlier) (script_output system ticks named) (map (script_output system ticks) belongs.later) files
-      (made_names (script_output system ticks) (λ n. refl) belongs.later script_name belongs.last)
+      (ap (λ (os : List Output). core_outputs (after_run [] system ticks) (cores_in options) ++ os) outputs_are
+      ∙ sym (append_assoc (core_outputs (after_run [] system ticks) (cores_in options)) (map (script_output [] system ticks) belongs.earlier) (script_output [] system ticks named ∷ map (script_output [] system ticks) belongs.later))))
+      ∙ saved_has (core_outputs (after_run [] system ticks) (cores_in options) ++ map (script_output [] system ticks) belongs.earlier) (script_output [] system ticks named) (map (script_output [] system ticks) belongs.later) files
+      (made_names (script_output [] system ticks) (λ n. refl) belongs.later script_name belongs.last)
 
   -- the container's content, and those of the inputs
   box : IsReadFirst files container (file_names (inputs_in options)) contents
@@ -407,19 +428,19 @@ module _ (law : RunIsReplayed) (words others : List (List ℕ)) (files : Files) 
 
   -- what the replay reads
   abbrev after_contents : List (List ℕ)
-  after_contents = box.bytes ∷ script_bytes system ticks part ∷ input.contents
+  after_contents = box.bytes ∷ script_bytes [] system ticks part ∷ input.contents
 
   read_after : read_all after (container ∷ script_name ∷ name_if_any (replay_input further)) ≡ Ok after_contents
   read_after = (let there = kept container belongs.unwritten ∙ box.there in rw (there, script_there, input.read) refl)
 
   short_after : first_long (container ∷ script_name ∷ name_if_any (replay_input further)) after_contents ≡ None
   short_after =
-      let few = script_short system ticks belongs.earlier named belongs.later ran.outputs (ap (scripts_for system ticks) (sym belongs.named) ∙ ran.made) in
-      let script_test : nat_lt FILE_BYTES (length (script_bytes system ticks part)) ≡ false = grind (arith, nat_tests) in
+      let few = script_short system ticks belongs.earlier named belongs.later ran.outputs (ap (scripts_for [] system ticks) (sym belongs.named) ∙ ran.made) in
+      let script_test : nat_lt FILE_BYTES (length (script_bytes [] system ticks part)) ≡ false = grind (arith, nat_tests) in
       let box_test = first_short container (file_names (inputs_in options)) box.bytes box.others (subst (λ (c : List (List ℕ)). first_long (container ∷ file_names (inputs_in options)) c ≡ None) box.all ran.short) in
       rw (box_test, script_test) input.short
 
-  of_run : IsOfRun box.bytes part (script_bytes system ticks part) (input_bytes (replay_input further) (content 0 input.contents)) ran.system ran.inputs ticks
+  of_run : IsOfRun box.bytes part (script_bytes [] system ticks part) (input_bytes (replay_input further) (content 0 input.contents)) ran.system ran.inputs ticks
   of_run = record {
     contained = holds box.bytes box.there;
     unpacks = ap unpacked (sym (ap (content 0) box.all)) ∙ ran.unpacks;
@@ -427,33 +448,33 @@ module _ (law : RunIsReplayed) (words others : List (List ℕ)) (files : Files) 
     words = input.whole;
     given = input.given;
     most = ran.most;
-    received = refl;
+    received = ap (script_text part) (plain.received system part ticks);
   }
 
   -- the answer of the replay
   answers_so : AnswersAsRun (answer words files) (answer others after) part (replay_core further)
   answers_so =
-      let shows = law box.bytes part (script_bytes system ticks part) (input_bytes (replay_input further) (content 0 input.contents)) ran.system ran.inputs ticks of_run in
+      let shows = law box.bytes part (script_bytes [] system ticks part) (input_bytes (replay_input further) (content 0 input.contents)) ran.system ran.inputs ticks of_run in
       let comes = begun_outcome container part script_name further after_contents shows.replay short_after shows.begins in
       let replay_answer : answer others after ≡ outcome_answer (played (replay_core further) shows.replay) after =
       answer_by others (Replay container part script_name further) after after_contents is_replay read_after ∙ ap (λ (o : Outcome). outcome_answer o after) comes in
       record {
         system = system;
         ticks = ticks;
-        printed = ap (λ (a : Answer). a.out) ran_answer ∙ ran_report ticks (cores_in options) ran.outputs ran.system ran.inputs;
+        printed = ap (λ (a : Answer). a.out) ran_answer ∙ ran_report ticks (cores_in options) ran.outputs ran.system ran.inputs ∙ ap texts (plain.report system ticks);
         done = ap (λ (a : Answer). a.status) replay_answer ∙ played_done (replay_core further) shows.replay after;
         lines = ap (λ (a : Answer). a.out) replay_answer ∙ played_out (replay_core further) shows.replay after ∙ ap texts shows.lines;
         core_file = ap (λ (a : Answer). a.files) replay_answer ∙ played_files (replay_core further) shows.replay after
             ∙ ap (λ (os : List Output). saved_all os after) (own_cores system ticks part shows.replay (replay_core further) shows.core);
       }
 
-pub run_then_alone : RunIsReplayed → RunsThenAlone
-run_then_alone law words others files container options part script_name further is_run is_replay done belongs holds = at (read_all files (container ∷ file_names (inputs_in options))) refl
+pub run_then_alone : RunIsReplayed → PlainReports → RunsThenAlone
+run_then_alone law plain words others files container options part script_name further is_run is_replay done belongs holds = at (read_all files (container ∷ run_inputs options)) refl
   where
-    at : (r : Result (List (List ℕ)) (List ℕ)) → read_all files (container ∷ file_names (inputs_in options)) ≡ r → AnswersAsRun (answer words files) (answer others (answer words files).files) part (replay_core further)
+    at : (r : Result (List (List ℕ)) (List ℕ)) → read_all files (container ∷ run_inputs options) ≡ r → AnswersAsRun (answer words files) (answer others (answer words files).files) part (replay_core further)
     at (Ok contents) read =
         let granted = done_granted (outcome_of (Run container options) contents).denial (sym (ap (λ (a : Answer). a.status) (answer_by words (Run container options) files contents is_run read)) ∙ done) in
-        answers_so law words others files container options part script_name further is_run is_replay belongs holds contents read (was_ran container options contents granted)
+        answers_so law plain words others files container options part script_name further is_run is_replay belongs holds contents read (was_ran container options contents belongs.unstruck granted)
     at (Err absent) read =
         let unread = answer_read words (Run container options) files is_run ∙ ap (λ (r : Result (List (List ℕ)) (List ℕ)). answer_to_read (Run container options) r files) read in
         let wrong : ReadFault ≡ Done = sym (ap (λ (a : Answer). a.status) unread) ∙ done in

@@ -17,20 +17,23 @@ use Rattle.loaded_system.specs.System.{System as Loaded}
 use Rattle.xm_container.specs.Reading.{unpacked}
 use Rattle.fault_messages.specs.declared.fault.BoxFault.{BoxFault}
 use Rattle.machine_model.specs.CoreFile.{core_file}
-use Rattle.machine_model.specs.Laws.{OwnLines, SameCoreFile, core_file_of}
+use Rattle.machine_model.specs.Laws.{core_file_of}
 use Rattle.machine_model.specs.Lists.{is_number}
-use Rattle.machine_model.specs.Lines.{own, report, tag_of}
-use Rattle.machine_model.specs.Machine.{Machine, booted_part, run, start}
+use Rattle.machine_model.specs.Lines.{own, tag_of}
+use Rattle.machine_model.specs.Machine.{Machine, booted_part}
 use Rattle.machine_model.specs.Partition.{PartitionState}
 use Rattle.machine_model.specs.View.{System, view_of}
+use Rattle.upset_model.specs.Reports.{after_run, upset_report}
+use Rattle.upset_model.specs.declared.upset_line.UpsetLine.{UpsetLine}
+use Rattle.upset_laws.specs.ReportLaws.{OwnReports, SameUpsetCoreFile}
 use Rattle.system_state.specs.State.{part_at, with_inputs}
 use Rattle.command_line.specs.Words.{Command, PartFile, RunOption, Bare, Parse, Upgrade, BuildImage, ReadImage, Pack, ListContainer, CheckContainer, MakePlan, CheckPlan, ListGroups, ListSteerers, Generate, Run, Replay, cores_in, inputs_in, span_in, scripts_in}
 use Rattle.run_commands.specs.lemmas.Cores.{AreForPartitions}
 use Rattle.file_commands.specs.Denial.{Denial}
 use Rattle.file_commands.specs.Ending.{Ending, Done, Usage, ReadFault, Refused, WriteFaultReport, WriteFaultFile, UartFault, NoMemory, length_text, status_of, ticks_text}
 use Rattle.file_commands.specs.Inputs.{first_beyond, inputs_for, inputs_with, no_inputs, unless_beyond}
-use Rattle.file_commands.specs.Outcome.{Output, Outcome, bare_outcome, content, core_output, core_outputs, first_long, inputs_of, outcome_of, outcome_of_run, ran_scripted, ran_with, ran_within, command_refused, refused_by, run_by, run_outcome, script_before, script_denial, script_output, scripts_for, ticks_asked, unless_denied, unless_long, outcome_of_contents}
-use Rattle.xm_commands.specs.Separation.{AreShownAlone, CommandAlone, ContainerAlone, PrintsAlone, ShowsAlone, ShowsFront, ShowsPart, ShowsSome, alone_output, alone_outputs}
+use Rattle.file_commands.specs.Outcome.{Output, Outcome, bare_outcome, content, core_output, core_outputs, first_long, inputs_of, outcome_of, outcome_of_run, ran_scripted, ran_struck, ran_with, ran_within, command_refused, refused_by, run_by, run_outcome, script_before, script_denial, script_output, scripts_for, ticks_asked, unless_denied, unless_long, upsets_for, outcome_of_contents}
+use Rattle.xm_commands.specs.Separation.{AreShownAlone, CommandAlone, ContainerAlone, PrintsAlone, Shown, ShowsAlone, ShowsFront, ShowsPart, ShowsSome, alone_output, alone_outputs}
 use Rattle.xm_commands.specs.Top.{AreContents, IsCompleteStatus, IsNotWritten}
 use Rattle.file_commands.specs.Work.{Does, Outside, IsCarriedOut, IsUnsaved, IsUnwritten, ReadsFiles, Works, called_for, did, reported_all, wrote, wrote_all}
 use Rattle.file_commands.specs.declared.status.Status.TheVariants.{WriteFault}
@@ -59,37 +62,37 @@ unfolding core_file_of
 core_there g p bytes found = found_core g p bytes (slice_get g.parts p) refl found
 
 -- the core files after a run are those of the partitions alone
-same_cores : SameCoreFile → (system : System) (ticks : ℕ) (cores : List PartFile) → AreForPartitions (length system.conf.parts) cores → core_outputs (run (start system) ticks) cores ≡ map (alone_output system ticks) cores
+same_cores : SameUpsetCoreFile → (upsets : List UpsetLine) (system : System) (ticks : ℕ) (cores : List PartFile) → AreForPartitions (length system.conf.parts) cores → core_outputs (after_run upsets system ticks) cores ≡ map (alone_output upsets system ticks) cores
 unfolding core_outputs
-same_cores law system ticks [] inside = refl
-same_cores law system ticks (named ∷ cores) inside =
-    let one : core_output (run (start system) ticks) named ≡ alone_output system ticks named =
-    ap (λ (bytes : List ℕ). record { file = named.file; bytes = bytes }) (core_there (run (start system) ticks) named.part _ (law system named.part ticks inside.0)) in
-    ap (λ (o : Output). o ∷ map (core_output (run (start system) ticks)) cores) one
-    ∙ ap (λ (os : List Output). alone_output system ticks named ∷ os) (same_cores law system ticks cores inside.1)
+same_cores law upsets system ticks [] inside = refl
+same_cores law upsets system ticks (named ∷ cores) inside =
+    let one : core_output (after_run upsets system ticks) named ≡ alone_output upsets system ticks named =
+    ap (λ (bytes : List ℕ). record { file = named.file; bytes = bytes }) (core_there (after_run upsets system ticks) named.part _ (law upsets system named.part ticks inside.0)) in
+    ap (λ (o : Output). o ∷ map (core_output (after_run upsets system ticks)) cores) one
+    ∙ ap (λ (os : List Output). alone_output upsets system ticks named ∷ os) (same_cores law upsets system ticks cores inside.1)
 
 -- and scripts stand after them
-same_later : SameCoreFile → (system : System) (ticks : ℕ) (cores scripts : List PartFile) → AreForPartitions (length system.conf.parts) cores
-    → core_outputs (run (start system) ticks) cores ++ map (script_output system ticks) scripts ≡ alone_outputs system ticks cores scripts
-same_later law system ticks cores scripts inside = ap (λ (os : List Output). os ++ map (script_output system ticks) scripts) (same_cores law system ticks cores inside)
+same_later : SameUpsetCoreFile → (upsets : List UpsetLine) (system : System) (ticks : ℕ) (cores scripts : List PartFile) → AreForPartitions (length system.conf.parts) cores
+    → core_outputs (after_run upsets system ticks) cores ++ map (script_output upsets system ticks) scripts ≡ alone_outputs upsets system ticks cores scripts
+same_later law upsets system ticks cores scripts inside = ap (λ (os : List Output). os ++ map (script_output upsets system ticks) scripts) (same_cores law upsets system ticks cores inside)
 
 -- the outcome of a run whose scripts are not too long
-abbrev ran_to : ℕ → List PartFile → List PartFile → Loaded → List (List ℕ) → Outcome
-ran_to ticks cores scripts system inputs = outcome_of_run ticks cores (map (script_output (with_inputs system inputs) ticks) scripts) system inputs
+abbrev ran_to : List UpsetLine → ℕ → List PartFile → List PartFile → Loaded → List (List ℕ) → Outcome
+ran_to upsets ticks cores scripts system inputs = outcome_of_run upsets ticks cores (map (script_output upsets (with_inputs system inputs) ticks) scripts) system inputs
 
 -- where none is refused they are what the partitions received
-pub scripts_are : (system : System) (ticks : ℕ) (names : List PartFile) (outputs : List Output) → scripts_for system ticks names ≡ Ok outputs → outputs ≡ map (script_output system ticks) names
-scripts_are system ticks [] outputs made = (let none : [] ≡ outputs = cc in sym none)
-scripts_are system ticks (named ∷ names) outputs made = at (script_denial system ticks named) (scripts_for system ticks names) refl (scripts_are system ticks names) made
+pub scripts_are : (upsets : List UpsetLine) (system : System) (ticks : ℕ) (names : List PartFile) (outputs : List Output) → scripts_for upsets system ticks names ≡ Ok outputs → outputs ≡ map (script_output upsets system ticks) names
+scripts_are upsets system ticks [] outputs made = (let none : [] ≡ outputs = cc in sym none)
+scripts_are upsets system ticks (named ∷ names) outputs made = at (script_denial upsets system ticks named) (scripts_for upsets system ticks names) refl (scripts_are upsets system ticks names) made
   where
-    at : (refusal : Option Denial) (later : Result (List Output) Denial) → scripts_for system ticks names ≡ later
-        → ((others : List Output) → scripts_for system ticks names ≡ Ok others → others ≡ map (script_output system ticks) names)
-        → unless_denied refusal (script_before (script_output system ticks named) later) ≡ Ok outputs → outputs ≡ map (script_output system ticks) (named ∷ names)
+    at : (refusal : Option Denial) (later : Result (List Output) Denial) → scripts_for upsets system ticks names ≡ later
+        → ((others : List Output) → scripts_for upsets system ticks names ≡ Ok others → others ≡ map (script_output upsets system ticks) names)
+        → unless_denied refusal (script_before (script_output upsets system ticks named) later) ≡ Ok outputs → outputs ≡ map (script_output upsets system ticks) (named ∷ names)
     at (Some refusal) later are rest e = absurd (cc)
     at None (Err refusal) are rest e = absurd (cc)
     at None (Ok others) are rest e =
-        let all : script_output system ticks named ∷ others ≡ outputs = cc in
-        sym all ∙ ap (λ (os : List Output). script_output system ticks named ∷ os) (rest others are)
+        let all : script_output upsets system ticks named ∷ others ≡ outputs = cc in
+        sym all ∙ ap (λ (os : List Output). script_output upsets system ticks named ∷ os) (rest others are)
 
 -- What was done, by the outcome of a command.
 
@@ -170,50 +173,50 @@ are_cut (line ∷ others) had got p = ⊎_elim here (later (are_cut others (grow
 -- A run.
 
 -- whose whole report went out
-prints_run : OwnLines → (system : System) (ticks : ℕ) (before after : Outside) → after.got ≡ grown before.got (texts (report system ticks)) → PrintsAlone system ticks before after
-prints_run law system ticks before after got = record { lines = report system ticks; whole = refl; report = got; own = λ p there. law system p ticks there }
+prints_run : OwnReports → (upsets : List UpsetLine) (system : System) (ticks : ℕ) (before after : Outside) → after.got ≡ grown before.got (texts (upset_report upsets system ticks)) → PrintsAlone upsets system ticks before after
+prints_run law upsets system ticks before after got = record { lines = upset_report upsets system ticks; whole = refl; report = got; own = λ p there. law upsets system p ticks there }
 
 -- the outcome of a run
-shows_run : OwnLines → SameCoreFile → (system : Loaded) (inputs : List (List ℕ)) (ticks : ℕ) (cores scripts : List PartFile) (before read_from after : Outside) → AreForPartitions (length system.conf.parts) cores
-    → read_from.files ≡ before.files → read_from.got ≡ before.got → IsAllOf read_from after (ran_to ticks cores scripts system inputs) → ShowsAlone (with_inputs system inputs) ticks cores scripts before after
+shows_run : OwnReports → SameUpsetCoreFile → (upsets : List UpsetLine) (system : Loaded) (inputs : List (List ℕ)) (ticks : ℕ) (cores scripts : List PartFile) (before read_from after : Outside) → AreForPartitions (length system.conf.parts) cores
+    → read_from.files ≡ before.files → read_from.got ≡ before.got → IsAllOf read_from after (ran_to upsets ticks cores scripts system inputs) → ShowsAlone upsets (with_inputs system inputs) ticks cores scripts before after
 unfolding outcome_of_run
-shows_run lines_law core_law system inputs ticks cores scripts before read_from after inside files got is = record {
-  printed = prints_run lines_law (with_inputs system inputs) ticks before after
-      (ap (λ (x : Outside). x.got) is.1 ∙ did-got (ran_to ticks cores scripts system inputs) read_from ∙ ap (λ (g : Option (List ℕ)). grown g (texts (report (with_inputs system inputs) ticks))) got);
+shows_run lines_law core_law upsets system inputs ticks cores scripts before read_from after inside files got is = record {
+  printed = prints_run lines_law upsets (with_inputs system inputs) ticks before after
+      (ap (λ (x : Outside). x.got) is.1 ∙ did-got (ran_to upsets ticks cores scripts system inputs) read_from ∙ ap (λ (g : Option (List ℕ)). grown g (texts (upset_report upsets (with_inputs system inputs) ticks))) got);
   written = ap (λ (x : Outside). x.files) is.1
-      ∙ ap (λ (os : List Output). (wrote_all os (reported_all (ran_to ticks cores scripts system inputs) read_from)).files) (same_later core_law (with_inputs system inputs) ticks cores scripts inside)
-      ∙ wrote_all-from (alone_outputs (with_inputs system inputs) ticks cores scripts) (reported_all (ran_to ticks cores scripts system inputs) read_from) before files;
+      ∙ ap (λ (os : List Output). (wrote_all os (reported_all (ran_to upsets ticks cores scripts system inputs) read_from)).files) (same_later core_law upsets (with_inputs system inputs) ticks cores scripts inside)
+      ∙ wrote_all-from (alone_outputs upsets (with_inputs system inputs) ticks cores scripts) (reported_all (ran_to upsets ticks cores scripts system inputs) read_from) before files;
 }
 
 -- where its report was cut
-shows_front : OwnLines → (system : Loaded) (inputs : List (List ℕ)) (ticks : ℕ) (cores scripts : List PartFile) (before after : Outside)
-    → IsFrontOf before after (ran_to ticks cores scripts system inputs) → ShowsFront (with_inputs system inputs) ticks cores scripts before after
+shows_front : OwnReports → (upsets : List UpsetLine) (system : Loaded) (inputs : List (List ℕ)) (ticks : ℕ) (cores scripts : List PartFile) (before after : Outside)
+    → IsFrontOf before after (ran_to upsets ticks cores scripts system inputs) → ShowsFront upsets (with_inputs system inputs) ticks cores scripts before after
 unfolding outcome_of_run
-shows_front law system inputs ticks cores scripts before after is =
-    let cut = are_cut (report (with_inputs system inputs) ticks) before.got after.got is.0 in
+shows_front law upsets system inputs ticks cores scripts before after is =
+    let cut = are_cut (upset_report upsets (with_inputs system inputs) ticks) before.got after.got is.0 in
     record {
       lines = cut.lines;
       next = cut.next;
       rest = cut.rest;
       split = cut.split;
       front = cut.front;
-      own = λ p there. sym (own_append p cut.lines (cut.next ∷ cut.rest)) ∙ ap (own p) cut.split ∙ law (with_inputs system inputs) p ticks there;
+      own = λ p there. sym (own_append p cut.lines (cut.next ∷ cut.rest)) ∙ ap (own p) cut.split ∙ law upsets (with_inputs system inputs) p ticks there;
       files = is.1;
     }
 
 -- where a core file or a script was not written
-shows_some : OwnLines → SameCoreFile → (system : Loaded) (inputs : List (List ℕ)) (ticks : ℕ) (cores scripts : List PartFile) (before after : Outside) → AreForPartitions (length system.conf.parts) cores
-    → IsSomeOf before after (ran_to ticks cores scripts system inputs) → ShowsSome (with_inputs system inputs) ticks cores scripts before after
+shows_some : OwnReports → SameUpsetCoreFile → (upsets : List UpsetLine) (system : Loaded) (inputs : List (List ℕ)) (ticks : ℕ) (cores scripts : List PartFile) (before after : Outside) → AreForPartitions (length system.conf.parts) cores
+    → IsSomeOf before after (ran_to upsets ticks cores scripts system inputs) → ShowsSome upsets (with_inputs system inputs) ticks cores scripts before after
 unfolding outcome_of_run
-shows_some lines_law core_law system inputs ticks cores scripts before after inside is =
+shows_some lines_law core_law upsets system inputs ticks cores scripts before after inside is =
     let booted = with_inputs system inputs in
-    let reported = reported_all (ran_to ticks cores scripts system inputs) before in
+    let reported = reported_all (ran_to upsets ticks cores scripts system inputs) before in
     record {
-      printed = prints_run lines_law booted ticks before after is.report;
+      printed = prints_run lines_law upsets booted ticks before after is.report;
       first = is.first;
       lost = is.output;
       rest = is.rest;
-      split = sym is.split ∙ same_later core_law booted ticks cores scripts inside;
+      split = sym is.split ∙ same_later core_law upsets booted ticks cores scripts inside;
       others = subst (λ (fs : Option Files). OthersStay fs is.output.file after.files) (wrote_all-from is.first reported before refl) is.others;
     }
 
@@ -237,35 +240,44 @@ whole_contents (Some files) command contents read short =
     subst (λ (all : List (List ℕ)). read_all files (inputs_of command) ≡ Ok all) (sym (is.whole (sym is.long ∙ short))) is.read
 
 -- an image that was run
-bare_by : {R : Type 0} (Did : Outcome → Type 0) (file : List ℕ) (ticks : ℕ) (image : List ℕ) → ((denial : Denial) → Did (refused_by denial) → ⊥) → (Did (outcome_of_run ticks [] [] (bare_system image) (no_inputs 1)) → R) → Did (bare_outcome file ticks image) → R
+bare_by : {R : Type 0} (Did : Outcome → Type 0) (file : List ℕ) (ticks : ℕ) (image : List ℕ) → ((denial : Denial) → Did (refused_by denial) → ⊥) → (Did (outcome_of_run [] ticks [] [] (bare_system image) (no_inputs 1)) → R) → Did (bare_outcome file ticks image) → R
 unfolding bare_outcome
 bare_by {R} Did file ticks image never ran_so is = at ((length image == 0) || nat_lt IMAGE_BYTES (length image)) is
   where
-    at : (t : Bool) → Did (if t then command_refused file (length_text (length image)) else outcome_of_run ticks [] [] (bare_system image) (no_inputs 1)) → R
+    at : (t : Bool) → Did (if t then command_refused file (length_text (length image)) else outcome_of_run [] ticks [] [] (bare_system image) (no_inputs 1)) → R
     at true done = absurd (never _ done)
     at false done = ran_so done
 
 -- a run none of whose scripts is too long
-scripted_by : {R : Type 0} (Did : Outcome → Type 0) (ticks : ℕ) (cores scripts : List PartFile) (system : Loaded) (inputs : List (List ℕ)) → ((denial : Denial) → Did (refused_by denial) → ⊥)
-    → (Did (ran_to ticks cores scripts system inputs) → R) → Did (ran_scripted ticks cores system inputs (scripts_for (with_inputs system inputs) ticks scripts)) → R
-scripted_by {R} Did ticks cores scripts system inputs never ran_so is = at (scripts_for (with_inputs system inputs) ticks scripts) refl is
+scripted_by : {R : Type 0} (Did : Outcome → Type 0) (upsets : List UpsetLine) (ticks : ℕ) (cores scripts : List PartFile) (system : Loaded) (inputs : List (List ℕ)) → ((denial : Denial) → Did (refused_by denial) → ⊥)
+    → (Did (ran_to upsets ticks cores scripts system inputs) → R) → Did (ran_scripted upsets ticks cores system inputs (scripts_for upsets (with_inputs system inputs) ticks scripts)) → R
+scripted_by {R} Did upsets ticks cores scripts system inputs never ran_so is = at (scripts_for upsets (with_inputs system inputs) ticks scripts) refl is
   where
-    at : (made : Result (List Output) Denial) → scripts_for (with_inputs system inputs) ticks scripts ≡ made → Did (ran_scripted ticks cores system inputs made) → R
-    at (Ok outputs) are done = ran_so (subst (λ (os : List Output). Did (outcome_of_run ticks cores os system inputs)) (scripts_are (with_inputs system inputs) ticks scripts outputs are) done)
+    at : (made : Result (List Output) Denial) → scripts_for upsets (with_inputs system inputs) ticks scripts ≡ made → Did (ran_scripted upsets ticks cores system inputs made) → R
+    at (Ok outputs) are done = ran_so (subst (λ (os : List Output). Did (outcome_of_run upsets ticks cores os system inputs)) (scripts_are upsets (with_inputs system inputs) ticks scripts outputs are) done)
     at (Err refusal) are done = absurd (never _ done)
 
--- a run that is not too long
-within_by : {R : Type 0} (Did : Outcome → Type 0) (file : List ℕ) (options : List RunOption) (system : Loaded) (inputs : List (List ℕ)) → ((denial : Denial) → Did (refused_by denial) → ⊥)
-    → (Did (ran_to (ticks_asked (span_in options) system.conf) (cores_in options) (scripts_in options) system inputs) → R) → Did (ran_within file options system inputs) → R
+-- the upsets of a run with options
+abbrev upsets_given : List RunOption → List (List ℕ) → Loaded → Result (List UpsetLine) Denial
+upsets_given options contents system = upsets_for system.conf (ticks_asked (span_in options) system.conf) options contents
+
+-- a run that is not too long, and whose upsets are not refused
+within_by : {R : Type 0} (Did : Outcome → Type 0) (file : List ℕ) (options : List RunOption) (contents : List (List ℕ)) (system : Loaded) (inputs : List (List ℕ)) → ((denial : Denial) → Did (refused_by denial) → ⊥)
+    → ((upsets : List UpsetLine) → upsets_given options contents system ≡ Ok upsets → Did (ran_to upsets (ticks_asked (span_in options) system.conf) (cores_in options) (scripts_in options) system inputs) → R)
+    → Did (ran_within file options contents system inputs) → R
 unfolding ran_within
-within_by {R} Did file options system inputs never ran_so is = at (nat_lt TICKS asked) is
+within_by {R} Did file options contents system inputs never ran_so is = at (nat_lt TICKS asked) is
   where
     asked : ℕ
     asked = ticks_asked (span_in options) system.conf
 
-    at : (t : Bool) → Did (if t then command_refused file (ticks_text asked) else ran_scripted asked (cores_in options) system inputs (scripts_for (with_inputs system inputs) asked (scripts_in options))) → R
+    struck : (given : Result (List UpsetLine) Denial) → upsets_given options contents system ≡ given → Did (ran_struck asked options system inputs given) → R
+    struck (Ok upsets) given done = scripted_by Did upsets asked (cores_in options) (scripts_in options) system inputs never (ran_so upsets given) done
+    struck (Err refusal) given done = absurd (never _ done)
+
+    at : (t : Bool) → Did (if t then command_refused file (ticks_text asked) else ran_struck asked options system inputs (upsets_for system.conf asked options contents)) → R
     at true done = absurd (never _ done)
-    at false done = scripted_by Did asked (cores_in options) (scripts_in options) system inputs never ran_so done
+    at false done = struck (upsets_given options contents system) refl done
 
 -- where input words are given, no option's partition is beyond those that there are
 given_inside : (parts : ℕ) (options : List RunOption) (contents inputs : List (List ℕ)) → inputs_for parts options contents ≡ Ok inputs → AreForPartitions parts (cores_in options)
@@ -277,30 +289,36 @@ given_inside parts options contents inputs given = at (first_beyond parts option
     at (Some named) is e = absurd (cc)
 
 -- what was done with a run shows this
-abbrev RunShows : (Outcome → Type 0) → (System → ℕ → List PartFile → List PartFile → Outside → Outside → Type 0) → Outside → Outside → Type 0
+abbrev RunShows : (Outcome → Type 0) → Shown → Outside → Outside → Type 0
 RunShows Did Shows before after =
-    (system : Loaded) (inputs : List (List ℕ)) (ticks : ℕ) (cores scripts : List PartFile) → AreForPartitions (length system.conf.parts) cores → Did (ran_to ticks cores scripts system inputs)
-    → Shows (with_inputs system inputs) ticks cores scripts before after
+    (upsets : List UpsetLine) (system : Loaded) (inputs : List (List ℕ)) (ticks : ℕ) (cores scripts : List PartFile) → AreForPartitions (length system.conf.parts) cores → Did (ran_to upsets ticks cores scripts system inputs)
+    → Shows upsets (with_inputs system inputs) ticks cores scripts before after
 
 -- a container that was run
-container_by : (Did : Outcome → Type 0) (Shows : System → ℕ → List PartFile → List PartFile → Outside → Outside → Type 0) (container : List ℕ) (options : List RunOption) (contents : List (List ℕ)) (before after : Outside)
+container_by : (Did : Outcome → Type 0) (Shows : Shown) (container : List ℕ) (options : List RunOption) (contents : List (List ℕ)) (before after : Outside)
     → AreContents before.files (Run container options) contents → ReceivesOf container options before.files → ((denial : Denial) → Did (refused_by denial) → ⊥) → RunShows Did Shows before after
     → Did (run_outcome container options (content 0 contents) (drop 1 contents)) → ContainerAlone Shows contents container options before after
 unfolding run_outcome
 container_by Did Shows container options contents before after are receives never shows is = at (unpacked (content 0 contents)) refl is
   where
     given : (system : Loaded) → unpacked (content 0 contents) ≡ Ok system → (read : Result (List (List ℕ)) Denial) → inputs_for (length system.conf.parts) options (drop 1 contents) ≡ read
-        → Did (ran_with container options system read) → ContainerAlone Shows contents container options before after
-    given system unpacks (Ok inputs) reads done = record {
-      are = are;
-      system = system;
-      unpacks = unpacks;
-      inputs = inputs;
-      given = reads;
-      numbers = λ files known. receives files known contents (subst (λ (o : Option Files). AreContents o (Run container options) contents) known are) system inputs unpacks reads;
-      shows = within_by Did container options system inputs never
-          (shows system inputs (ticks_asked (span_in options) system.conf) (cores_in options) (scripts_in options) (given_inside (length system.conf.parts) options (drop 1 contents) inputs reads)) done;
-    }
+        → Did (ran_with container options (drop 1 contents) system read) → ContainerAlone Shows contents container options before after
+    given system unpacks (Ok inputs) reads done =
+        let shown : (upsets : List UpsetLine) → upsets_given options (drop 1 contents) system ≡ Ok upsets
+            → Did (ran_to upsets (ticks_asked (span_in options) system.conf) (cores_in options) (scripts_in options) system inputs) → ContainerAlone Shows contents container options before after =
+        λ upsets striking run. record {
+          are = are;
+          system = system;
+          unpacks = unpacks;
+          inputs = inputs;
+          given = reads;
+          upsets = upsets;
+          striking = striking;
+          numbers = λ files known.
+          receives files known contents (subst (λ (o : Option Files). AreContents o (Run container options) contents) known are) system inputs upsets unpacks reads striking;
+          shows = shows upsets system inputs (ticks_asked (span_in options) system.conf) (cores_in options) (scripts_in options) (given_inside (length system.conf.parts) options (drop 1 contents) inputs reads) run;
+        } in
+        within_by Did container options (drop 1 contents) system inputs never shown done
     given system unpacks (Err refusal) reads done = absurd (never _ done)
 
     at : (read : Result Loaded BoxFault) → unpacked (content 0 contents) ≡ read → Did (run_by container options (drop 1 contents) read) → ContainerAlone Shows contents container options before after
@@ -308,11 +326,11 @@ container_by Did Shows container options contents before after are receives neve
     at (Err fault) unpacks done = absurd (never _ done)
 
 -- what a command shows
-command_by : (Did : Outcome → Type 0) (Shows : System → ℕ → List PartFile → List PartFile → Outside → Outside → Type 0) (command : Command) (contents : List (List ℕ)) (before after : Outside)
+command_by : (Did : Outcome → Type 0) (Shows : Shown) (command : Command) (contents : List (List ℕ)) (before after : Outside)
     → AreContents before.files command contents → CommandReceives command before.files → ((denial : Denial) → Did (refused_by denial) → ⊥) → RunShows Did Shows before after → Did (outcome_of_contents command contents) → CommandAlone Shows contents command before after
 command_by Did Shows (Bare image ticks) contents before after are receives never shows is = record {
   are = are;
-  shows = bare_by Did image ticks (content 0 contents) never (shows (bare_system (content 0 contents)) (no_inputs 1) ticks [] [] tt) is;
+  shows = bare_by Did image ticks (content 0 contents) never (shows [] (bare_system (content 0 contents)) (no_inputs 1) ticks [] [] tt) is;
 }
 command_by Did Shows (Parse description output) contents before after are receives never shows is = tt
 command_by Did Shows (Upgrade configuration output) contents before after are receives never shows is = tt
@@ -329,7 +347,7 @@ command_by Did Shows (Generate number) contents before after are receives never 
 command_by Did Shows (Replay container part script further) contents before after are receives never shows is = tt
 command_by Did Shows (Run container options) contents before after are receives never shows is = container_by Did Shows container options contents before after are receives never shows is
 
-outcome_by : (Did : Outcome → Type 0) (Shows : System → ℕ → List PartFile → List PartFile → Outside → Outside → Type 0) (command : Command) (contents : List (List ℕ)) (before after : Outside)
+outcome_by : (Did : Outcome → Type 0) (Shows : Shown) (command : Command) (contents : List (List ℕ)) (before after : Outside)
     → ReadsFiles before.files (inputs_of command) contents → CommandReceives command before.files → ((denial : Denial) → Did (refused_by denial) → ⊥) → RunShows Did Shows before after → Did (outcome_of command contents)
     → CommandAlone Shows contents command before after
 outcome_by Did Shows command contents before after read receives never shows is =
@@ -337,16 +355,16 @@ outcome_by Did Shows command contents before after read receives never shows is 
 
 -- Where the command was carried out.
 
-carried_alone : OwnLines → SameCoreFile → (command : Command) (contents : List (List ℕ)) (before after : Outside) → CommandReceives command before.files → IsCarriedOut None contents command before after → CommandAlone ShowsAlone contents command before after
+carried_alone : OwnReports → SameUpsetCoreFile → (command : Command) (contents : List (List ℕ)) (before after : Outside) → CommandReceives command before.files → IsCarriedOut None contents command before after → CommandAlone ShowsAlone contents command before after
 carried_alone lines_law core_law command contents before after receives w =
     let read_from = called_for (inputs_of command) before in
     let files : read_from.files ≡ before.files = ap (λ (x : Outside). x.files) (called_for-is (inputs_of command) before) in
     let got : read_from.got ≡ before.got = ap (λ (x : Outside). x.got) (called_for-is (inputs_of command) before) in
     outcome_by (IsAllOf read_from after) ShowsAlone command contents before after w.read receives (never_all read_from after)
-    (λ system inputs ticks cores scripts inside done. shows_run lines_law core_law system inputs ticks cores scripts before read_from after inside files got done)
+    (λ upsets system inputs ticks cores scripts inside done. shows_run lines_law core_law upsets system inputs ticks cores scripts before read_from after inside files got done)
     (w.denied, w.outside)
 
-pub are_alone : OwnLines → SameCoreFile → (e : Ending) (contents : List (List ℕ)) (command : Option Command) (before after : Outside) → (HasScripts e → WordsReceive command before.files) → Works e contents command before after
+pub are_alone : OwnReports → SameUpsetCoreFile → (e : Ending) (contents : List (List ℕ)) (command : Option Command) (before after : Outside) → (HasScripts e → WordsReceive command before.files) → Works e contents command before after
     → IsCompleteStatus (status_of e) → AreShownAlone ShowsAlone contents command before after
 are_alone lines_law core_law e contents None before after receives w complete = tt
 are_alone lines_law core_law e contents (Some command) before after receives w complete =
@@ -356,18 +374,18 @@ are_alone lines_law core_law e contents (Some command) before after receives w c
 
 -- Where its report or one of its files was not written.
 
-front_alone : OwnLines → (command : Command) (contents : List (List ℕ)) (before after : Outside) → CommandReceives command before.files → IsUnwritten contents command before after → CommandAlone ShowsPart contents command before after
+front_alone : OwnReports → (command : Command) (contents : List (List ℕ)) (before after : Outside) → CommandReceives command before.files → IsUnwritten contents command before after → CommandAlone ShowsPart contents command before after
 front_alone law command contents before after receives w =
     let files : (called_for (inputs_of command) before).files ≡ before.files = ap (λ (x : Outside). x.files) (called_for-is (inputs_of command) before) in
     outcome_by (IsFrontOf before after) ShowsPart command contents before after w.read receives (never_front before after)
-    (λ system inputs ticks cores scripts inside done. inl (shows_front law system inputs ticks cores scripts before after done))
+    (λ upsets system inputs ticks cores scripts inside done. inl (shows_front law upsets system inputs ticks cores scripts before after done))
     (w.front, ap (λ (x : Outside). x.files) w.outside ∙ wrote-from (outcome_of command contents).output (called_for (inputs_of command) before) before files)
 
-some_alone : OwnLines → SameCoreFile → (command : Command) (contents : List (List ℕ)) (before after : Outside) → CommandReceives command before.files → ReadsFiles before.files (inputs_of command) contents
+some_alone : OwnReports → SameUpsetCoreFile → (command : Command) (contents : List (List ℕ)) (before after : Outside) → CommandReceives command before.files → ReadsFiles before.files (inputs_of command) contents
     → IsSomeOf before after (outcome_of command contents) → CommandAlone ShowsPart contents command before after
 some_alone lines_law core_law command contents before after receives read some =
     outcome_by (IsSomeOf before after) ShowsPart command contents before after read receives (never_some before after)
-    (λ system inputs ticks cores scripts inside done. inr (shows_some lines_law core_law system inputs ticks cores scripts before after inside done)) some
+    (λ upsets system inputs ticks cores scripts inside done. inr (shows_some lines_law core_law upsets system inputs ticks cores scripts before after inside done)) some
 
 -- a command that writes a file before its report runs nothing
 lost_alone : (command : Command) (contents : List (List ℕ)) (before after : Outside) → IsNotWritten command before after → CommandAlone ShowsPart contents command before after
@@ -387,14 +405,14 @@ lost_alone (Generate number) contents before after w = tt
 lost_alone (Replay container part script further) contents before after w = tt
 lost_alone (Run container options) contents before after w = absurd (let some : IsSome {T = List ℕ} None = w.output in cc)
 
-unsaved_alone : OwnLines → SameCoreFile → (file : List ℕ) (command : Command) (contents : List (List ℕ)) (before after : Outside) → CommandReceives command before.files → IsUnsaved file contents command before after
+unsaved_alone : OwnReports → SameUpsetCoreFile → (file : List ℕ) (command : Command) (contents : List (List ℕ)) (before after : Outside) → CommandReceives command before.files → IsUnsaved file contents command before after
     → CommandAlone ShowsPart contents command before after
 unsaved_alone lines_law core_law file command contents before after receives w = ⊎_elim
     (λ first. lost_alone command contents before after (lost_first command contents file before after first))
     (λ later. some_alone lines_law core_law command contents before after receives w.read (lost_some command (outcome_of command contents) file before after later))
     w.lost
 
-pub are_part : OwnLines → SameCoreFile → (e : Ending) (contents : List (List ℕ)) (command : Option Command) (before after : Outside) → (HasScripts e → WordsReceive command before.files) → Works e contents command before after
+pub are_part : OwnReports → SameUpsetCoreFile → (e : Ending) (contents : List (List ℕ)) (command : Option Command) (before after : Outside) → (HasScripts e → WordsReceive command before.files) → Works e contents command before after
     → status_of e ≡ WriteFault → AreShownAlone ShowsPart contents command before after
 are_part lines_law core_law e contents None before after receives w fault = tt
 are_part lines_law core_law Done contents (Some command) before after receives w fault = absurd (cc)

@@ -4,8 +4,8 @@ use Rattle.std.specs.FinMap.{get}
 use Rattle.xm_base.specs.Bytes.{AreBytes}
 use Rattle.xm_outside.specs.Files.{Files}
 use Rattle.xm_report.specs.Report.{texts}
-use Rattle.machine_model.specs.Lines.{own}
-use Rattle.upset_model.specs.Reports.{after_run, upset_report}
+use Rattle.machine_model.specs.Lines.{own, report}
+use Rattle.machine_model.specs.Machine.{run, start}
 use Rattle.machine_model.specs.View.{System}
 use Rattle.command_line.specs.Words.{PartFile, ReplayFiles, RunOption, Run, Replay, command_of, inputs_in, replay_core, replay_input, scripts_in, upsets_in}
 use Rattle.file_commands.specs.Outcome.{core_output, name_if_any}
@@ -49,10 +49,10 @@ pub record BelongsTo (container : List ℕ) (options : List RunOption) (part : �
 pub record AnswersAsRun (ran replayed : Answer) (part : ℕ) (core : Option (List ℕ)) : Type 0 where
   pub system : System
   pub ticks : ℕ
-  pub printed : ran.out ≡ texts (upset_report [] system ticks)
+  pub printed : ran.out ≡ texts (report system ticks)
   pub done : replayed.status ≡ Done
-  pub lines : replayed.out ≡ texts (own part (upset_report [] system ticks))
-  pub core_file : replayed.files ≡ saved_all (map (λ file. core_output (after_run [] system ticks) (record { part = part; file = file })) (name_if_any core)) ran.files
+  pub lines : replayed.out ≡ texts (own part (report system ticks))
+  pub core_file : replayed.files ≡ saved_all (map (λ file. core_output (run (start system) ticks) (record { part = part; file = file })) (name_if_any core)) ran.files
 
 -- a run that is done, and then a replay that belongs to it, over the files that the run left; the container's file is to hold bytes, as each file does
 abbrev pub RunsThenAlone : Type 0

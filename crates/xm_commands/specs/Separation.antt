@@ -9,13 +9,13 @@ use Rattle.xm_container.specs.Reading.{unpacked}
 use Rattle.replay_setup.specs.OfRun.{IsOfRun, own_console}
 use Rattle.uart_board.specs.Heard.{IsHeard}
 use Rattle.uart_board.specs.Views.{without_marks}
-use Rattle.machine_model.specs.Alone.{Alone, alone_start}
+use Rattle.machine_model.specs.Alone.{alone_start}
 use Rattle.machine_model.specs.CoreFile.{core_file}
-use Rattle.machine_model.specs.Lines.{end_line, own}
+use Rattle.machine_model.specs.Lines.{end_line, own, report}
+use Rattle.machine_model.specs.Machine.{run, start}
 use Rattle.machine_model.specs.View.{System, view_of}
-use Rattle.upset_model.specs.Places.{schedule_of}
-use Rattle.upset_model.specs.Reports.{after_run, alone_reported, own_due, received_in, upset_report}
-use Rattle.upset_model.specs.Upsets.{alone_upset_from, own_strikes}
+use Rattle.upset_model.specs.Reports.{alone_reported, own_due, received_in, upset_report}
+use Rattle.upset_laws.specs.ReportLaws.{alone_after}
 use Rattle.upset_model.specs.declared.upset_line.UpsetLine.{UpsetLine}
 use Rattle.system_state.specs.State.{with_inputs}
 use Rattle.command_line.specs.Words.{Command, PartFile, RunOption, Bare, Parse, Upgrade, BuildImage, ReadImage, Pack, ListContainer, CheckContainer, MakePlan, CheckPlan, ListGroups, ListSteerers, Generate, Run, Replay, cores_in, replay_core, replay_input, span_in, scripts_in}
@@ -29,20 +29,15 @@ use Rattle.xm_commands.specs.World.{World}
 use Rattle.file_commands.specs.declared.status.Status.{Status}
 use Rattle.file_commands.specs.declared.status.Status.TheVariants.{Refused}
 
--- partition p of a system alone, after this many ticks: from its boot on, its own upsets strike it, and it receives its script of them
-abbrev pub alone_after_ticks : List UpsetLine → System → ℕ → ℕ → Alone
-alone_after_ticks upsets system p ticks =
-    alone_upset_from (view_of system p) (own_strikes p (schedule_of upsets)) (alone_start (view_of system p)) (received_in upsets system p ticks)
-
 -- the lines of the partition alone and of its own upsets, and the line of its end
 abbrev pub alone_report : List UpsetLine → System → ℕ → ℕ → List ReportLine
 alone_report upsets system p ticks =
     alone_reported (view_of system p) (own_due p upsets) (alone_start (view_of system p)) (received_in upsets system p ticks)
-    ++ end_line p (alone_after_ticks upsets system p ticks).state ∷ []
+    ++ end_line p (alone_after upsets system p ticks).state ∷ []
 
 -- the core file of a partition alone, under the name that is given for it
 abbrev pub alone_output : List UpsetLine → System → ℕ → PartFile → Output
-alone_output upsets system ticks named = record { file = named.file; bytes = core_file (view_of system named.part) (alone_after_ticks upsets system named.part ticks).state }
+alone_output upsets system ticks named = record { file = named.file; bytes = core_file (view_of system named.part) (alone_after upsets system named.part ticks).state }
 
 -- what a run of this many ticks with upsets prints, where all of it went out: the lines of its report, of which each partition's own are those of that
 -- partition alone, with its own upsets
@@ -137,8 +132,8 @@ AreShownAlone Shows contents (Some command) before after = CommandAlone Shows co
 -- the partition's own lines of the report of that run and the line of its end went out, its core file is that after the run, and its UART got the console
 -- bytes that the partition wrote to it in that run
 pub record ShowsOwn (system : System) (ticks part : ℕ) (core : Option (List ℕ)) (before after : World) : Type 0 where
-  pub printed : after.disk.got ≡ grown before.disk.got (texts (own part (upset_report [] system ticks)))
-  pub written : after.disk.files ≡ (wrote_all (map (λ file. core_output (after_run [] system ticks) (record { part = part; file = file })) (name_if_any core)) before.disk).files
+  pub printed : after.disk.got ≡ grown before.disk.got (texts (own part (report system ticks)))
+  pub written : after.disk.files ≡ (wrote_all (map (λ file. core_output (run (start system) ticks) (record { part = part; file = file })) (name_if_any core)) before.disk).files
   pub said : IsHeard (own_console system ticks part) (without_marks before.board) after.board
 
 -- a replay by the script of a run is not refused, and shows the partition's part of that run

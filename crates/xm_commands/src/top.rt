@@ -10,10 +10,10 @@ use crate::work::work;
 use crate::world::Surroundings;
 use command_line::Words;
 use file_commands::{Ending, Status, complain, status_of};
-use machine_model::{own_lines, same_core_file};
 use replay_setup::run_is_replayed;
 use std::alloc::Global;
 use uart_board::Board;
+use upset_laws::reports_upsets;
 use xm_base::proof;
 use xm_outside::{Sink, Store};
 
@@ -35,9 +35,8 @@ pub fn xm_main<S: Store, O: Sink, E: Sink>(
     ensures silent { result ≡ Status.Done → err.new ≡ err.old }
 {
     proof! {
-        own_lines();
+        reports_upsets();
         run_is_replayed();
-        same_core_file();
     }
     let ending = work(alloc, words, files, out, board);
     // A fault of `err` changes no status.

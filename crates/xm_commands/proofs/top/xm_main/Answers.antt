@@ -9,7 +9,7 @@ returns g c =
     let ending = ending_of c.work-ending.result in
     let account = c.work-ending.ensures.accounted in
     rw c.status_of.ensures (record {
-      call = is_answer c.own_lines.ensures.law c.same_core_file.ensures.law c.run_is_replayed.ensures.law ending account.contents c.args.words.now
+      call = is_answer c.reports_upsets.ensures.run c.reports_upsets.ensures.core c.run_is_replayed.ensures.law ending account.contents c.args.words.now
           (record { disk = _; errors = _; board = record { places = _; marks = _ } }) (record { disk = _; errors = _; board = record { places = _; marks = _ } })
           account.works account.plays c.work-ending.ensures.numbers
           (said c.complain.result (complaint ending) _ _ _ _ c.complain.ensures.line c.complain.ensures.cause);
