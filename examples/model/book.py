@@ -2,10 +2,8 @@
 """Writes the small systems that show most as data of `case_suite`: their containers, calls and the model's reports.
 
 usage: book.py FOLDER
-       book.py --upsets FOLDER
 
-FOLDER is crates/case_suite/data. The files are those of BOOKS. With --upsets it is the file of the cases with upsets alone,
-upsets.toml.
+FOLDER is crates/case_suite/data. The files are those of BOOKS, and upsets.toml, which has the cases with upsets.
 """
 import hashlib
 import re
@@ -373,17 +371,15 @@ def upset_book(title, groups):
 
 
 def main():
-    words = [word for word in sys.argv[1:] if word != "--upsets"]
-    if len(words) != 1:
+    if len(sys.argv) != 2:
         print(__doc__, file=sys.stderr)
         return 2
     all_cases()
-    if "--upsets" in sys.argv:
-        file, title, groups = UPSET_BOOK
-        (Path(words[0]) / file).write_text(upset_book(title, groups))
-        return 0
+    folder = Path(sys.argv[1])
     for file, (title, groups) in BOOKS.items():
-        (Path(words[0]) / file).write_text(book(title, groups))
+        (folder / file).write_text(book(title, groups))
+    file, title, groups = UPSET_BOOK
+    (folder / file).write_text(upset_book(title, groups))
     return 0
 
 

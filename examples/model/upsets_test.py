@@ -218,24 +218,24 @@ def test_line(tmp_path: Path, words: list[str], status: int, ticks: str, fault: 
     assert "".join(line for line in done.stdout.splitlines(keepends=True) if line.startswith("[")) == ticks
 
 
-# The cases that wait for the command of the program.
+# The cases with upsets of the gate.
 
-PENDING = ROOT / "examples/model/pending/upsets.toml"
+CASES = ROOT / "crates/case_suite/data/upsets.toml"
 
 
-def pending() -> Iterator[tuple[str, dict[str, Any], dict[str, bytes], dict[str, bytes]]]:
+def cases() -> Iterator[tuple[str, dict[str, Any], dict[str, bytes], dict[str, bytes]]]:
     """The name, what the row says, its files and all files that are there, of each row."""
-    table, shelf = tomllib.loads(PENDING.read_text(encoding="utf-8")), dict[str, bytes]()
+    table, shelf = tomllib.loads(CASES.read_text(encoding="utf-8")), dict[str, bytes]()
     suite.put(shelf, table)
     for group in table["group"]:
         for row in group["case"]:
             yield f"{group['name']}: {row['shows']}", {**group, **row}, suite.given(group, row, shelf), shelf
 
 
-def test_pending(tmp_path: Path) -> None:
+def test_cases(tmp_path: Path) -> None:
     """The second simulator answers each row as it says, but for the words that are wrong, which `test_line` has."""
     count = 0
-    for name, row, files, shelf in pending():
+    for name, row, files, shelf in cases():
         if row.get("usage") or row.get("status"):
             continue
         for file, content in files.items():

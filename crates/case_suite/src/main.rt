@@ -52,6 +52,7 @@ const BOOKS: [&str; 30] = [
     "random_guests.toml",
     "systems.toml",
     "spans.toml",
+    "upsets.toml",
     "outside.toml",
     "words.toml",
     "texts.toml",

@@ -24,7 +24,7 @@ const NOT_TAKEN: &str = "the report is not taken";
 const MOST_TICKS: u64 = 100_000;
 
 /// Does a run at a pace over these files, with these resets, and writes its report. Answers whether it did: the words may
-/// be those of another command, or of too long a run.
+/// be those of another command, of a run with upsets, or of too long a run.
 pub(crate) fn is_ticked<O: Sink>(
     alloc: Global,
     words: &Words,
@@ -39,7 +39,7 @@ pub(crate) fn is_ticked<O: Sink>(
     }
 }
 
-// Does a command at a pace, where it is a run that is short enough, and answers whether it is.
+// Does a command at a pace, where it is a run without upsets that is short enough, and answers whether it is.
 fn is_command_ticked<O: Sink>(
     alloc: Global,
     command: Command<'_>,
@@ -49,7 +49,7 @@ fn is_command_ticked<O: Sink>(
     out: &mut O,
 ) -> Result<bool> {
     match command {
-        Command::Run { container, options } => {
+        Command::Run { container, options } if options.upsets().is_none() => {
             boot_and_tick(alloc, container, options, files, resets, pace, out)
         }
         _ => Ok(false),
