@@ -16,7 +16,8 @@ Each page is done in a copy of the repository that is removed at the end:
   is there, unless `--measure` is given.
 
 For the pages of the systems in addition:
-- the report of each `run` is the file BOX.report beside the page, BOX.xmp being the container of the run;
+- the report of each `run` is the file BOX.report beside the page, BOX.xmp being the container of the run; that of a run with
+  the upsets of FILE.upsets is FILE.report, of which the consoles are not compared;
 - what each partition of a report wrote to its console is the file of its program, NAME.txt, which was worked by hand or
   printed by the same C file as a program of this machine (`make native`). A partition that did not halt may have written
   the last line of it again and again.
@@ -36,8 +37,8 @@ from pathlib import Path
 ROOT = Path(__file__).resolve().parent.parent
 SYSTEMS = ROOT / "examples/systems"
 NAMES = ["queue", "control", "supervisor", "misdeeds", "filter", "alarm"]
-# A system with the C library, whose run is none of the data.
-LARGER = ["attitude"]
+# Systems whose runs are none of the data: one with the C library, and one that needs upsets.
+LARGER = ["attitude", "upsets"]
 AFTER = re.compile(r"^<!-- after (\S+) -->$", re.M)
 NAMED = re.compile(r"Put this in `([^`]+)`")
 # What is not copied: what git does not keep, and what is large.
@@ -227,10 +228,13 @@ class Trial:
                 self.report(page, call, folder.printed(" ".join(["./xm_run", *call])))
 
     def report(self, page: Page, call: list[str], report: str) -> None:
-        path = page.path.parent / f"{Path(call[1]).stem}.report"
+        upsets = call[call.index("--upset") + 1] if "--upset" in call else None
+        path = page.path.parent / f"{Path(upsets or call[1]).stem}.report"
         if self.writes:
             path.write_text(report)
         self.compare(path.name, report, path.read_text())
+        if upsets:
+            return
         for number, name in page.programs()[call[1]].items():
             self.console(f"{path.name}, partition {number}", report, number, page.path.parent / f"{name}.txt")
 
