@@ -186,11 +186,7 @@ def add_messages(figure: Any, page: Page) -> None:
 
 
 def figure_of(page: Page) -> Any:
-    try:
-        from plotly.graph_objects import Figure  # type: ignore[import]
-    except ImportError:
-        raise Unusable("there is no plotly: Debian's package python3-plotly has it") from None
-    figure = Figure()
+    figure = new_figure()
     for partition in page.partitions:
         add_bars(figure, page, "slot", partition, page.slots(partition))
         add_bars(figure, page, "ran", partition, page.ran(partition))
@@ -234,12 +230,26 @@ def embedded(value: Any) -> str:
     return json.dumps(value).replace("<", "\\u003c").replace("\u2028", "\\u2028").replace("\u2029", "\\u2029")
 
 
-def text_of(page: Page) -> str:
-    """The page as a file. The element that is drawn has a random name, and gets its own, so that equal runs give equal pages."""
-    course = page.course
-    drawn = figure_of(page).to_html(full_html=False, include_plotlyjs=True, config={"scrollZoom": True, "displaylogo": False})
+def drawn_as(figure: Any, name: str, has_library: bool = True) -> str:
+    """A figure as a part of a page. Its element has a random name, and gets this one, so that equal runs give equal pages."""
+    config = {"scrollZoom": True, "displaylogo": False}
+    drawn: str = figure.to_html(full_html=False, include_plotlyjs=has_library, config=config)
     random = PLOT.search(drawn)
-    drawn = drawn.replace(random[1], "run") if random else drawn
+    return drawn.replace(random[1], name) if random else drawn
+
+
+def new_figure() -> Any:
+    try:
+        from plotly.graph_objects import Figure  # type: ignore[import]
+    except ImportError:
+        raise Unusable("there is no plotly: Debian's package python3-plotly has it") from None
+    return Figure()
+
+
+def text_of(page: Page) -> str:
+    """The page as a file."""
+    course = page.course
+    drawn = drawn_as(figure_of(page), "run")
     lines = [[line.tick, line.shown()] for line in course.report.lines if line.number in page.places]
     template = Template(Path(__file__).with_name("page.html").read_text(encoding="utf-8"))
     return template.substitute(

@@ -6,7 +6,7 @@ They stand in reference.json, which `tools/xm_reference` makes of these pages an
 import functools
 import json
 from dataclasses import dataclass
-from pathlib import Path
+from importlib import resources
 from typing import Any
 
 
@@ -81,7 +81,7 @@ def element_of(table: dict[str, Any]) -> Element:
 
 @functools.cache
 def reference() -> Reference:
-    tables = json.loads(Path(__file__).with_name("reference.json").read_text(encoding="utf-8"))
+    tables = json.loads((resources.files("xm_tools") / "reference.json").read_text(encoding="utf-8"))
     return Reference(
         elements={name: element_of(element) for name, element in tables["elements"].items()},
         forms=tables["forms"],

@@ -210,13 +210,17 @@ def take_all(reader: Reader, content: bytes) -> None:
         raise reader.fail("a line without an end")
 
 
-def read_report(path: str) -> Report:
-    """The report in a file. What is none is Unusable, with its line."""
+def report_of(path: str, content: bytes) -> Report:
+    """The report in a file's bytes, by the name of the file. What is none is Unusable, with its line."""
     reader = Reader(path)
-    take_all(reader, content_of(path))
+    take_all(reader, content)
     if not reader.report.state:
         raise reader.fail("the report ends without its END lines")
     return reader.report
+
+
+def read_report(path: str) -> Report:
+    return report_of(path, content_of(path))
 
 
 # A partition in isolation.

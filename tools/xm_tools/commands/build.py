@@ -20,6 +20,7 @@ import os
 import re
 import shutil
 import subprocess
+from collections.abc import Callable
 from pathlib import Path
 
 from xm_tools.building import BUILT, BuildFile, Built, Program, read_build_file, words_of_partitions
@@ -47,12 +48,12 @@ def guests_folder() -> str:
 
 
 class Build:
-    """A folder in which a system is made."""
+    """A folder in which a system is made. `beside` is the .toml file, where it is not the one beside the description."""
 
-    def __init__(self, xml: str, folder: str) -> None:
-        self.xml, self.folder = xml, Path(folder)
+    def __init__(self, xml: str, folder: str, beside: str | None = None, say: Callable[[str], None] = print) -> None:
+        self.xml, self.folder, self.say = xml, Path(folder), say
         self.system: System = read_description(xml)
-        self.given: BuildFile = read_build_file(str(Path(xml).with_suffix(".toml")), self.system)
+        self.given: BuildFile = read_build_file(beside or str(Path(xml).with_suffix(".toml")), self.system)
         self.words = words_of_partitions(self.system)
 
     def path(self, name: str) -> str:
@@ -67,13 +68,13 @@ class Build:
         for partition in self.system.partitions:
             images.append(f"{partition.number}={self.image(partition)}")
         packed = needed(["xmpack", "build", self.path("system.xmc"), self.path("system.xmp"), *images])
-        print(f"container {self.path('system.xmp')}: {packed.strip()}")
+        self.say(f"container {self.path('system.xmp')}: {packed.strip()}")
         self.keep()
 
     def configure(self) -> None:
         hint = f": xm check-description {self.xml} shows where and why"
         made = needed(["xmcparser", self.xml, self.path("system.xmc")], hint=hint)
-        print(f"configuration {made.strip()}")
+        self.say(f"configuration {made.strip()}")
 
     def generate(self) -> None:
         write(self.path("areas.h"), header(self.system).encode())
@@ -114,7 +115,7 @@ class Build:
         path = self.path(f"{word}.xef")
         made = needed(["xmeformat", "build", elf, path])
         image = read_image(path, content_of(path))
-        print(f"{self.system.title(partition.number)}: {made.strip()} entry={image.entry:08x} of {os.path.relpath(elf)}")
+        self.say(f"{self.system.title(partition.number)}: {made.strip()} entry={image.entry:08x} of {os.path.relpath(elf)}")
         self.warn(partition, image)
         return path
 
@@ -122,7 +123,7 @@ class Build:
         for area in partition.areas:
             inside = [segment for segment in image.segments if area.start <= segment.address < area.end]
             if not inside:
-                print(f"{self.system.title(partition.number)}: warning: its program has nothing in the area at {area.start:08x}")
+                self.say(f"{self.system.title(partition.number)}: warning: its program has nothing in the area at {area.start:08x}")
 
     def keep(self) -> None:
         inputs = {}
@@ -138,5 +139,6 @@ class Build:
 
 def run(given: list[str]) -> int:
     words = words_of(USAGE, given, 2, 2)
-    Build(*words.plain).make()
+    xml, folder = words.plain
+    Build(xml, folder).make()
     return WELL
