@@ -53,7 +53,7 @@ def test_what_is_no_command(tmp_path: Path) -> None:
 CALLS = [
     ("check-description", "x.xml"), ("why", "x"), ("build", "x.xml", "o"), ("run", "x"), ("core", "x"), ("core", "x", "y"), ("script", "show", "x"),
     ("script", "make", "x", "y"), ("flows", "x"), ("expect", "x", "y"), ("compare", "x", "y"), ("export", "--json", "x"), ("view", "x", "y", "z"),
-    ("picture", "x", "y", "z"),
+    ("picture", "x", "y", "z"), ("campaign", "x"), ("campaign", "--csv", "x"), ("campaign", "--report", "x", "y"), ("campaign", "--repeat", "x", "1", "y"),
 ]  # fmt: skip
 
 

@@ -2,13 +2,16 @@
 
 import contextlib
 import io
+import json
 import os
 import random
 from collections.abc import Callable, Iterator
 from pathlib import Path
 
 import pytest
+from box import container
 from model import Machine
+from rows import demo
 
 from conftest import ROOT, SYSTEMS, cases, files_with, reports
 from damage import damaged, digested
@@ -176,6 +179,24 @@ def test_what_was_built(place: Path) -> None:
     Path("d").mkdir()
     text = b'{"container": "system.xmp", "names": ["a", "b"], "words": ["a", "b"], "inputs": {"a": "a.input"}, "frames": null}'
     assert try_all([text], "d/built.json", ["run", "d"], count=FEWER) == FEWER
+
+
+def test_campaigns(place: Path, monkeypatch: pytest.MonkeyPatch) -> None:
+    """With no program every one of them ends before its first run."""
+    Path("d").mkdir()
+    Path("d/system.xmp").write_bytes(container(demo()))
+    names = list(read_system("d/system.xmp").names.values())
+    built = {"container": "system.xmp", "names": names, "words": ["a", "b"], "inputs": {}, "frames": 3}
+    Path("d/built.json").write_text(json.dumps(built))
+    Path("e").write_text("no HM\n")
+    text = (
+        f'system = "d"\nframes = [2, 3]\nexpect = "e"\noutput = "{names[0]}"\noutcomes = ["same", "masked", "wrong"]\nothers = true\n'
+        f'keep = "all"\nseed = 7\n[words]\n{names[1]} = {{ count = 64, sets = 100, from = 0, to = 4095 }}\n[[upsets]]\n'
+        f'partition = "{names[0]}"\nplaces = ["registers", "image", "g1-g7"]\nbits = [0, 31]\n'
+        "ticks = { from = 0, to = 100, step = 10 }\nsample = 1000\n"
+    )
+    monkeypatch.setenv("XM_RUN", "/none")
+    assert try_all([text.encode()], "c.toml", ["campaign", "c.toml"], count=FEWER) == FEWER
 
 
 def test_files_beside_a_description(place: Path, monkeypatch: pytest.MonkeyPatch) -> None:

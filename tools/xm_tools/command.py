@@ -33,6 +33,7 @@ COMMANDS = [
     Command("expect", "REPORT FILE [--junit OUT]", "compares a report with expectations"),
     Command("compare", "A B", "compares two reports by partition"),
     Command("export", "--json|--csv|--vcd|--perfetto REPORT", "a report in the form of another tool"),
+    Command("campaign", "FILE.toml | --report|--csv RESULTS", "many runs of a system, with inputs, plans and upsets varied, and their outcomes"),
     Command("picture", "SYSTEM REPORT OUT.svg", "draws a run as bars and marks"),
     Command("view", "SYSTEM REPORT OUT.html", "a page of a run that zooms and finds lines"),
 ]

@@ -1,0 +1,335 @@
+"""Does runs of a campaign, each in a folder of its own, and judges them. It is what the workers of a campaign do.
+
+All that a run needs comes with the campaign as bytes: the program, containers and input words. So a worker of another machine
+needs no file of this one.
+"""
+
+import atexit
+import contextlib
+import hashlib
+import os
+import shutil
+import subprocess
+import tempfile
+import time
+from collections.abc import Iterable, Iterator, Mapping
+from dataclasses import dataclass, field
+from pathlib import Path
+
+from xm_tools.container import read_container
+from xm_tools.expectations import expectations_of
+from xm_tools.failure import Unusable
+from xm_tools.outcomes import FAILED, Left, Reference, Rules, Verdict
+from xm_tools.system import System
+from xm_tools.upset_sets import Upset
+
+PREFIX = "xm_campaign"
+REPORT, ERRORS, UPSETS, COMMAND = "report.txt", "errors.txt", "run.upsets", "command.txt"
+SHARED_MEMORY = "/dev/shm"
+ROOM = 1 << 28
+# Longer files of a run are kept only where another partition differs.
+MOST_KEPT = 1 << 16
+# As many words an input has at most.
+MOST_WORDS = 4_000_000
+# So many runs without upsets, and files of setups, are kept for the next runs of a worker.
+MOST_REFERENCES = 4
+MOST_FILES = 256
+
+
+@dataclass(frozen=True)
+class Words:
+    """Input words that are generated: a set of so many words from `low` to `high`, by a seed, a name and the set's number."""
+
+    seed: int
+    name: str
+    number: int
+    count: int
+    low: int
+    high: int
+
+    def is_well(self) -> bool:
+        numbers = (self.seed, self.number, self.count, self.low, self.high)
+        are_numbers = all(type(number) is int and number >= 0 for number in numbers)
+        return are_numbers and self.count <= MOST_WORDS and self.low <= self.high < 1 << 32
+
+    def content(self) -> bytes:
+        """Each word is low plus a number of 64 bits of SHAKE-256 of `SEED NAME NUMBER`, modulo how many words there are."""
+        drawn = hashlib.shake_256(f"{self.seed} {self.name} {self.number}".encode()).digest(8 * self.count)
+        numbers = (int.from_bytes(drawn[at : at + 8], "big") for at in range(0, len(drawn), 8))
+        return b"".join((self.low + number % (self.high - self.low + 1)).to_bytes(4, "big") for number in numbers)
+
+
+@dataclass(frozen=True)
+class Setup:
+    """What a run is of, but for its upsets: a container by its digest, its ticks, and the input of each partition that has one.
+
+    An input is generated words, or a file by its digest. `labels` says what was varied, and how.
+    """
+
+    container: str
+    ticks: int
+    inputs: tuple[tuple[int, Words | str], ...] = ()
+    labels: tuple[tuple[str, str], ...] = ()
+
+
+@dataclass(frozen=True)
+class Common:
+    """What all runs of a campaign have in common. Files are by their digests; `keep` are the outcomes whose folders are kept."""
+
+    name: str
+    program: bytes
+    files: Mapping[str, bytes]
+    expect_name: str = ""
+    expect_text: str = ""
+    output: tuple[int, ...] | None = None
+    outcomes: tuple[str, ...] = ()
+    has_others: bool = True
+    keep: tuple[str, ...] = ()
+    scratch: str | None = None
+
+
+@dataclass(frozen=True)
+class Done:
+    """How a run ended: what it is judged to be, how long the program took and all the rest, and the files that are kept."""
+
+    verdict: Verdict
+    seconds: float
+    beyond: float
+    files: Mapping[str, bytes] = field(default_factory=dict)
+
+
+@dataclass(frozen=True)
+class Case:
+    """A run of a setup with upsets, or without. `compares` says that runs of the setup are compared with that without upsets."""
+
+    setup: Setup
+    upsets: tuple[Upset, ...]
+    compares: bool
+
+
+@dataclass(frozen=True)
+class DoneBatch:
+    """How the runs of a batch ended, and the digests of the reports without upsets that were needed."""
+
+    done: tuple[Done, ...]
+    reports: Mapping[Setup, str]
+
+
+def digest_of(content: bytes) -> str:
+    return hashlib.sha256(content).hexdigest()
+
+
+def scratch_of(named: str | None) -> str:
+    """The folder in which runs have their folders: shared memory where there is room, since a program waits for its disk."""
+    if named:
+        return named
+    if os.access(SHARED_MEMORY, os.W_OK | os.X_OK) and shutil.disk_usage(SHARED_MEMORY).free >= ROOM:
+        return SHARED_MEMORY
+    return tempfile.gettempdir()
+
+
+def remove_left_over(scratch: str) -> None:
+    """Removes the folders of workers of this machine that were killed."""
+    for folder in Path(scratch).glob(f"{PREFIX}-*-*"):
+        process = folder.name.split("-")[1]
+        if process.isdigit() and not Path(f"/proc/{process}").exists():
+            shutil.rmtree(folder, ignore_errors=True)
+
+
+def beginning(setup: Setup) -> list[str]:
+    """The words for where a run begins and ends: each begins at the boot, and ends after its ticks.
+
+    The program cannot save a machine yet. Where it can, runs that share a beginning are to go on from a saved one here.
+    """
+    return ["--ticks", str(setup.ticks)]
+
+
+class Bench:
+    """A worker's folder, with the program and the files of a campaign, in which it does runs one after the other."""
+
+    def __init__(self, common: Common) -> None:
+        self.common = common
+        scratch = scratch_of(common.scratch)
+        remove_left_over(scratch)
+        self.room = Path(tempfile.mkdtemp(prefix=f"{PREFIX}-{os.getpid()}-", dir=scratch))
+        # The program stands on a disk: nothing may be executed in some shared memories.
+        self.home = Path(tempfile.mkdtemp(prefix=f"{PREFIX}-{os.getpid()}-"))
+        atexit.register(self.remove)
+        self.program = str(self.home / "xm_run")
+        Path(self.program).write_bytes(common.program)
+        os.chmod(self.program, 0o755)
+        self.references: dict[Setup, tuple[Reference | None, Done]] = {}
+        self.systems: dict[str, System] = {}
+        self.written: dict[str, str] = {}
+        self.count = 0
+
+    def remove(self) -> None:
+        for folder in (self.room, self.home):
+            shutil.rmtree(folder, ignore_errors=True)
+
+    def path_of(self, source: Words | str) -> str:
+        """The file with the content of a digest, or with generated words."""
+        content = source.content() if isinstance(source, Words) else self.common.files[source]
+        name = digest_of(content) if isinstance(source, Words) else source
+        if name not in self.written:
+            if len(self.written) >= MOST_FILES:
+                for path in self.written.values():
+                    os.unlink(path)
+                self.written.clear()
+            self.written[name] = str(self.room / name)
+            Path(self.written[name]).write_bytes(content)
+        return self.written[name]
+
+    def system(self, setup: Setup) -> System:
+        if setup.container not in self.systems:
+            self.systems[setup.container] = read_container("container", self.common.files[setup.container]).system
+        return self.systems[setup.container]
+
+    def reference(self, setup: Setup) -> tuple[Reference | None, Done]:
+        """The run of a setup without upsets, None where it failed, and how it ended."""
+        if setup not in self.references:
+            if len(self.references) >= MOST_REFERENCES:
+                del self.references[next(iter(self.references))]
+            self.references[setup] = self.new_reference(setup)
+        return self.references[setup]
+
+    def new_reference(self, setup: Setup) -> tuple[Reference | None, Done]:
+        began = time.perf_counter()
+        partitions = range(len(self.system(setup).partitions))
+        with self.folder() as folder:
+            run = Run(self, setup, (), folder)
+            why = run.call(partitions, partitions if self.common.has_others else ())
+            reference = None
+            try:
+                reference = None if why else Reference(run.left(), self.rules(setup))
+            except Unusable as reason:
+                why = str(reason)
+            return reference, self.finished(run, reference.verdict() if reference else Verdict(FAILED, why), began)
+
+    def rules(self, setup: Setup) -> Rules:
+        expectations = expectations_of(self.common.expect_name, self.common.expect_text, self.system(setup))
+        return Rules(expectations, self.common.output, self.common.outcomes)
+
+    @contextlib.contextmanager
+    def folder(self) -> Iterator[Path]:
+        """A folder for a run, which is removed after it."""
+        self.count += 1
+        folder = self.room / f"run{self.count}"
+        folder.mkdir()
+        try:
+            yield folder
+        finally:
+            for entry in os.scandir(folder):
+                os.unlink(entry.path)
+            folder.rmdir()
+
+    def do(self, setup: Setup, upsets: tuple[Upset, ...], compares: bool) -> Done:
+        """Does a run. Where it is compared, the one of its setup without upsets comes first."""
+        if not compares:
+            return self.do_alone(setup)
+        reference, done = self.reference(setup)
+        if not upsets or reference is None:
+            return done
+        began = time.perf_counter()
+        with self.folder() as folder:
+            run = Run(self, setup, upsets, folder)
+            struck = {upset.partition for upset in upsets}
+            others = [number for number in reference.left.scripts if number not in struck]
+            why = run.call(sorted({*struck, *others}), others)
+            verdict = Verdict(FAILED, why) if why else reference.verdict_of(run.left(), struck, upsets[-1].tick)
+            return self.finished(run, verdict, began)
+
+    def do_alone(self, setup: Setup) -> Done:
+        """Does a run that is compared with nothing."""
+        began = time.perf_counter()
+        with self.folder() as folder:
+            run = Run(self, setup, (), folder)
+            why = run.call((), ())
+            try:
+                verdict = Verdict(FAILED, why) if why else Reference(run.left(), self.rules(setup)).verdict()
+            except Unusable as reason:
+                verdict = Verdict(FAILED, str(reason))
+            return self.finished(run, verdict, began)
+
+    def finished(self, run: "Run", verdict: Verdict, began: float) -> Done:
+        files = run.kept(verdict) if verdict.differing or verdict.outcome in self.common.keep else {}
+        return Done(verdict, run.seconds, time.perf_counter() - began - run.seconds, files)
+
+
+class Run:
+    """One run in its folder."""
+
+    def __init__(self, bench: Bench, setup: Setup, upsets: tuple[Upset, ...], folder: Path) -> None:
+        self.bench, self.setup, self.upsets, self.folder = bench, setup, upsets, folder
+        self.cores: tuple[int, ...] = ()
+        self.scripts: tuple[int, ...] = ()
+        self.seconds = 0.0
+
+    def words(self) -> list[str]:
+        words = ["run", self.bench.path_of(self.setup.container), *beginning(self.setup)]
+        for number, source in self.setup.inputs:
+            words += ["--input", f"{number}={self.bench.path_of(source)}"]
+        if self.upsets:
+            (self.folder / UPSETS).write_text("".join(upset.line() for upset in self.upsets))
+            words += ["--upset", UPSETS]
+        for number in self.cores:
+            words += ["--core", f"{number}={number}.core"]
+        for number in self.scripts:
+            words += ["--script", f"{number}={number}.script"]
+        return words
+
+    def call(self, cores: Iterable[int], scripts: Iterable[int]) -> str:
+        """Calls the program, and says why it failed, nothing where it did not."""
+        self.cores, self.scripts = tuple(cores), tuple(scripts)
+        words = [self.bench.program, *self.words()]
+        with open(self.folder / REPORT, "wb") as out, open(self.folder / ERRORS, "wb") as errors:
+            began = time.perf_counter()
+            try:
+                called = subprocess.Popen(words, cwd=self.folder, stdin=subprocess.DEVNULL, stdout=out, stderr=errors)
+                status = called.wait()
+            except OSError as error:
+                raise Unusable(f"the program cannot be called: {error}") from None
+            self.seconds = time.perf_counter() - began
+        if status == 0:
+            return ""
+        lines = (self.folder / ERRORS).read_text(encoding="utf-8", errors="replace").splitlines()
+        return lines[0] if lines else f"the program ended with {f'status {status}' if status > 0 else f'signal {-status}'}"
+
+    def left(self) -> Left:
+        cores = {number: (self.folder / f"{number}.core").read_bytes() for number in self.cores}
+        scripts = {number: (self.folder / f"{number}.script").read_bytes() for number in self.scripts}
+        return Left((self.folder / REPORT).read_bytes(), cores, scripts)
+
+    def kept(self, verdict: Verdict) -> dict[str, bytes]:
+        """The files of a run that is kept: long ones only of partitions that differ from the run without upsets."""
+        names = {f"{number}.{kind}" for number in verdict.differing for kind in ("core", "script")}
+        found = {}
+        for entry in os.scandir(self.folder):
+            if entry.name in names or entry.stat().st_size <= MOST_KEPT and not entry.name.endswith((".core", ".script")):
+                found[entry.name] = Path(entry.path).read_bytes()
+        return found
+
+
+# The bench of this process, by what its campaign has in common.
+BENCHES: dict[str, Bench] = {}
+
+
+def bench_of(common: Common) -> Bench:
+    if common.name not in BENCHES:
+        for bench in BENCHES.values():
+            bench.remove()
+        BENCHES.clear()
+        BENCHES[common.name] = Bench(common)
+    return BENCHES[common.name]
+
+
+def do_batch(common: Common, cases: tuple[Case, ...]) -> DoneBatch:
+    """Does some runs in this process."""
+    bench = bench_of(common)
+    done, reports = [], {}
+    for case in cases:
+        done.append(bench.do(case.setup, case.upsets, case.compares))
+        reference = bench.reference(case.setup)[0] if case.compares else None
+        if reference and case.setup not in reports:
+            reports[case.setup] = digest_of(reference.left.report)
+    return DoneBatch(tuple(done), reports)
