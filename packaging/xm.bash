@@ -19,6 +19,9 @@ _xm_place() {
         build:1 | run:0) _filedir -d ;;
         core:1) _xm_files elf ;;
         script:0) _xm_words 'show make' ;;
+        campaign:0) _xm_files toml ;;
+        campaign:2) _xm_files html ;;
+        campaign:3) _filedir -d ;;
         view:0 | picture:0) _xm_files '@(xml|xmp)' ;;
         script:2) _xm_files scr ;;
         picture:2) _xm_files svg ;;
@@ -32,7 +35,9 @@ _xm_value() {
     case $1 in
         --names | --system) _xm_files '@(xml|xmp)' ;;
         --script) _xm_files scr ;;
-        --frames | --ticks | --from | --to) ;;
+        --keep | --scratch) _filedir -d ;;
+        --csv | --repeat | --results) _xm_files sqlite ;;
+        --frames | --ticks | --from | --to | --workers | --scheduler) ;;
         *) _filedir ;;
     esac
 }
@@ -45,6 +50,7 @@ _xm_options() {
         export) _xm_words '--json --csv --vcd --perfetto --system' ;;
         picture) _xm_words '--from --to' ;;
         view) _xm_words '--script --from --to' ;;
+        campaign) _xm_words '--report --csv --repeat --results --keep --workers --scheduler --scratch' ;;
     esac
 }
 
@@ -53,7 +59,7 @@ _xm() {
     _init_completion || return
     local command=${words[1]}
     if ((cword == 1)); then
-        _xm_words 'check-description why build run core script flows expect compare export picture view --help'
+        _xm_words 'check-description why build run core script flows expect compare export campaign picture view --help'
     elif [[ $prev == --* && $command != export ]] || [[ $prev == --system ]]; then
         _xm_value "$prev"
     elif [[ $cur == --* ]]; then
