@@ -4,11 +4,15 @@ Most campaigns here are of a stand-in for the program whose report follows from 
 a script that the shell runs in some milliseconds. One is of the second simulator.
 """
 
+import contextlib
 import csv
 import io
 import itertools
+import json
 import os
 import re
+import signal
+import socket
 import sqlite3
 import subprocess
 import time
@@ -533,23 +537,23 @@ def test_a_killed_worker_loses_nothing(tmp_path: Path) -> None:
 def test_a_run_that_always_kills_its_worker(tmp_path: Path) -> None:
     """It is the one that is lost: the others are done, and it is done again by the next call."""
     pytest.importorskip("distributed")
-    set_up(tmp_path, text_for(["w2", "w4-w6"]))
+    set_up(tmp_path, text_for(["w2", "w4"]))
     done = campaign(tmp_path)
     assert (done.status, done.err) == (2, "xm: 1 runs were lost with their workers: the same command does them again\n")
-    assert [row["place"] for row in rows(tmp_path)].count("w2") == 0 and len(rows(tmp_path)) == 4
+    assert [row["place"] for row in rows(tmp_path)].count("w2") == 0 and len(rows(tmp_path)) == 2
 
 
 def test_an_interrupted_campaign_goes_on(tmp_path: Path) -> None:
-    """What was done before it was interrupted is there; the next call does the others."""
+    """What was done before it was interrupted, as by a key of the terminal, is there; the next call does the others."""
     pytest.importorskip("distributed")
     set_up(tmp_path, text_for(["g1-g2", "w4-w20", "w3", "w21-w40"]))
     environment = {**os.environ, "XM_RUN": str(tmp_path / "program")}
     words = [str(XM), "campaign", "c.toml", "--workers", "1"]
-    with subprocess.Popen(words, cwd=tmp_path, env=environment, stdout=subprocess.DEVNULL, stderr=subprocess.PIPE) as running:
+    with subprocess.Popen(words, cwd=tmp_path, env=environment, stdout=subprocess.DEVNULL, stderr=subprocess.PIPE, start_new_session=True) as running:
         deadline = time.monotonic() + 300
         while "100 0 w3 3" not in calls(tmp_path) and time.monotonic() < deadline:
             time.sleep(0.2)
-        running.send_signal(2)
+        os.killpg(running.pid, signal.SIGINT)
         _, err = running.communicate()
     assert (running.returncode, PROGRESS.sub("", err.decode())) == (130, "")
     (tmp_path / "marks/go").touch()
@@ -568,9 +572,11 @@ def test_runs_without_upsets_are_judged_by_expectations(tmp_path: Path) -> None:
     set_up(tmp_path, text)
     done = campaign(tmp_path, "--results", "r.sqlite", "--keep", "kept")
     assert done.status == 1 and "failed" in done.out
-    found = rows(tmp_path, "r.sqlite")
-    assert [row["outcome"] for row in found] == ["failed"] * 3 + ["met"] * 3
-    assert [row["varied"] for row in found].count('[["length", "4000 ticks"], ["input P0", "set 1"]]') <= 1
+    found = sorted((row["outcome"], dict(json.loads(row["varied"]))["length"]) for row in rows(tmp_path, "r.sqlite"))
+    assert found == [("failed", "1000 ticks")] * 3 + [("met", "4000 ticks")] * 3
+    assert xm(tmp_path, "campaign", "--report", "r.sqlite", "p.html").err == ""
+    page = (tmp_path / "p.html").read_text()
+    assert "<td>length</td><td>4000 ticks</td><td class=number>3</td><td class=number>0</td>" in page and "By place" not in page
     kept = list((tmp_path / "kept").iterdir())
     assert len(kept) == 6 and all((folder / "0.input").stat().st_size == 16 for folder in kept)
     (tmp_path / "e.txt").write_text("P0 CON two\n")
@@ -579,13 +585,49 @@ def test_runs_without_upsets_are_judged_by_expectations(tmp_path: Path) -> None:
     assert done.status == 1 and [row["outcome"] for row in rows(tmp_path, "r.sqlite")] == ["unmet"] * 3
 
 
-def test_folders_are_removed(tmp_path: Path) -> None:
+def test_folders_are_removed(tmp_path: Path, monkeypatch: pytest.MonkeyPatch) -> None:
+    """Those of a worker that was killed, too."""
     pytest.importorskip("distributed")
-    set_up(tmp_path, text_for(["g1-g5"]))
-    (tmp_path / "scratch").mkdir()
-    assert campaign(tmp_path, "--scratch", "scratch").status == 0
-    assert list((tmp_path / "scratch").iterdir()) == [] and not (tmp_path / "c.runs").exists()
-    assert not (tmp_path / "dask-worker-space").exists()
+    set_up(tmp_path, text_for(["g1-g5", "w1"]))
+    for name in ("scratch", "tmp"):
+        (tmp_path / name).mkdir()
+    before = {path.name for path in tmp_path.iterdir()}
+    monkeypatch.setenv("TMPDIR", str(tmp_path / "tmp"))
+    assert campaign(tmp_path, "--scratch", str(tmp_path / "scratch")).status == 0
+    assert list((tmp_path / "scratch").iterdir()) == list((tmp_path / "tmp").iterdir()) == []
+    assert {path.name for path in tmp_path.iterdir()} == {*before, "c.sqlite"}
+
+
+def test_workers_of_a_scheduler(tmp_path: Path) -> None:
+    """They have no file of these tools, and two threads each; nothing of the campaign is left with them."""
+    pytest.importorskip("distributed")
+    set_up(tmp_path, text_for(list(TRUTH)))
+    for name in ("workers", "scratch"):
+        (tmp_path / name).mkdir()
+    with contextlib.ExitStack() as ended:
+
+        def start(*words: str) -> None:
+            running = subprocess.Popen(words, cwd=tmp_path / "workers", stdout=subprocess.DEVNULL, stderr=subprocess.DEVNULL)
+            ended.callback(running.wait)
+            ended.callback(running.terminate)
+
+        with socket.socket() as free:
+            free.bind(("127.0.0.1", 0))
+            address = f"tcp://127.0.0.1:{free.getsockname()[1]}"
+        start("dask-scheduler", "--host", "127.0.0.1", "--port", address.rpartition(":")[2], "--no-dashboard", "--no-show")
+        start("dask-worker", address, "--nworkers", "2", "--nthreads", "2", "--no-dashboard")
+        words = ("campaign", "c.toml", "--scheduler", address, "--scratch", str(tmp_path / "scratch"))
+        done = xm(tmp_path, *words, program=str(tmp_path / "program"))
+        assert list((tmp_path / "scratch").iterdir()) == []
+    assert (done.status, PROGRESS.sub("", done.err)) == (1, "")
+    assert {row["place"]: row["outcome"] for row in rows(tmp_path) if row["place"]} == TRUTH
+
+
+def test_a_scheduler_that_is_not_there(tmp_path: Path) -> None:
+    pytest.importorskip("distributed")
+    set_up(tmp_path, text_for(["g1"]))
+    done = xm(tmp_path, "campaign", "c.toml", "--scheduler", "tcp://127.0.0.1:1", program=str(tmp_path / "program"))
+    assert (done.status, done.out, len(done.err.splitlines())) == (2, "", 1) and "tcp://127.0.0.1:1" in done.err
 
 
 def test_the_runs_of_the_second_simulator(tmp_path: Path) -> None:

@@ -17,9 +17,9 @@ from xm_tools.description import read_description
 from xm_tools.expectations import expectations_of
 from xm_tools.failure import Unusable
 from xm_tools.files import content_of, text_of
-from xm_tools.outcomes import FAILED, MASKED, OF_UPSETS, OUTCOMES, UNMET, WRONG
+from xm_tools.outcomes import FAILED, MASKED, MET, OF_UPSETS, OUTCOMES, UNMET, WRONG
 from xm_tools.report import MOST_TICKS
-from xm_tools.running import MOST_WORDS, Case, Setup, Words, digest_of
+from xm_tools.running import MOST_WORDS, NEVER, Case, Setup, Words, digest_of
 from xm_tools.system import Partition, System
 from xm_tools.upset_sets import BlockReader, Upset, UpsetSet, upsets_of_text
 
@@ -219,8 +219,8 @@ class CampaignReader:
             found.failed = tuple(dict.fromkeys([*top.chosen("failed", named), UNMET, FAILED]))
         found.keep = found.failed
         if top.has("keep"):
-            kept = top.chosen("keep", [*named, "met", "all", "none", "failed"])
-            found.keep = tuple(OUTCOMES) if "all" in kept else () if "none" in kept else kept
+            kept = top.chosen("keep", [*named, MET, "all", NEVER])
+            found.keep = tuple(OUTCOMES) if "all" in kept else kept
 
     def upset_table(self, table: Table) -> UpsetTable:
         if table.has("file"):

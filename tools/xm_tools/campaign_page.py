@@ -1,6 +1,7 @@
 """A page of a campaign for a browser: its outcomes in a table, by place, bit and tick, and the runs that failed."""
 
 import html
+import json
 from collections import Counter
 from collections.abc import Callable, Iterable, Sequence
 from dataclasses import dataclass, field
@@ -50,12 +51,21 @@ def place_name(key: tuple[int, int, str, int]) -> str:
     return f"P{partition} {name}"
 
 
+def choices_of(row: Row) -> list[tuple[str, str]]:
+    """What was varied in a run, and how."""
+    try:
+        return [(str(name), str(choice)) for name, choice in json.loads(row.varied)]
+    except (ValueError, TypeError, RecursionError):
+        return []
+
+
 class Shown:
     """What a page shows of the results."""
 
     def __init__(self, results: Results, is_failed: Callable[[Row], bool]) -> None:
         self.results = results
         self.by_place, self.by_bit, self.by_tick, self.by_partition = Tally(), Tally(), Tally(), Tally()
+        self.by_choice = Tally()
         self.failed: list[Row] = []
         self.failed_count = 0
         last = max((row.tick for row in results.rows("tick IS NOT NULL") if row.tick is not None), default=0)
@@ -69,6 +79,8 @@ class Shown:
             self.by_bit.add(row.bit, row.outcome)
             self.by_tick.add(row.tick // self.column * self.column, row.outcome)
             self.by_partition.add(row.partition, row.outcome)
+        for name, choice in choices_of(row):
+            self.by_choice.add((name, choice), row.outcome)
         if is_failed:
             self.failed_count += 1
             if len(self.failed) < MOST_LISTED:
@@ -112,6 +124,17 @@ def outcome_table(results: Results) -> str:
     return table(["outcome", "runs", "share", "with a health event", "means"], rows)
 
 
+def choice_table(shown: Shown) -> str:
+    """The outcomes of each choice of what was varied."""
+    keys = shown.by_choice.keys()
+    if not keys:
+        return ""
+    outcomes = [outcome for outcome in OUTCOMES if any(shown.by_choice.counts[key][outcome] for key in keys)]
+    rows = [(*key, *(shown.by_choice.counts[key][outcome] for outcome in outcomes)) for key in keys[:MOST_LISTED]]
+    more = f"<p>The first {MOST_LISTED} of {len(keys)}.</p>" if len(keys) > MOST_LISTED else ""
+    return "<h2>By what was varied</h2>\n" + table(["varied", "choice", *outcomes], rows) + more
+
+
 def others_line(results: Results) -> str:
     compared, reached, differing = results.others()
     return (
@@ -152,6 +175,6 @@ def page_of(results: Results, is_failed: Callable[[Row], bool]) -> str:
     template = Template(Path(__file__).with_name("campaign.html").read_text(encoding="utf-8"))
     return template.substitute(
         title=html.escape(f"{results.fact('name')}: {total} runs"), digests=html.escape(digests), outcomes=outcome_table(results),
-        others=html.escape(others_line(results)), figures="\n".join(figures), failed=failed_table(shown),
+        others=html.escape(others_line(results)), figures="\n".join(figures), choices=choice_table(shown), failed=failed_table(shown),
         text=html.escape(results.fact("text")),
     )  # fmt: skip

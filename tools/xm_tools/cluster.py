@@ -8,6 +8,7 @@ import hashlib
 import importlib
 import logging
 import pickle
+import signal
 import tempfile
 import warnings
 import zipfile
@@ -18,7 +19,7 @@ from pathlib import Path
 from typing import Any
 
 from xm_tools.failure import Unusable
-from xm_tools.running import Case, Common, DoneBatch, do_batch
+from xm_tools.running import Case, Common, DoneBatch, do_batch, forget
 
 # A worker is lost so often with one task before the task is taken to be the cause.
 LOSSES = 2
@@ -28,7 +29,7 @@ SECONDS, FIRST, MOST = 1.0, 4, 500
 WAITING = 3
 # After so many tasks the scheduler is asked again how many workers there are.
 ASKED = 8
-TIMEOUT = 30
+TIMEOUT = 10
 
 
 def distributed() -> Any:
@@ -52,11 +53,33 @@ def client_of(workers: int, scheduler: str | None) -> Iterator[Any]:
         return
     importlib.import_module("dask").config.set({"distributed.scheduler.allowed-failures": LOSSES})
     with tempfile.TemporaryDirectory(prefix="xm_campaign_workers-") as folder:
-        with dask.LocalCluster(
-            n_workers=workers, threads_per_worker=1, processes=True, dashboard_address=None, silence_logs=logging.CRITICAL,
-            local_directory=folder, memory_limit=0,
-        ) as cluster, dask.Client(cluster) as client:  # fmt: skip
+        with uninterrupted():
+            cluster = dask.LocalCluster(
+                n_workers=workers, threads_per_worker=1, processes=True, dashboard_address=None, silence_logs=logging.CRITICAL,
+                local_directory=folder, memory_limit=0,
+            )  # fmt: skip
+        with cluster, dask.Client(cluster) as client:
+            client.register_worker_plugin(Uninterrupted())
             yield client
+
+
+@contextlib.contextmanager
+def uninterrupted() -> Iterator[None]:
+    """Processes that are started in it ignore SIGINT: that of a terminal is for the command alone."""
+    before = signal.signal(signal.SIGINT, signal.SIG_IGN)
+    try:
+        yield
+    finally:
+        signal.signal(signal.SIGINT, before)
+
+
+class Uninterrupted:
+    """Has workers that are started later ignore it, too."""
+
+    name = "uninterrupted"
+
+    def setup(self, worker: Any) -> None:
+        signal.signal(signal.SIGINT, signal.SIG_IGN)
 
 
 @contextlib.contextmanager
@@ -114,7 +137,7 @@ class Distribution:
         self.threads = 1
         self.cases: dict[str, tuple[Case, ...]] = {}
         self.common = client.submit(unpacked, zlib.compress(pickle.dumps(common)), key=f"common-{common.name}", pure=False)
-        self.name = common.name
+        self.name, self.scratch = common.name, common.scratch
         self.finished = self.dask.as_completed(raise_errors=False)
 
     def submit(self, cases: tuple[Case, ...]) -> None:
@@ -161,6 +184,10 @@ class Distribution:
                 yield own, done
             future.release()
             self.fill(cases)
+
+    def end(self) -> None:
+        """Lets the workers forget the campaign, those that are there still."""
+        self.client.run(forget, self.name, self.scratch, on_error="ignore")
 
     def again(self, own: tuple[Case, ...]) -> None:
         """Runs of a task with which workers were lost: by halves, so that those that are no cause are done."""

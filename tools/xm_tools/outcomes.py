@@ -73,6 +73,7 @@ class Reference:
         self.report = report_of("report", left.report)
         self.unmet = unmet_of(self.report, rules)
         self.health = health_of(self.report)
+        self.lines = lines_by_owner(left.report)
 
     def verdict(self) -> Verdict:
         """That of the run itself."""
@@ -128,11 +129,10 @@ class Reference:
         own = [number for number in run.scripts if number not in struck]
         reached = tuple(number for number in own if run.scripts[number] != self.left.scripts[number])
         alike = [number for number in own if number not in reached]
-        is_plain = plain == self.left.report
+        lines = self.lines if plain == self.left.report else lines_by_owner(plain)
         differing = tuple(
             number for number in alike
-            if run.cores[number] != self.left.cores[number]
-            or not (is_plain or lines_of(plain, number) == lines_of(self.left.report, number))
+            if run.cores[number] != self.left.cores[number] or lines.get(b"P%d" % number) != self.lines.get(b"P%d" % number)
         )  # fmt: skip
         return len(alike), reached, differing
 
@@ -189,6 +189,11 @@ def first_difference(report: Report, wanted: Report) -> str:
     return "how partitions ended"
 
 
-def lines_of(report: bytes, partition: int) -> list[bytes]:
-    """The lines of a partition, that of its end, too."""
-    return re.findall(rb"^(?:\[[0-9]+\]|END) P%d .*$" % partition, report, re.M)
+def lines_by_owner(report: bytes) -> dict[bytes, list[bytes]]:
+    """The lines of each partition, that of its end, too."""
+    found: dict[bytes, list[bytes]] = {}
+    for line in report.split(b"\n"):
+        words = line.split(b" ", 2)
+        if len(words) == 3:
+            found.setdefault(words[1], []).append(line)
+    return found

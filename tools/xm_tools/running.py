@@ -6,11 +6,13 @@ needs no file of this one.
 
 import atexit
 import contextlib
+import fcntl
 import hashlib
 import os
 import shutil
 import subprocess
 import tempfile
+import threading
 import time
 from collections.abc import Iterable, Iterator, Mapping
 from dataclasses import dataclass, field
@@ -23,7 +25,7 @@ from xm_tools.outcomes import FAILED, Left, Reference, Rules, Verdict
 from xm_tools.system import System
 from xm_tools.upset_sets import Upset
 
-PREFIX = "xm_campaign"
+PREFIX, LOCK = "xm_campaign-", "lock"
 REPORT, ERRORS, UPSETS, COMMAND = "report.txt", "errors.txt", "run.upsets", "command.txt"
 SHARED_MEMORY = "/dev/shm"
 ROOM = 1 << 28
@@ -31,6 +33,8 @@ ROOM = 1 << 28
 MOST_KEPT = 1 << 16
 # As many words an input has at most.
 MOST_WORDS = 4_000_000
+# What `keep` has where no folder is to be kept.
+NEVER = "none"
 # So many runs without upsets, and files of setups, are kept for the next runs of a worker.
 MOST_REFERENCES = 4
 MOST_FILES = 256
@@ -128,12 +132,26 @@ def scratch_of(named: str | None) -> str:
     return tempfile.gettempdir()
 
 
-def remove_left_over(scratch: str) -> None:
-    """Removes the folders of workers of this machine that were killed."""
-    for folder in Path(scratch).glob(f"{PREFIX}-*-*"):
-        process = folder.name.split("-")[1]
-        if process.isdigit() and not Path(f"/proc/{process}").exists():
-            shutil.rmtree(folder, ignore_errors=True)
+class Room:
+    """A folder of its own for a worker, which is locked as long as the worker lives."""
+
+    def __init__(self, above: str) -> None:
+        remove_left_over(above)
+        self.path = Path(tempfile.mkdtemp(prefix=PREFIX, dir=above))
+        self.lock = open(self.path / LOCK, "wb")
+        fcntl.flock(self.lock, fcntl.LOCK_EX)
+
+    def remove(self) -> None:
+        shutil.rmtree(self.path, ignore_errors=True)
+        self.lock.close()
+
+
+def remove_left_over(above: str) -> None:
+    """Removes the folders of workers of this machine that were killed: those whose lock nobody holds."""
+    for lock in Path(above).glob(f"{PREFIX}*/{LOCK}"):
+        with contextlib.suppress(OSError), open(lock, "rb") as file:
+            fcntl.flock(file, fcntl.LOCK_EX | fcntl.LOCK_NB)
+            shutil.rmtree(lock.parent, ignore_errors=True)
 
 
 def beginning(setup: Setup) -> list[str]:
@@ -149,23 +167,24 @@ class Bench:
 
     def __init__(self, common: Common) -> None:
         self.common = common
-        scratch = scratch_of(common.scratch)
-        remove_left_over(scratch)
-        self.room = Path(tempfile.mkdtemp(prefix=f"{PREFIX}-{os.getpid()}-", dir=scratch))
         # The program stands on a disk: nothing may be executed in some shared memories.
-        self.home = Path(tempfile.mkdtemp(prefix=f"{PREFIX}-{os.getpid()}-"))
+        self.rooms = [Room(scratch_of(common.scratch)), Room(tempfile.gettempdir())]
         atexit.register(self.remove)
-        self.program = str(self.home / "xm_run")
+        self.room = self.rooms[0].path
+        self.program = str(self.rooms[1].path / "xm_run")
         Path(self.program).write_bytes(common.program)
         os.chmod(self.program, 0o755)
         self.references: dict[Setup, tuple[Reference | None, Done]] = {}
         self.systems: dict[str, System] = {}
+        self.judged: dict[str, Rules] = {}
         self.written: dict[str, str] = {}
+        self.buffers: dict[int, bytearray] = {}
         self.count = 0
 
     def remove(self) -> None:
-        for folder in (self.room, self.home):
-            shutil.rmtree(folder, ignore_errors=True)
+        atexit.unregister(self.remove)
+        for room in self.rooms:
+            room.remove()
 
     def path_of(self, source: Words | str) -> str:
         """The file with the content of a digest, or with generated words."""
@@ -179,6 +198,19 @@ class Bench:
             self.written[name] = str(self.room / name)
             Path(self.written[name]).write_bytes(content)
         return self.written[name]
+
+    def content(self, path: Path, wanted: bytes | None) -> bytes:
+        """The content of a file, which is mostly the one that is wanted: so it is read into room that is there already."""
+        if wanted is None:
+            return path.read_bytes()
+        if len(wanted) not in self.buffers:
+            self.buffers[len(wanted)] = bytearray(len(wanted))
+        buffer = self.buffers[len(wanted)]
+        with open(path, "rb", buffering=0) as file:
+            length = os.fstat(file.fileno()).st_size
+            if length == len(wanted) and file.readinto(buffer) == length and buffer == wanted:
+                return wanted
+        return path.read_bytes()
 
     def system(self, setup: Setup) -> System:
         if setup.container not in self.systems:
@@ -207,8 +239,11 @@ class Bench:
             return reference, self.finished(run, reference.verdict() if reference else Verdict(FAILED, why), began)
 
     def rules(self, setup: Setup) -> Rules:
-        expectations = expectations_of(self.common.expect_name, self.common.expect_text, self.system(setup))
-        return Rules(expectations, self.common.output, self.common.outcomes)
+        common = self.common
+        if setup.container not in self.judged:
+            expectations = expectations_of(common.expect_name, common.expect_text, self.system(setup))
+            self.judged[setup.container] = Rules(expectations, common.output, common.outcomes)
+        return self.judged[setup.container]
 
     @contextlib.contextmanager
     def folder(self) -> Iterator[Path]:
@@ -236,7 +271,7 @@ class Bench:
             struck = {upset.partition for upset in upsets}
             others = [number for number in reference.left.scripts if number not in struck]
             why = run.call(sorted({*struck, *others}), others)
-            verdict = Verdict(FAILED, why) if why else reference.verdict_of(run.left(), struck, upsets[-1].tick)
+            verdict = Verdict(FAILED, why) if why else reference.verdict_of(run.left(reference.left), struck, upsets[-1].tick)
             return self.finished(run, verdict, began)
 
     def do_alone(self, setup: Setup) -> Done:
@@ -252,7 +287,9 @@ class Bench:
             return self.finished(run, verdict, began)
 
     def finished(self, run: "Run", verdict: Verdict, began: float) -> Done:
-        files = run.kept(verdict) if verdict.differing or verdict.outcome in self.common.keep else {}
+        keep = self.common.keep
+        is_kept = NEVER not in keep and (bool(verdict.differing) or verdict.outcome in keep)
+        files = run.kept(verdict) if is_kept else {}
         return Done(verdict, run.seconds, time.perf_counter() - began - run.seconds, files)
 
 
@@ -285,7 +322,10 @@ class Run:
         with open(self.folder / REPORT, "wb") as out, open(self.folder / ERRORS, "wb") as errors:
             began = time.perf_counter()
             try:
-                called = subprocess.Popen(words, cwd=self.folder, stdin=subprocess.DEVNULL, stdout=out, stderr=errors)
+                # No file that Python opens is one of a process that it starts, so none has to be closed there.
+                called = subprocess.Popen(
+                    words, cwd=self.folder, stdin=subprocess.DEVNULL, stdout=out, stderr=errors, close_fds=False
+                )  # fmt: skip
                 status = called.wait()
             except OSError as error:
                 raise Unusable(f"the program cannot be called: {error}") from None
@@ -295,9 +335,10 @@ class Run:
         lines = (self.folder / ERRORS).read_text(encoding="utf-8", errors="replace").splitlines()
         return lines[0] if lines else f"the program ended with {f'status {status}' if status > 0 else f'signal {-status}'}"
 
-    def left(self) -> Left:
-        cores = {number: (self.folder / f"{number}.core").read_bytes() for number in self.cores}
-        scripts = {number: (self.folder / f"{number}.script").read_bytes() for number in self.scripts}
+    def left(self, wanted: Left = Left(b"")) -> Left:
+        """What the run left; a file that is as that of another run is given as this one's."""
+        cores = {number: self.bench.content(self.folder / f"{number}.core", wanted.cores.get(number)) for number in self.cores}
+        scripts = {number: self.bench.content(self.folder / f"{number}.script", wanted.scripts.get(number)) for number in self.scripts}
         return Left((self.folder / REPORT).read_bytes(), cores, scripts)
 
     def kept(self, verdict: Verdict) -> dict[str, bytes]:
@@ -310,17 +351,23 @@ class Run:
         return found
 
 
-# The bench of this process, by what its campaign has in common.
-BENCHES: dict[str, Bench] = {}
+# The benches of this process: one for each of its threads, by its campaign.
+BENCHES: dict[tuple[int, str], Bench] = {}
 
 
 def bench_of(common: Common) -> Bench:
-    if common.name not in BENCHES:
-        for bench in BENCHES.values():
-            bench.remove()
-        BENCHES.clear()
-        BENCHES[common.name] = Bench(common)
-    return BENCHES[common.name]
+    key = threading.get_ident(), common.name
+    if key not in BENCHES:
+        BENCHES[key] = Bench(common)
+    return BENCHES[key]
+
+
+def forget(name: str, scratch: str | None) -> None:
+    """Removes the benches of a campaign, once its runs are done, and what is left of workers that were killed."""
+    for key in [key for key in BENCHES if key[1] == name]:
+        BENCHES.pop(key).remove()
+    for above in (scratch_of(scratch), tempfile.gettempdir()):
+        remove_left_over(above)
 
 
 def do_batch(common: Common, cases: tuple[Case, ...]) -> DoneBatch:

@@ -59,7 +59,7 @@ from xm_tools.outcomes import FAILED, OUTCOMES
 from xm_tools.outcomes import UNMET as NOT_MET
 from xm_tools.program_file import program_file
 from xm_tools.results import COLUMNS, Results, Row, key_of, text_of
-from xm_tools.running import COMMAND, UPSETS, Case, Common, Done, DoneBatch, Setup, Words, beginning, digest_of
+from xm_tools.running import COMMAND, UPSETS, Case, Common, Done, DoneBatch, Setup, Words, beginning, digest_of, forget
 from xm_tools.words import words_of
 
 USAGE = (
@@ -158,13 +158,18 @@ def do_missing(call: Call, workers: int, scheduler: str | None, scratch: str | N
     from xm_tools.progress import progress
 
     done, shown = 0, call.there
-    with client_of(workers, scheduler) as client, progress(call.total, call.there) as advance:
-        distribution = Distribution(client, call.common(scratch))
-        for cases, batch in distribution.results(chained(first, missing)):
-            call.save(cases, batch)
-            done += len(cases)
-            advance(done + call.there - shown)
-            shown = done + call.there
+    common = call.common(scratch)
+    try:
+        with client_of(workers, scheduler) as client, progress(call.total, call.there) as advance:
+            distribution = Distribution(client, common)
+            for cases, batch in distribution.results(chained(first, missing)):
+                call.save(cases, batch)
+                done += len(cases)
+                advance(done + call.there - shown)
+                shown = done + call.there
+            distribution.end()
+    finally:
+        forget(common.name, scratch)
     return done, distribution.lost
 
 
@@ -206,7 +211,7 @@ def do_campaign(path: str, results_path: str, keep: str, workers: int, scheduler
     print(f"{given.name}: {done} runs in {time.monotonic() - began:.1f} s, and {call.there} were there in {results_path}")
     for line in summary(results):
         print(line)
-    failed = [row for row in results.rows() if is_failed(row, given.failed)]
+    failed = list(results.rows(f"outcome IN ({', '.join('?' * len(given.failed))}) OR differing > 0", given.failed))
     for row in failed[:5]:
         print(f"failed: run {row.run}: {row.outcome}: {row.why or row.upsets.strip()}: xm campaign --repeat {results_path} {row.run} run{row.run}")
     if len(failed) > 5:
@@ -245,9 +250,10 @@ def run(given: list[str]) -> int:
         raise words.fail()
     path = words.plain[0]
     if forms == ["--csv"]:
+        results = Results(path)
         rows = csv.writer(sys.stdout, lineterminator="\n")
         rows.writerow(COLUMNS)
-        rows.writerows([getattr(row, column) for column in COLUMNS] for row in Results(path).rows())
+        rows.writerows([getattr(row, column) for column in COLUMNS] for row in results.rows())
         return WELL
     if forms == ["--repeat"]:
         return repeat(Results(path), *words.plain[1:])
@@ -261,8 +267,8 @@ def run(given: list[str]) -> int:
     workers = words.number("--workers")
     if workers is not None and (not 1 <= workers <= MOST_WORKERS or words.has("--scheduler")):
         raise words.fail()
-    stem = Path(path).stem
+    stem, scratch = Path(path).stem, words.value("--scratch")
     return do_campaign(
         path, words.value("--results") or f"{stem}.sqlite", words.value("--keep") or f"{stem}.runs", workers or os.cpu_count() or 1,
-        words.value("--scheduler"), words.value("--scratch"),
+        words.value("--scheduler"), os.path.abspath(scratch) if scratch else None,
     )  # fmt: skip
