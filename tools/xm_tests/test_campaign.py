@@ -26,14 +26,17 @@ from conftest import SECOND, XM, Done, xm
 from xm_tools.building import Built
 from xm_tools.campaign import Campaign, read_campaign
 from xm_tools.campaign_page import place_key, place_name
+from xm_tools.cluster import Size
 from xm_tools.command import main
 from xm_tools.container import read_container
 from xm_tools.expectations import expectations_of
 from xm_tools.failure import Unusable
-from xm_tools.outcomes import Left, Reference, Rules
+from xm_tools.outcomes import Left, Reference, Rules, Verdict
+from xm_tools.program_file import program_file
 from xm_tools.progress import EVERY, Lines, time_in_words
 from xm_tools.results import Row
-from xm_tools.running import Words
+from xm_tools.running import Done as DoneRun
+from xm_tools.running import DoneBatch, Room, Words, digest_of, remove_left_over
 from xm_tools.system import Area, Partition
 from xm_tools.upset_sets import BlockReader, Upset, UpsetSet, upsets_of_text
 
@@ -456,7 +459,7 @@ def test_the_outcomes_of_a_campaign(finished: tuple[Path, Done]) -> None:
 
 def test_what_a_campaign_prints(finished: tuple[Path, Done]) -> None:
     _, done = finished
-    lines = [re.sub("in [0-9.]+ s", "in 1 s", line) for line in done.out.splitlines()]
+    lines = [re.sub("in [0-9.]+ s( by 2 workers)?", "in 1 s", line) for line in done.out.splitlines()]
     assert lines[0] == "c: 9 runs in 1 s, and 0 were there in c.sqlite"
     assert lines[1] == "same               1   11.11 %"
     assert lines[-4] == "other partitions with the same script: 6 compared, 1 differ; 1 had another script"
@@ -574,6 +577,10 @@ def test_runs_without_upsets_are_judged_by_expectations(tmp_path: Path) -> None:
     assert done.status == 1 and "failed" in done.out
     found = sorted((row["outcome"], dict(json.loads(row["varied"]))["length"]) for row in rows(tmp_path, "r.sqlite"))
     assert found == [("failed", "1000 ticks")] * 3 + [("met", "4000 ticks")] * 3
+    inputs = {row["inputs"] for row in rows(tmp_path, "r.sqlite")}
+    assert {json.loads(one)[0][1]["sha256"] for one in inputs} == {
+        digest_of((folder / "0.input").read_bytes()) for folder in (tmp_path / "kept").iterdir()
+    }  # fmt: skip
     assert xm(tmp_path, "campaign", "--report", "r.sqlite", "p.html").err == ""
     page = (tmp_path / "p.html").read_text()
     assert "<td>length</td><td>4000 ticks</td><td class=number>3</td><td class=number>0</td>" in page and "By place" not in page
@@ -668,6 +675,46 @@ def test_a_system_is_built_with_other_plans_and_images(tmp_path: Path) -> None:
     assert {setup.ticks for setup, _ in campaign.setups()} == {2 * campaign.containers[0].system.plans[0].frame}
 
 
+# What goes to workers.
+
+
+def test_a_task_has_as_many_runs_as_take_a_second() -> None:
+    """Never more than twice as many as the one before."""
+    size, found = Size(), []
+    for seconds in (0.1, 0.1, 0.1, 0.001, 0.001, 5.0):
+        size.learn(DoneBatch((DoneRun(Verdict("same"), 0.8 * seconds, 0.2 * seconds),) * size.runs, {}))
+        found.append(size.runs)
+    assert found == [8, 10, 10, 20, 40, 1]
+
+
+def test_the_program_behind_a_script(tmp_path: Path, monkeypatch: pytest.MonkeyPatch) -> None:
+    """That of a checkout by the digest that the script says; another script is the program."""
+    program, script = tmp_path / "crates/xm_run/out/xm_run", tmp_path / "xm_run"
+    program.parent.mkdir(parents=True)
+    program.write_bytes(b"\x7fELF program")
+    monkeypatch.setenv("XM_RUN", str(script))
+    for digest, found in ((digest_of(program.read_bytes()), program), ("0" * 64, script), ("none", script)):
+        script.write_text(f"#!/bin/sh\necho 'xm_run 1'\necho 'program sha256={digest}'\n")
+        script.chmod(0o755)
+        assert program_file() == str(found)
+    monkeypatch.setenv("XM_RUN", str(program))
+    program.chmod(0o755)
+    assert program_file() == str(program)
+    monkeypatch.setenv("XM_RUN", str(tmp_path / "none"))
+    with pytest.raises(Unusable):
+        program_file()
+
+
+def test_folders_of_workers_that_live_stay(tmp_path: Path) -> None:
+    """A folder is removed once nobody holds its lock."""
+    room, other = Room(str(tmp_path)), Room(str(tmp_path))
+    other.lock.close()
+    remove_left_over(str(tmp_path))
+    assert list(tmp_path.iterdir()) == [room.path]
+    room.remove()
+    assert list(tmp_path.iterdir()) == []
+
+
 # Results, the page and the progress.
 
 
@@ -715,7 +762,7 @@ def test_the_places_of_a_page() -> None:
     """Registers come before bytes, by their numbers; bytes are in rows of sixteen."""
 
     def row(place: str) -> Row:
-        return Row(1, "", "", 1, "", 1, 0, place, 0, "", "same", "", 0, 0, 0, 0, 0.0, 0.0)
+        return Row(1, "", "", 1, "", "", 1, 0, place, 0, "", "same", "", 0, 0, 0, 0, 0.0, 0.0)
 
     places = ["w10", "4010001f", "g1", "w9", "pc", "40100000", "icc"]
     assert [place_name(key) for key in sorted(map(place_key, map(row, places)))] == [

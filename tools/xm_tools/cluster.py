@@ -133,6 +133,7 @@ class Distribution:
         self.dask = distributed()
         self.size = Size()
         self.lost = 0
+        self.workers: set[str] = set()
         self.count = 0
         self.threads = 1
         self.cases: dict[str, tuple[Case, ...]] = {}
@@ -181,6 +182,7 @@ class Distribution:
             else:
                 done: DoneBatch = future.result()
                 self.size.learn(done)
+                self.workers.add(done.worker)
                 yield own, done
             future.release()
             self.fill(cases)

@@ -1,6 +1,7 @@
 """The results of campaigns: one SQLite file with a row for each run, which has all that repeats it but the program."""
 
 import contextlib
+import functools
 import json
 import re
 import sqlite3
@@ -31,9 +32,9 @@ CURRENT = "FROM runs JOIN setups ON setups.id = setup WHERE current"
 ODD = "not what `xm campaign` writes"
 MOST_BYTES = 1 << 26
 PLACE = re.compile("[0-9a-f]{8}|[gw][0-9]{1,3}|[a-z]{1,8}")
-KINDS: tuple[Any, ...] = (int, str, str, int, str, int | None, int | None, str | None, int | None, str, str, str, int, int, int, int, float, float)
+KINDS: tuple[Any, ...] = (int, str, str, int, str, str, int | None, int | None, str | None, int | None, str, str, str, int, int, int, int, float, float)
 COLUMNS = [
-    "run", "program", "container", "ticks", "varied", "tick", "partition", "place", "bit", "upsets", "outcome", "why", "detected",
+    "run", "program", "container", "ticks", "inputs", "varied", "tick", "partition", "place", "bit", "upsets", "outcome", "why", "detected",
     "compared", "reached", "differing", "seconds", "beyond",
 ]  # fmt: skip
 
@@ -49,6 +50,7 @@ class Row:
     program: str
     container: str
     ticks: int
+    inputs: str
     varied: str
     tick: int | None
     partition: int | None
@@ -65,8 +67,14 @@ class Row:
     beyond: float
 
 
+@functools.lru_cache(maxsize=16)
 def inputs_text(setup: Setup) -> str:
-    return json.dumps([[number, source if isinstance(source, str) else asdict(source)] for number, source in setup.inputs])
+    """The inputs by the numbers of their partitions: the digest of a file, and how words are generated, with their digest."""
+    found: list[Any] = []
+    for number, source in setup.inputs:
+        words = {} if isinstance(source, str) else {**asdict(source), "sha256": digest_of(source.content())}
+        found.append([number, words or source])
+    return json.dumps(found)
 
 
 def key_of(setup: Setup, program: str, rules: str) -> str:
@@ -77,7 +85,9 @@ def key_of(setup: Setup, program: str, rules: str) -> str:
 def setup_of(container: str, ticks: int, inputs: str, labels: str) -> Setup:
     found: list[tuple[int, Words | str]] = []
     for number, source in json.loads(inputs):
-        found.append((int(number), source if isinstance(source, str) else Words(**source)))
+        if not isinstance(source, str):
+            source = Words(**{name: value for name, value in source.items() if name != "sha256"})
+        found.append((int(number), source))
     return Setup(container, ticks, tuple(found), tuple((str(name), str(value)) for name, value in json.loads(labels)))
 
 
@@ -198,11 +208,11 @@ class Results:
     # What is read.
 
     def rows(self, condition: str = "1", values: Sequence[Any] = ()) -> Iterator[Row]:
-        words = f"""SELECT runs.id, program, container, ticks, labels, tick, partition, place, bit, upsets, outcome, why, detected,
+        words = f"""SELECT runs.id, program, container, ticks, inputs, labels, tick, partition, place, bit, upsets, outcome, why, detected,
             compared, reached, differing, seconds, beyond FROM runs JOIN setups ON setups.id = setup WHERE current AND ({condition}) ORDER BY runs.id"""
         try:
             for found in self.base.execute(words, values):
-                if not all(isinstance(value, kind) for value, kind in zip(found, KINDS)) or not PLACE.fullmatch(found[7] or "y"):
+                if not all(isinstance(value, kind) for value, kind in zip(found, KINDS)) or not PLACE.fullmatch(found[8] or "y"):
                     raise self.fail(ODD)
                 yield Row(*found)
         except sqlite3.Error as error:
@@ -218,7 +228,7 @@ class Results:
         container, ticks, inputs, labels, upsets, program = found[0]
         try:
             setup = setup_of(container, int(ticks), inputs, labels)
-        except (ValueError, TypeError, RecursionError):
+        except (ValueError, TypeError, AttributeError, RecursionError):
             raise self.fail(ODD) from None
         if not all(isinstance(source, str) or source.is_well() for _, source in setup.inputs):
             raise self.fail(ODD)

@@ -10,6 +10,7 @@ import fcntl
 import hashlib
 import os
 import shutil
+import socket
 import subprocess
 import tempfile
 import threading
@@ -113,10 +114,11 @@ class Case:
 
 @dataclass(frozen=True)
 class DoneBatch:
-    """How the runs of a batch ended, and the digests of the reports without upsets that were needed."""
+    """How the runs of a batch ended, the digests of the reports without upsets that were needed, and which worker it was."""
 
     done: tuple[Done, ...]
     reports: Mapping[Setup, str]
+    worker: str = ""
 
 
 def digest_of(content: bytes) -> str:
@@ -379,4 +381,4 @@ def do_batch(common: Common, cases: tuple[Case, ...]) -> DoneBatch:
         reference = bench.reference(case.setup)[0] if case.compares else None
         if reference and case.setup not in reports:
             reports[case.setup] = digest_of(reference.left.report)
-    return DoneBatch(tuple(done), reports)
+    return DoneBatch(tuple(done), reports, f"{socket.gethostname()}:{os.getpid()}")

@@ -148,12 +148,12 @@ def repeating(files: dict[str, bytes], setup: Setup, upsets: str, folder: str) -
     return words
 
 
-def do_missing(call: Call, workers: int, scheduler: str | None, scratch: str | None) -> tuple[int, int]:
-    """Does the runs that are not there, and gives how many were done and how many were lost with their workers."""
+def do_missing(call: Call, workers: int, scheduler: str | None, scratch: str | None) -> tuple[int, int, int]:
+    """Does the runs that are not there: how many were done, by how many workers, and how many were lost with theirs."""
     missing = call.missing()
     first = next(missing, None)
     if first is None:
-        return 0, 0
+        return 0, 0, 0
     from xm_tools.cluster import Distribution, client_of
     from xm_tools.progress import progress
 
@@ -170,7 +170,7 @@ def do_missing(call: Call, workers: int, scheduler: str | None, scratch: str | N
             distribution.end()
     finally:
         forget(common.name, scratch)
-    return done, distribution.lost
+    return done, len(distribution.workers), distribution.lost
 
 
 def chained(first: Case, others: Iterator[Case]) -> Iterator[Case]:
@@ -207,8 +207,9 @@ def do_campaign(path: str, results_path: str, keep: str, workers: int, scheduler
     results.put_facts({"failed": " ".join(given.failed)})
     results.put_files(call.campaign.files)
     began = time.monotonic()
-    done, lost = do_missing(call, workers, scheduler, scratch)
-    print(f"{given.name}: {done} runs in {time.monotonic() - began:.1f} s, and {call.there} were there in {results_path}")
+    done, took_part, lost = do_missing(call, workers, scheduler, scratch)
+    by = f" by {took_part} workers" if took_part > 1 else ""
+    print(f"{given.name}: {done} runs in {time.monotonic() - began:.1f} s{by}, and {call.there} were there in {results_path}")
     for line in summary(results):
         print(line)
     failed = list(results.rows(f"outcome IN ({', '.join('?' * len(given.failed))}) OR differing > 0", given.failed))
