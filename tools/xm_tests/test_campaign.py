@@ -16,6 +16,7 @@ import socket
 import sqlite3
 import subprocess
 import time
+from collections.abc import Callable
 from pathlib import Path
 
 import pytest
@@ -36,7 +37,7 @@ from xm_tools.program_file import program_file
 from xm_tools.progress import EVERY, Lines, time_in_words
 from xm_tools.results import Row
 from xm_tools.running import Done as DoneRun
-from xm_tools.running import DoneBatch, Room, Words, digest_of, remove_left_over
+from xm_tools.running import Common, DoneBatch, Room, Words, digest_of, do_batch, remove_left_over, tools_files
 from xm_tools.system import Area, Partition
 from xm_tools.upset_sets import BlockReader, Upset, UpsetSet, upsets_of_text
 
@@ -675,7 +676,124 @@ def test_a_system_is_built_with_other_plans_and_images(tmp_path: Path) -> None:
     assert {setup.ticks for setup, _ in campaign.setups()} == {2 * campaign.containers[0].system.plans[0].frame}
 
 
-# What goes to workers.
+# What goes to workers, without processes of their own: a client that does each task at once, in this one.
+
+
+class Lost(Exception):
+    """Stands for a task that is given up after its workers were lost."""
+
+
+class Future:
+    def __init__(self, key: str, status: str, value: object) -> None:
+        self.key, self.status, self.value = key, status, value
+
+    def result(self) -> object:
+        return self.value
+
+    exception = result
+
+    def release(self) -> None:
+        pass
+
+
+class FakeClient:
+    """A client, and the module that it comes from. Tasks that have a run of a place in `killing` lose their workers."""
+
+    KilledWorker = Lost
+
+    def __init__(self, killing: set[str]) -> None:
+        self.killing, self.futures = killing, list[Future]()
+        self.tasks: list[int] = []
+
+    def submit(self, task: Callable[..., object], *given: object, key: str, pure: bool) -> Future:
+        given = tuple(one.result() if isinstance(one, Future) else one for one in given)
+        cases = given[1] if task is do_batch else ()
+        if any(upset.place in self.killing for case in cases for upset in case.upsets):  # type: ignore[attr-defined]
+            return Future(key, "error", Lost())
+        self.tasks.append(len(cases))  # type: ignore[arg-type]
+        return Future(key, "finished", task(*given))
+
+    def as_completed(self, raise_errors: bool) -> "FakeClient":
+        return self
+
+    def add(self, future: Future) -> None:
+        self.futures.append(future)
+
+    def __next__(self) -> Future:
+        return self.futures.pop(0)
+
+    def nthreads(self) -> dict[str, int]:
+        return {"one": 1}
+
+    def run(self, function: Callable[..., object], *given: object, on_error: str) -> None:
+        function(*given)
+
+
+def here(folder: Path, monkeypatch: pytest.MonkeyPatch, *words: str, killing: set[str] = set()) -> tuple[int, FakeClient]:
+    """Does the campaign of a folder in this process."""
+    client = FakeClient(killing)
+    monkeypatch.setattr("xm_tools.cluster.distributed", lambda: client)
+    monkeypatch.setattr("xm_tools.cluster.client_of", lambda workers, scheduler: contextlib.nullcontext(client))
+    monkeypatch.setenv("XM_RUN", str(folder / "program"))
+    monkeypatch.chdir(folder)
+    return main(["campaign", "c.toml", *words]), client
+
+
+def table_of(folder: Path) -> dict[str, str]:
+    base = sqlite3.connect(folder / "c.sqlite")
+    return {place or "": outcome for place, outcome in base.execute("SELECT place, outcome FROM runs")}
+
+
+def test_a_campaign_in_one_process(tmp_path: Path, monkeypatch: pytest.MonkeyPatch, capsys: pytest.CaptureFixture[str]) -> None:
+    """As by workers; what is there is not repeated, and the folders of runs that failed are kept."""
+    set_up(tmp_path, text_for(list(TRUTH)))
+    (tmp_path / "scratch").mkdir()
+    assert here(tmp_path, monkeypatch, "--scratch", "scratch")[0] == 1
+    assert table_of(tmp_path) == {**TRUTH, "": "met"}
+    assert capsys.readouterr().out.splitlines()[-4] == "other partitions with the same script: 6 compared, 1 differ; 1 had another script"
+    assert list((tmp_path / "scratch").iterdir()) == [] and len(list((tmp_path / "c.runs").iterdir())) == 2
+    before = len(calls(tmp_path))
+    assert here(tmp_path, monkeypatch)[0] == 1
+    assert ", and 8 were there in c.sqlite\n" in capsys.readouterr().out
+    assert calls(tmp_path)[before:] == ["", "100 0 g7 3"]
+    set_up(tmp_path, text_for(["g1", "g2", "w5"], 'failed = "masked"\nkeep = "none"'))
+    assert here(tmp_path, monkeypatch)[0] == 1
+    assert "c: 1 runs in " in capsys.readouterr().out
+    assert here(tmp_path, monkeypatch, "--results", "new.sqlite", "--keep", "none")[0] == 1 and not (tmp_path / "none").exists()
+
+
+def test_a_task_whose_worker_is_lost_is_done_by_halves(
+    tmp_path: Path, monkeypatch: pytest.MonkeyPatch, capsys: pytest.CaptureFixture[str]
+) -> None:
+    """Only the run that loses it is not done; the next call does it."""
+    set_up(tmp_path, text_for(["g1", "g2", "w2", "w4-w9"]))
+    assert here(tmp_path, monkeypatch, killing={"w2"})[0] == 2
+    lines = PROGRESS.sub("", capsys.readouterr().err)
+    assert lines == "xm: 1 runs were lost with their workers: the same command does them again\n"
+    assert len(table_of(tmp_path)) == 9 and "w2" not in table_of(tmp_path)
+    (tmp_path / "program").write_text((tmp_path / "program").read_text().replace("w2) kill", "none) kill"))
+    assert here(tmp_path, monkeypatch)[0] == 0
+    assert len(table_of(tmp_path)) == 10
+
+
+def test_workers_that_find_different_reports(tmp_path: Path, monkeypatch: pytest.MonkeyPatch, capsys: pytest.CaptureFixture[str]) -> None:
+    """The run without upsets has to have the report that it had before."""
+    set_up(tmp_path, text_for(["g1"]))
+    assert here(tmp_path, monkeypatch)[0] == 0
+    base = sqlite3.connect(tmp_path / "c.sqlite")
+    base.execute("UPDATE setups SET report = 'another'")
+    base.commit()
+    base.close()
+    set_up(tmp_path, text_for(["g1", "w5"]))
+    assert here(tmp_path, monkeypatch)[0] == 2
+    assert "another report than before, by the same program" in capsys.readouterr().err
+    assert len(table_of(tmp_path)) == 2
+
+
+def test_other_tools_of_a_worker(tmp_path: Path) -> None:
+    with pytest.raises(Unusable, match="other tools"):
+        do_batch(Common("x", b"", {}, tools="0" * 64), ())
+    assert set(tools_files()) >= {"running.py", "reference.json", "commands/campaign.py", "page.html"}
 
 
 def test_a_task_has_as_many_runs_as_take_a_second() -> None:

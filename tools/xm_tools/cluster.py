@@ -4,7 +4,6 @@ Dask does a task of a worker that is lost again, by another one, and starts a wo
 """
 
 import contextlib
-import hashlib
 import importlib
 import logging
 import pickle
@@ -19,7 +18,7 @@ from pathlib import Path
 from typing import Any
 
 from xm_tools.failure import Unusable
-from xm_tools.running import Case, Common, DoneBatch, do_batch, forget
+from xm_tools.running import Case, Common, DoneBatch, do_batch, forget, tools_digest, tools_files
 
 # A worker is lost so often with one task before the task is taken to be the cause.
 LOSSES = 2
@@ -54,13 +53,20 @@ def client_of(workers: int, scheduler: str | None) -> Iterator[Any]:
     importlib.import_module("dask").config.set({"distributed.scheduler.allowed-failures": LOSSES})
     with tempfile.TemporaryDirectory(prefix="xm_campaign_workers-") as folder:
         with uninterrupted():
-            cluster = dask.LocalCluster(
-                n_workers=workers, threads_per_worker=1, processes=True, dashboard_address=None, silence_logs=logging.CRITICAL,
-                local_directory=folder, memory_limit=0,
-            )  # fmt: skip
+            cluster = local_cluster(dask, workers, folder)
         with cluster, dask.Client(cluster) as client:
             client.register_worker_plugin(Uninterrupted())
             yield client
+
+
+def local_cluster(dask: Any, workers: int, folder: str) -> Any:
+    try:
+        return dask.LocalCluster(
+            n_workers=workers, threads_per_worker=1, processes=True, dashboard_address=None, silence_logs=logging.CRITICAL,
+            local_directory=folder, memory_limit=0,
+        )  # fmt: skip
+    except (OSError, RuntimeError) as error:
+        raise Unusable(f"the workers do not start: {error or type(error).__name__}") from None
 
 
 @contextlib.contextmanager
@@ -96,13 +102,10 @@ def client_at(dask: Any, scheduler: str) -> Iterator[Any]:
 
 def tools_in(folder: str) -> str:
     """A file with this package, as Python imports it."""
-    here = Path(__file__).parent
-    files = sorted(path for path in here.rglob("*") if path.suffix in (".py", ".json", ".html"))
-    digest = hashlib.sha256(b"".join(path.read_bytes() for path in files)).hexdigest()[:12]
-    found = str(Path(folder) / f"xm_tools_{digest}.zip")
+    found = str(Path(folder) / f"xm_tools_{tools_digest()[:12]}.zip")
     with zipfile.ZipFile(found, "w", zipfile.ZIP_DEFLATED) as packed:
-        for path in files:
-            packed.write(path, str(Path(here.name) / path.relative_to(here)))
+        for name, content in tools_files().items():
+            packed.writestr(f"xm_tools/{name}", content)
     return found
 
 

@@ -7,6 +7,7 @@ needs no file of this one.
 import atexit
 import contextlib
 import fcntl
+import functools
 import hashlib
 import os
 import shutil
@@ -17,6 +18,7 @@ import threading
 import time
 from collections.abc import Iterable, Iterator, Mapping
 from dataclasses import dataclass, field
+from importlib import resources
 from pathlib import Path
 
 from xm_tools.container import read_container
@@ -79,7 +81,10 @@ class Setup:
 
 @dataclass(frozen=True)
 class Common:
-    """What all runs of a campaign have in common. Files are by their digests; `keep` are the outcomes whose folders are kept."""
+    """What all runs of a campaign have in common. Files are by their digests; `keep` are the outcomes whose folders are kept.
+
+    `tools` is the digest of the tools that the command has, and that its workers have to have.
+    """
 
     name: str
     program: bytes
@@ -91,6 +96,7 @@ class Common:
     has_others: bool = True
     keep: tuple[str, ...] = ()
     scratch: str | None = None
+    tools: str = ""
 
 
 @dataclass(frozen=True)
@@ -119,6 +125,25 @@ class DoneBatch:
     done: tuple[Done, ...]
     reports: Mapping[Setup, str]
     worker: str = ""
+
+
+def tools_files() -> dict[str, bytes]:
+    """The files of this package, as they are imported, by their names below the package."""
+    found = {}
+    folders = [("", resources.files(__package__))]
+    while folders:
+        above, folder = folders.pop()
+        for entry in folder.iterdir():
+            if entry.is_dir() and entry.name != "__pycache__":
+                folders.append((f"{above}{entry.name}/", entry))
+            elif entry.name.endswith((".py", ".json", ".html")):
+                found[f"{above}{entry.name}"] = entry.read_bytes()
+    return dict(sorted(found.items()))
+
+
+@functools.cache
+def tools_digest() -> str:
+    return digest_of(b"".join(name.encode() + content for name, content in tools_files().items()))
 
 
 def digest_of(content: bytes) -> str:
@@ -374,6 +399,8 @@ def forget(name: str, scratch: str | None) -> None:
 
 def do_batch(common: Common, cases: tuple[Case, ...]) -> DoneBatch:
     """Does some runs in this process."""
+    if common.tools != tools_digest():
+        raise Unusable("a worker has other tools than this command: start the workers again")
     bench = bench_of(common)
     done, reports = [], {}
     for case in cases:

@@ -59,7 +59,7 @@ from xm_tools.outcomes import FAILED, OUTCOMES
 from xm_tools.outcomes import UNMET as NOT_MET
 from xm_tools.program_file import program_file
 from xm_tools.results import COLUMNS, Results, Row, key_of, text_of
-from xm_tools.running import COMMAND, UPSETS, Case, Common, Done, DoneBatch, Setup, Words, beginning, digest_of, forget
+from xm_tools.running import COMMAND, UPSETS, Case, Common, Done, DoneBatch, Setup, Words, beginning, digest_of, forget, tools_digest
 from xm_tools.words import words_of
 
 USAGE = (
@@ -91,7 +91,7 @@ class Call:
         campaign, given = self.campaign, self.given
         return Common(
             uuid.uuid4().hex, self.program_content, campaign.files, given.expect or "", campaign.expect, campaign.output, given.outcomes,
-            given.has_others, given.keep, scratch,
+            given.has_others, given.keep, scratch, tools_digest(),
         )  # fmt: skip
 
     def key(self, setup: Setup) -> str:
