@@ -71,7 +71,14 @@ def root(tmp_path: Path) -> Path:
     kit.parent.mkdir()
     kit.write_text("#!/bin/sh\necho kit-1 logic dac8208d\n", encoding="utf-8")
     kit.chmod(0o755)
+    set_program(root, "proved 2026-11-30T12:00:00Z")
     return root
+
+
+def set_program(root: Path, proof: str) -> None:
+    """What the program says of itself."""
+    (root / "xm_run").write_text(f"#!/bin/sh\necho xm_run 0.2.0\necho {proof}\n", encoding="utf-8")
+    (root / "xm_run").chmod(0o755)
 
 
 def set_gate(root: Path, text: str, status: int) -> None:
@@ -139,6 +146,14 @@ def test_wrong_body_has_the_function_and_the_clause_that_refused_it(root: Path, 
     }
 
 
+def test_goal_of_a_function_with_one_clause_is_that_clause(root: Path, call: Call) -> None:
+    (root / "crates/boxes/src/put.rt").write_text(FILES["crates/boxes/src/put.rt"].replace("    ensures small { result < 9 }\n", ""), encoding="utf-8")
+    set_gate(root, GATE.replace("src/put.rt:9:5: it is not proved", "src/put.rt:8:5: it is not proved").replace("returns-clause-put", "returns"), 0)
+    call()
+    body = read(root)["wrong_bodies"]["boxes/nothing_is_put"]
+    assert (body["function"], body["goal"], body["clause"]) == ("put", "returns", "put")
+
+
 def test_cases_hold_where_both_builds_of_their_program_ran(root: Path, call: Call) -> None:
     call()
     assert {name: case["holds"] for name, case in read(root)["cases"].items()} == {
@@ -165,6 +180,61 @@ def test_what_a_passed_gate_did_not_show_is_named(root: Path, call: Call, line: 
     done = call()
     assert done.returncode == 1
     assert says in done.stderr
+
+
+@pytest.mark.parametrize("proof", ["not proved", ""])
+def test_program_that_is_not_proved_is_no_evidence(root: Path, call: Call, tmp_path: Path, proof: str) -> None:
+    if proof:
+        set_program(root, proof)
+    else:
+        (root / "xm_run").unlink()
+    says = "evidence: the program is not proved: call ./xm_run --prove, and then this again\n"
+    (tmp_path / "log").write_text(GATE, encoding="utf-8")
+    for done in (call(), call("--of", tmp_path / "log")):
+        assert done.returncode == 1
+        assert done.stderr.endswith(says)
+
+
+def test_refusals_that_no_clause_made_are_counted_apart(root: Path, call: Call) -> None:
+    assert "evidence: wrong bodies: 2 refused\n" in call().stderr
+    by_limit = "refused, as it must be (only by a limit of the prover, which gave no verdict, so this says less of the contract: choose a change that it refuses sooner): src/put.rt:9:5: error: x"
+    set_gate(root, GATE.replace("refused, as it must be: note: src/put.rt:9:5", f"{by_limit} src/put.rt:9:5"), 0)
+    done = call()
+    assert done.returncode == 0
+    assert "evidence: wrong bodies: 1 refused, 1 refused by a limit\n" in done.stderr
+    assert "evidence: wrong body boxes/nothing_is_put: refused by a limit, which shows nothing of the clause\n" in done.stderr
+    assert read(root)["verdicts"] == {"refused": 1, "refused by a limit": 1}
+
+
+PART = """== boxes
+logic=proved functions=2 sum=dac8208d native=nat logic-built=trusted
+rt: boxes proved
+rt: rooms is kept: an earlier run on this machine proved the same files over the same libraries
+rt: must-fail boxes/a_law_is_wrong.edit: refused, as it must be: proofs/laws/adds/Answers.antt:7:3: error: `returns-clause-law` is not proved
+rt: must-fail boxes/nothing_is_put.edit: refused, as it must be: note: src/put.rt:9:5: it is not proved (`returns-clause-put`)
+rt: rooms and the crates below passed, and that is kept. This is not the gate: run rt ci with no names
+4 passed, 0 failed (rooms and the crates below alone: not the gate)
+"""
+
+
+def test_part_of_the_gate_has_the_named_crates_and_those_below(root: Path, call: Call, tmp_path: Path) -> None:
+    kit = root.parent / "bin/rt"
+    (root / "printed").write_text(PART, encoding="utf-8")
+    kit.write_text('#!/bin/sh\n[ "$1" = version ] && echo kit-1 || { echo "$@" >words; cat printed; }\n', encoding="utf-8")
+    set_program(root, "not proved")
+    done = call("rooms")
+    assert (done.returncode, done.stdout) == (0, PART)
+    assert (root / "words").read_text(encoding="utf-8") == "ci rooms\n"
+    found = read(root)
+    assert (found["part"], list(found["crates"]), list(found["programs"]), found["cases"], found["program"]) == (["rooms"], ["boxes", "rooms"], [], {}, [])
+    assert found["gate"]["command"] == "rt ci rooms"
+    (tmp_path / "log").write_text(PART, encoding="utf-8")
+    assert call("--of", tmp_path / "log", "--out", tmp_path / "kept").returncode == 0
+    kept = json.loads((tmp_path / "kept/evidence.json").read_text(encoding="utf-8"))
+    assert (kept["part"], kept["crates"].keys()) == (["rooms"], found["crates"].keys())
+    assert call("--anew", "boxes").returncode == 0
+    assert (root / "words").read_text(encoding="utf-8") == "ci --anew boxes\n"
+    assert "evidence: there is no crate stairs\n" in call("stairs").stderr
 
 
 def test_verdicts_of_wrong_bodies(root: Path, call: Call) -> None:
@@ -222,6 +292,8 @@ def test_what_changed_is_named(root: Path, call: Call, tmp_path: Path, name: str
 def test_other_words_and_files_that_are_not_there(call: Call, tmp_path: Path) -> None:
     assert call("--twice").returncode == 64
     assert call("--anew", "--of", tmp_path / "none").returncode == 64
+    assert call("--of", tmp_path / "none", "boxes").returncode == 64
+    assert call("stairs").returncode == 64
     assert call("--of", tmp_path / "none").returncode == 74
     assert call("--compare", tmp_path / "none", tmp_path / "none").returncode == 74
     assert call("--help").returncode == 0
