@@ -16,10 +16,11 @@ A requirement is a table of docs/requirements.toml, named by its id:
     cases        "FILE.toml: GROUP" or "FILE.toml: GROUP: CASE" of crates/case_suite/data; "PROGRAM: LINE" of what another program of
                  the gate has to print, or "PROGRAM: status N"; "CRATE::TEST", a test of a library; these three kinds run in the gate.
                  "FILE.py: TEST", a test by pytest, and "bench/SCRIPT: ROW", a row of docs/RELIABILITY.md, run outside of it
+    untried      why no case shows it, where none does
     wrong        "CRATE/EDIT": a wrong body or a wrong definition that the gate has to refuse
 
-It is wrong if a requirement has neither a clause nor a case, if something that it cites is not there, if its section does not
-cite its id, if a page cites an id that there is none of, or if a clause of a public call of the crates of TOP is cited by none.
+It is wrong if a requirement has neither a clause nor a case, if it has no case and no reason for that, or both, if something that
+it cites is not there, if its section does not cite its id, if a page cites an id that there is none of, or if a clause of a public call of the crates of TOP is cited by none.
 """
 from __future__ import annotations
 
@@ -46,7 +47,7 @@ TOP = [
 # The program that does the cases of crates/case_suite/data.
 DATA = "crates/case_suite/data"
 OUTSIDE = "bench/"
-FIELDS = {"says", "stands", "definitions", "clauses", "cases", "wrong"}
+FIELDS = {"says", "stands", "definitions", "clauses", "cases", "untried", "wrong"}
 ID = re.compile(r"\bXR-[A-Z]+-\d{3}\b")
 CITED = re.compile(r"\b(XR-[A-Z]+-)(\d{3})\b(?:\s+(?:to|and)\s+(?:XR-[A-Z]+-)?(\d{3})\b)?")
 HEADING = re.compile(r"^(#{1,6}) (.*)$")
@@ -69,6 +70,7 @@ class Requirement:
     clauses: list[str] = field(default_factory=list)
     cases: list[str] = field(default_factory=list)
     wrong: list[str] = field(default_factory=list)
+    untried: str = ""
 
     @property
     def page(self) -> str:
@@ -86,7 +88,11 @@ def requirements(root: Path) -> list[Requirement]:
             name,
             str(row.get("says", "")),
             str(row.get("stands", "")),
-            *(words_of(row, each) for each in ("definitions", "clauses", "cases", "wrong")),
+            definitions=words_of(row, "definitions"),
+            clauses=words_of(row, "clauses"),
+            cases=words_of(row, "cases"),
+            wrong=words_of(row, "wrong"),
+            untried=str(row.get("untried", "")),
         )
         for name, row in table.items()
         if isinstance(row, dict)
@@ -281,6 +287,8 @@ class Trace:
                 yield f"{row.id} is no sentence"
             if not row.clauses and not row.cases:
                 yield f"{row.id} has neither a clause nor a case"
+            if bool(row.cases) == bool(row.untried):
+                yield f"{row.id} has {'a case, and a reason why it has none' if row.cases else 'no case, and no reason for that'}"
             for name, cited, is_there in (
                 ("definition", row.definitions, self.has_definition),
                 ("clause", row.clauses, lambda each: self.label_of(each) is not None),
@@ -340,7 +348,7 @@ class Trace:
             f"**{row.id}** {promises.cell(row.says)}",
             listed(grouped(row.definitions, 2)),
             listed(grouped(row.clauses, 1)),
-            listed([code(each) if self.is_in_gate(each) else f"{code(each)}, outside the gate" for each in row.cases]),
+            listed([code(each) if self.is_in_gate(each) else f"{code(each)}, outside the gate" for each in row.cases] or [f"none: {promises.cell(row.untried)}"]),
             listed([code(each) for each in row.wrong]),
         ]
         return f"| {' | '.join(cells)} |"
@@ -358,8 +366,23 @@ class Trace:
             f"{len(rows)} requirements: {len(proved)} have a clause, {len(tried)} a case, {len(both)} both. They cite {len(cited)} clauses and "
             f"{len(wrong)} of the {len(self.edits)} wrong bodies. The gate refuses the others, too: {listed([code(each) for each in sorted(self.edits - wrong)])}.",
             "",
-            f"No clause, shown by cases alone: {ranges(only) or 'none'}. Of these no case runs in the gate: {ranges(outside) or 'none'}.",
+            f"No clause, shown by cases alone: {ranges(only) or 'none'}. Of these no case runs in the gate: {ranges(outside) or 'none'}; they are shown "
+            f"by {listed([code(each) for each in self.shown_by(outside)])}.",
+            "",
+            f"No case, and why: {'; '.join(f'{ranges(ids)} ({promises.cell(why)})' for why, ids in self.untried().items()) or 'none'}.",
         ]
+
+    def untried(self) -> dict[str, list[str]]:
+        """The requirements without a case, by the reason why they have none."""
+        found: dict[str, list[str]] = {}
+        for row in self.rows:
+            if not row.cases:
+                found.setdefault(row.untried, []).append(row.id)
+        return found
+
+    def shown_by(self, ids: list[str]) -> list[str]:
+        """The scripts outside the gate that show these requirements."""
+        return sorted({each.partition(": ")[0] for row in self.rows if row.id in ids for each in row.cases})
 
 
 HEAD = """# Trace
@@ -375,6 +398,7 @@ stands in the section of the page that its heading links to, which cites its id.
 - A case is one of `crates/case_suite/data` by its file, its group and, where one is meant, what it shows; or a line that another
   program of the gate has to print; or a test.
 - A wrong body is `crates/CRATE/must-fail/NAME.edit`.
+- A number that is left out is not used.
 """
 
 

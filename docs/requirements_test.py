@@ -131,6 +131,8 @@ def test_a_table_whose_rows_are_all_there_has_no_fault(root: Path) -> None:
         ("A number is small.", "small", "XR-PUT-002 is no sentence"),
         ('"xm_commands put put", ', '"xm_commands put put", "xm_commands put put", ', "XR-PUT-001 cites clause xm_commands put put twice"),
         ("docs/MANUAL.md#put-number", "docs/MANUAL.md#take", "XR-PUT-001: there is no section docs/MANUAL.md#take"),
+        ('cases = ["numbers.toml: numbers", "suite: words.txt: arith", "suite: status 2"]\n', "", "XR-PUT-002 has no case, and no reason for that"),
+        ("wrong =", 'untried = "why"\nwrong =', "XR-PUT-001 has a case, and a reason why it has none"),
         ("wrong =", "edits =", "XR-PUT-001: unknown: edits"),
         ("[XR-PUT-002]", "[PUT-2]", "PUT-2 is no id of a requirement"),
     ],
@@ -157,6 +159,21 @@ def test_the_page_is_written_and_compared(root: Path) -> None:
     page = (root / "docs/TRACE.md").read_text(encoding="utf-8")
     assert "**XR-PUT-001** A number is put. | `xm_commands Boxes.antt` `HasPut` | `xm_commands` `put put`, `put put.same` |" in page
     assert "[put NUMBER](MANUAL.md#put-number)" in page
+
+
+def test_a_requirement_without_a_case_says_why(root: Path) -> None:
+    change(root, "docs/requirements.toml", 'cases = ["numbers.toml: numbers", "suite: words.txt: arith", "suite: status 2"]', 'untried = "no command puts it"')
+    assert faults(root) == []
+    page = traced.Trace(root).text()
+    assert "No case, and why: XR-PUT-002 (no command puts it)." in page
+    assert "| none: no command puts it |" in page
+
+
+def test_scripts_outside_the_gate_are_named(root: Path) -> None:
+    change(root, "docs/requirements.toml", 'clauses = ["xm_commands put small"]\n', "")
+    change(root, "docs/requirements.toml", '"numbers.toml: numbers", "suite: words.txt: arith", "suite: status 2"', '"tools/put_test.py: test_put"')
+    page = traced.Trace(root).text()
+    assert "Of these no case runs in the gate: XR-PUT-002; they are shown by `tools/put_test.py`." in page
 
 
 def test_ids_are_cited_in_ranges() -> None:

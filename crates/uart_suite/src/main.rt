@@ -66,7 +66,7 @@ struct Row {
 }
 
 // The rows whose UARTs may fail.
-const ROWS: [Row; 12] = [
+const ROWS: [Row; 13] = [
     Row {
         shows: "a raw image on UART 0",
         calls: &["bare hi.bin 100"],
@@ -148,6 +148,13 @@ const ROWS: [Row; 12] = [
         shows: "two runs on a board, whose UART 1 fails in the first",
         calls: &["run pair.xmp --ticks 20", "run pair.xmp --ticks 20"],
         fails: [Some(&[]), Some(&[1])],
+        keep: 0,
+        cuts: &[],
+    },
+    Row {
+        shows: "a replay by the script that a run wrote",
+        calls: &["run pair.xmp --ticks 20 --script 1=s", "alone pair.xmp 1 s"],
+        fails: [Some(&[]), Some(&[])],
         keep: 0,
         cuts: &[],
     },
