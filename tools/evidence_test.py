@@ -206,6 +206,58 @@ def test_refusals_that_no_clause_made_are_counted_apart(root: Path, call: Call) 
     assert read(root)["verdicts"] == {"refused": 1, "refused by a limit": 1}
 
 
+# What `rt ci guest_bus` printed, word for word, where its proof was kept and its wrong bodies were tried.
+REAL = """rt: guest_bus is kept: an earlier run on this machine proved the same files over the same libraries
+rt: guest_bus: trying its must-fail edits (2)
+rt: must-fail guest_bus/a_double_word_has_four_bytes.edit: refused, as it must be: note: src/bus.rt:29:5: it is not proved that what the function ensures holds when it returns (`returns-in-Eight`); the facts known there allow values at which t
+rt: must-fail guest_bus/half_a_word_has_four_bytes.edit: refused, as it must be: note: src/bus.rt:29:5: it is not proved that what the function ensures holds when it returns (`returns-in-Two`); the facts known there allow values at which thi
+rt: guest_bus and the crates below passed, and that is kept. This is not the gate: run rt ci with no names
+3 passed, 0 failed (guest_bus and the crates below alone: not the gate)
+"""
+# As rt says them: how the prover refused wrong definitions of two laws, at the clause and at a lemma that states it.
+LAWS = [
+    (
+        "./proofs/law/acts_alone/Answers.antt:5:28: error: `returns`: as printed, the two types differ only where one has `0` (expected) and the other has `p` (found), t",
+        ("law::acts_alone", "returns"),
+    ),
+    (
+        "./proofs/PlannedLemmas.antt:63:5: error: `needs_are_served`: as printed, the two types differ only where one has `window` (expected), right after `… need.durati",
+        (None, None),
+    ),
+]
+
+
+def test_lines_of_a_real_gate(root: Path, call: Call, tmp_path: Path) -> None:
+    bus = "//! Sizes.\n" + "\n" * 22 + "pub enum Size {\n    One,\n}\nimpl Size {\n    /// How many.\n    pub fn bytes(self) -> u32\n        // Bytes.\n        ensures { result ≡ 1 }\n    {\n        1\n    }\n}\n"
+    files = {
+        "crates.txt": "guest_bus:\n",
+        "crates/guest_bus/src/lib.rt": "//! Sizes.\n#![tactic(auto)]\n\nmod bus;\n\npub use bus::Size;\n",
+        "crates/guest_bus/src/bus.rt": bus,
+        "crates/guest_bus/must-fail/a_double_word_has_four_bytes.edit": "file: src/bus.rt\n",
+        "crates/guest_bus/must-fail/half_a_word_has_four_bytes.edit": "file: src/bus.rt\n",
+    }
+    for name, text in files.items():
+        (root / name).parent.mkdir(parents=True, exist_ok=True)
+        (root / name).write_text(text, encoding="utf-8")
+    (tmp_path / "log").write_text(REAL, encoding="utf-8")
+    done = call("--of", tmp_path / "log")
+    assert (done.returncode, done.stderr.splitlines()[1:]) == (0, ["evidence: wrong bodies: 2 refused"])
+    found = read(root)
+    assert (found["part"], found["crates"]["guest_bus"]["proof"]) == (["guest_bus"], "kept")
+    assert [(each["function"], each["goal"], each["clause"]) for each in found["wrong_bodies"].values()] == [
+        ("bytes", "returns-in-Eight", "ensures"),
+        ("bytes", "returns-in-Two", "ensures"),
+    ]
+
+
+@pytest.mark.parametrize(("said", "where"), LAWS)
+def test_refusals_in_proofs_of_laws(root: Path, call: Call, said: str, where: tuple[str | None, str | None]) -> None:
+    set_gate(root, f"rt: must-fail boxes/a_law_is_wrong.edit: refused, as it must be: {said}\n1 passed, 0 failed\n", 1)
+    call()
+    body = read(root)["wrong_bodies"]["boxes/a_law_is_wrong"]
+    assert (body["verdict"], body["function"], body["goal"], body["said"]) == ("refused", *where, said)
+
+
 PART = """== boxes
 logic=proved functions=2 sum=dac8208d native=nat logic-built=trusted
 rt: boxes proved
