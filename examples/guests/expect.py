@@ -2,28 +2,33 @@
 """Says where crates/guest_suite/stdout differs from what it has to be. Ends with 1 where it does, else with 0.
 
 usage: examples/guests/expect.py [FOLDER]
+       examples/guests/expect.py --write    writes that file as it has to be, for the same calls, and compares it
 
-Two things are compared, and neither comes from xm_run:
+Three things are compared, and none comes from xm_run:
 - the console lines of each partition, put together, with the text that the native compiler's program printed:
   FOLDER/NAME.txt, or crates/guest_suite/data/NAME.txt;
 - each report of `bare` and `run`, its tick numbers too, and the lines of the guest that is run tick by tick, with
   those of the interpreter in this file. It knows the instructions that compiled code has, by the SPARC V8 manual, and
-  has as many register windows as are asked for.
-
-The lines of the other calls are not compared here.
+  has as many register windows as are asked for;
+- the lines of the other calls with the lengths and digests of the files that examples/systems/second.py makes.
 """
+import hashlib
 import re
 import struct
+import subprocess
 import sys
+import tempfile
 import xml.etree.ElementTree as ET
 from pathlib import Path
 
 ROOT = Path(__file__).resolve().parent.parent.parent
 SUITE = ROOT / "crates/guest_suite"
 DATA = SUITE / "data"
+SECOND = ROOT / "examples/systems/second.py"
+# The one area of the partition of `bare`.
 BARE_BASE, BARE_SIZE = 0x40000000, 0x100000
 # What stands before the lines of the guest that is run tick by tick, and for how many ticks.
-TICKED, TICKS = "hello.bin, tick by tick\n", 24
+TICKED, TICKS = "hello.bin, tick by tick\n", 100
 WORD = 0xFFFFFFFF
 SIGN = 0x80000000
 LOADS = {0: ">I", 1: ">B", 2: ">H", 9: ">b", 10: ">h"}
@@ -40,25 +45,36 @@ def divided(dividend, divisor):
     return -quotient if (dividend < 0) != (divisor < 0) else quotient
 
 
-class Guest:
-    """A partition: its area, its registers, and where it stands."""
+class Area:
+    """An area of a partition."""
 
-    def __init__(self, base, size, segments, entry, number):
-        self.base, self.number = base, number
+    def __init__(self, base, size, read_only=False):
+        self.base, self.read_only = base, read_only
         self.memory = bytearray(size)
+
+
+class Guest:
+    """A partition: its areas, its registers, and where it stands."""
+
+    def __init__(self, areas, segments, entry, number):
+        self.areas, self.number = areas, number
+        self.code = areas[0]  # the area of the last instruction
         for address, content in segments:
-            self.memory[address - base : address - base + len(content)] = content
+            area, at = self.place(address, 1)
+            area.memory[at : at + len(content)] = content
         self.pc, self.npc = entry, entry + 4
         self.regs = [0] * 32
         self.below = []
         self.y = self.n = self.z = self.v = self.c = 0
         self.exec, self.halted, self.text = 0, False, b""
 
-    def place(self, address, size):
-        at = address - self.base
-        if address % size or not 0 <= at <= len(self.memory) - size:
-            sys.exit(f"partition {self.number} at {self.pc:08x}: address {address:08x}")
-        return at
+    def place(self, address, size, stores=False):
+        """The area of an address, and the place in it."""
+        for area in self.areas:
+            at = address - area.base
+            if 0 <= at <= len(area.memory) - size and not address % size and not (stores and area.read_only):
+                return area, at
+        sys.exit(f"partition {self.number} at {getattr(self, 'pc', 0):08x}: address {address:08x}")
 
     def put(self, rd, value):
         if rd:
@@ -78,10 +94,10 @@ class Guest:
 
     def step(self):
         """One instruction. The bytes that went to the console, or None."""
-        at = self.pc - self.base
-        if not 0 <= at < len(self.memory):
-            sys.exit(f"partition {self.number}: no instruction at {self.pc:08x}")
-        word = int.from_bytes(self.memory[at : at + 4], "big")
+        at = self.pc - self.code.base
+        if not 0 <= at < len(self.code.memory):
+            self.code, at = self.place(self.pc, 4)
+        word = int.from_bytes(self.code.memory[at : at + 4], "big")
         pc, npc = self.pc, self.npc
         self.pc, self.npc = npc, npc + 4 & WORD
         self.exec += 1
@@ -118,16 +134,20 @@ class Guest:
     def access(self, op3, rd, address):
         if op3 in LOADS:
             form = LOADS[op3]
-            self.put(rd, struct.unpack_from(form, self.memory, self.place(address, struct.calcsize(form)))[0])
+            area, at = self.place(address, struct.calcsize(form))
+            self.put(rd, struct.unpack_from(form, area.memory, at)[0])
         elif op3 in STORES:
             form, mask = STORES[op3]
-            struct.pack_into(form, self.memory, self.place(address, struct.calcsize(form)), self.regs[rd] & mask)
+            area, at = self.place(address, struct.calcsize(form), True)
+            struct.pack_into(form, area.memory, at, self.regs[rd] & mask)
         elif op3 == 3:
-            first, second = struct.unpack_from(">II", self.memory, self.place(address, 8))
+            area, at = self.place(address, 8)
+            first, second = struct.unpack_from(">II", area.memory, at)
             self.put(rd, first)
             self.put(rd + 1, second)
         elif op3 == 7:
-            struct.pack_into(">II", self.memory, self.place(address, 8), self.regs[rd], self.regs[rd + 1])
+            area, at = self.place(address, 8, True)
+            struct.pack_into(">II", area.memory, at, self.regs[rd], self.regs[rd + 1])
         else:
             sys.exit(f"partition {self.number}: access {op3:02x}")
 
@@ -195,17 +215,24 @@ class Guest:
 
     def call(self, trap):
         number, first, second = self.regs[8:11]
-        if trap != 0x70 or number not in (2, 32):
+        if trap != 0x70 or number not in (1, 2, 32, 35):
             sys.exit(f"partition {self.number}: trap {trap:02x}, call {number}")
+        if number == 1:
+            self.regs[8] = self.number
+            return b""
         if number == 2:
             if first != self.number:
                 sys.exit(f"partition {self.number} halts {first}")
             self.halted = True
             return b""
-        at = self.place(first, 1)
-        if second > 1024 or at + second > len(self.memory):
+        if number == 35:
+            self.n, self.z, self.v, self.c = (first >> bit & 1 for bit in (23, 22, 21, 20))
+            self.regs[8] = 0
+            return b""
+        area, at = self.place(first, 1)
+        if second > 1024 or at + second > len(area.memory):
             sys.exit(f"partition {self.number}: console of {second} bytes at {first:08x}")
-        said = bytes(self.memory[at : at + second])
+        said = bytes(area.memory[at : at + second])
         self.text += said
         self.regs[8] = second
         return said
@@ -266,15 +293,16 @@ def size_of(text):
 
 
 def system(description, programs):
-    """The guests, slots and frame of a description; each partition has one area."""
+    """The guests, slots and frame of a description."""
     root = ET.parse(DATA / description).getroot()
     space = {"x": root.tag[1:].split("}")[0]}
     guests = []
     for part in root.iterfind(".//x:Partition", space):
-        area = part.find(".//x:Area", space)
+        areas = [Area(int(area.get("start"), 16), size_of(area.get("size")), area.get("flags") == "read-only")
+                 for area in part.iterfind(".//x:Area", space)]  # fmt: skip
         number = int(part.get("id"))
         segments, entry = elf(DATA / programs[number])
-        guests.append(Guest(int(area.get("start"), 16), size_of(area.get("size")), segments, entry, number))
+        guests.append(Guest(areas, segments, entry, number))
     plan = root.find(".//x:Plan", space)
     slots = []
     for slot in plan.iterfind("x:Slot", space):
@@ -285,16 +313,24 @@ def system(description, programs):
 
 def bare_system(image):
     """The guest, slots and frame of a raw image."""
-    guest = Guest(BARE_BASE, BARE_SIZE, [(BARE_BASE, (DATA / image).read_bytes())], BARE_BASE, 0)
+    guest = Guest([Area(BARE_BASE, BARE_SIZE)], [(BARE_BASE, (DATA / image).read_bytes())], BARE_BASE, 0)
     return [guest], [(0, 1000, guest)], 1000
+
+
+def digest(path):
+    """The digest of an image or a container: that of all bytes before it."""
+    return hashlib.md5(path.read_bytes()[:-16]).hexdigest()
 
 
 class Session:
     """The calls of the suite, in their order."""
 
-    def __init__(self, texts):
-        self.texts = texts
+    def __init__(self, texts, folder):
+        self.texts, self.folder = texts, folder
+        for path in DATA.iterdir():
+            (folder / path.name).write_bytes(path.read_bytes())
         self.made = {}
+        self.known = {}
         self.faults = 0
         self.compared = 0
 
@@ -302,40 +338,60 @@ class Session:
         print(what)
         self.faults += 1
 
-    def call(self, words, lines):
-        command = words[:2] if words[0] in ("xmeformat", "xmpack") else words[:1]
-        if command == ["bare"]:
-            names = [words[1].removesuffix(".bin")]
-            self.compare(words, lines, names, bare_system(words[1]), int(words[2]))
-        elif command == ["run"]:
-            description, programs = self.made[words[1]]
-            parts = system(description, programs)
-            ticks = int(words[3]) * (parts[2] if words[2] == "--frames" else 1)
-            self.compare(words, lines, [p.removesuffix(".elf") for p in programs], parts, ticks)
-        elif command == ["xmcparser"]:
-            self.made[words[2]] = words[1]
-        elif command == ["xmeformat", "build"]:
-            self.made[words[3]] = words[2]
-        elif command == ["xmpack", "build"]:
-            images = dict(word.split("=", 1) for word in words[4:])
-            programs = [self.made[images[str(number)]] for number in range(len(images))]
-            self.made[words[3]] = (self.made[words[2]], programs)
+    def wanted(self, words):
+        """The lines that a call has to print, worked once."""
+        call = tuple(words)
+        if call not in self.known:
+            self.known[call] = self.worked(words)
+        return self.known[call]
 
-    def compare(self, words, lines, names, parts, ticks):
-        self.compare_lines(" ".join(words), lines, report(*parts, ticks))
-        for number, name in enumerate(names):
-            self.compare_text(words, lines, number, name)
+    def worked(self, words):
+        match words:
+            case ["bare", image, ticks]:
+                return report(*bare_system(image), int(ticks))
+            case ["run", box, length, number]:
+                parts = system(*self.made[box])
+                return report(*parts, int(number) * (parts[2] if length == "--frames" else 1))
+            case ["xmcparser", text, out]:
+                self.made[out] = text
+            case ["xmeformat", "build", elf_file, out]:
+                self.made[out] = elf_file
+            case ["xmpack", "build", config, out, *images]:
+                by_number = dict(word.split("=", 1) for word in images)
+                programs = [self.made[by_number[str(number)]] for number in range(len(images))]
+                self.made[out] = (self.made[config], programs)
+            case ["xmpack", "check", box]:
+                return [f"ok parts={len(self.made[box][1])}"]
+            case ["xmpack", "list", box]:
+                return self.listed(box)
+        done = subprocess.run([SECOND, *words], cwd=self.folder, capture_output=True, text=True, check=True)
+        return done.stdout.splitlines()
+
+    def listed(self, box):
+        """The contents of a container without channels, by the files that it was made of."""
+        description, programs = self.made[box]
+        root = ET.parse(DATA / description).getroot()
+        plans = len(root.findall(".//{*}Plan"))
+        path = self.folder / box
+        lines = [f"container length={path.stat().st_size} md5={digest(path)}",
+                 f"system name={root.get('name')} parts={len(programs)} plans={plans} channels=0"]  # fmt: skip
+        for number, program in enumerate(programs):
+            image = self.folder / next(name for name, made in self.made.items() if made == program)
+            entry = elf(DATA / program)[1]
+            lines.append(f"image id={number} length={image.stat().st_size} entry={entry:08x} md5={digest(image)}")
+        return lines
+
+    def call(self, words, lines):
+        self.compare_lines(" ".join(words), lines, self.wanted(words))
+        programs = [words[1]] if words[0] == "bare" else self.made[words[1]][1] if words[0] == "run" else []
+        for number, name in enumerate(programs):
+            self.compare_text(words, lines, number, Path(name).stem)
 
     def compare_lines(self, what, lines, wanted):
         for number in range(max(len(wanted), len(lines))):
             found, line = (some[number] if number < len(some) else "nothing" for some in (lines, wanted))
             if found != line:
-                self.differs(f"{what}: {found}\n  the interpreter: {line}")
-
-    def compare_ticked(self, lines):
-        """The lines of single ticks, without those of the report's beginning and end, and what the machine is then."""
-        wanted = report(*bare_system(TICKED.split(",")[0]), TICKS)[1:-2]
-        self.compare_lines(TICKED.strip(), lines, [*wanted, f"parts=1 ticks={TICKS} halted=false"])
+                self.differs(f"{what}: {found}\n  has to be: {line}")
 
     def compare_text(self, words, lines, number, name):
         """The console lines of a partition; of one that did not halt, they are the front of its text."""
@@ -348,13 +404,35 @@ class Session:
         self.compared += said.count("\\n")
 
 
-def main():
-    session = Session(Path(sys.argv[1]) if len(sys.argv) > 1 else DATA)
-    calls, _, ticked = (SUITE / "stdout").read_text(encoding="utf-8").partition(TICKED)
-    for call in calls.split("$ xm_run ")[1:]:
+def ticked():
+    """The lines of single ticks, without those of the report's beginning and end, and what the machine is then."""
+    return [*report(*bare_system(TICKED.split(",")[0]), TICKS)[1:-2], f"parts=1 ticks={TICKS} halted=false"]
+
+
+def calls_of(text):
+    """The words of each call, and the lines that it printed."""
+    for call in text.partition(TICKED)[0].split("$ xm_run ")[1:]:
         head, *lines = call.splitlines()
-        session.call(head.split(" "), lines)
-    session.compare_ticked(ticked.splitlines())
+        yield head.split(" "), lines
+
+
+def write(session):
+    calls = [words for words, _ in calls_of((SUITE / "stdout").read_text(encoding="utf-8"))]
+    lines = [line for words in calls for line in (f"$ xm_run {' '.join(words)}", *session.wanted(words))]
+    text = "\n".join([*lines, TICKED.strip(), *ticked(), ""])
+    (SUITE / "stdout").write_text(text, encoding="utf-8")
+
+
+def main():
+    words = sys.argv[1:]
+    with tempfile.TemporaryDirectory() as folder:
+        session = Session(DATA if words in ([], ["--write"]) else Path(words[0]), Path(folder))
+        if words == ["--write"]:
+            write(session)
+        text = (SUITE / "stdout").read_text(encoding="utf-8")
+        for call, lines in calls_of(text):
+            session.call(call, lines)
+        session.compare_lines(TICKED.strip(), text.partition(TICKED)[2].splitlines(), ticked())
     print(f"{session.compared} console lines compared with the native texts, {session.faults} differences")
     return 1 if session.faults or not session.compared else 0
 

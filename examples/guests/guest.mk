@@ -1,4 +1,4 @@
-# How a guest is made of C, with Debian's cross packages (gcc-sparc64-linux-gnu, which brings the binutils).
+# How a guest without the C library is made of C, with Debian's cross packages (gcc-sparc64-linux-gnu, which brings the binutils).
 # Nothing is linked but what is named: the 32-bit libgcc of these packages has instructions that V8 lacks.
 # Whoever includes this says where the folder is, by GUESTS.
 CROSS = sparc64-linux-gnu-
@@ -9,24 +9,24 @@ GUEST_CFLAGS = $(LEVEL) -g -std=c11 -Wall -Wextra -m32 -mcpu=v8 -msoft-float -ff
 GUEST_LDFLAGS = -m32 -nostdlib -static -no-pie -Wl,-m,elf32_sparc -Wl,--build-id=none -Wl,-n \
     -Wl,--fatal-warnings
 
-# The area, and the partition's own number; those of `bare`, where a target doesn't say others.
-AREA_BASE = 0x40000000
-AREA_SIZE = 0x100000
-PARTITION = 0
+# Where a program is to be: `bare`, or a description and the number of a partition, whose areas it gets.
+PLACE = bare
+PLACES = "$$($(GUESTS)/areas $(PLACE))"
 
-AREA = $(GUESTS)/area.ld
-START = $(GUESTS)/start.S
+START = $(GUESTS)/start.S $(GUESTS)/start.c $(GUESTS)/bare.c
+LAYOUT = $(GUESTS)/guarded.ld
 
-# $(call link,SOURCES): links $@ of these sources, the area's linker script among them, and writes to $@.d what it was made
-# of, the headers too, so that a change of one of these links it again
-link = $(CROSS)gcc $(GUEST_CFLAGS) -I$(GUESTS) $(GUEST_LDFLAGS) -Wl,--defsym=AREA_BASE=$(AREA_BASE) \
-    -Wl,--defsym=AREA_SIZE=$(AREA_SIZE) -Wl,--defsym=PARTITION=$(PARTITION) \
-    -T $(filter %.ld,$(1)) $(filter-out %.ld %.h,$(1)) -o $@ && \
-    { echo '$@: $(filter %.a %.ld,$(1))'; \
+# $(call link,SOURCES): links $@ of these sources, the linker script among them, and writes to $@.d what it was made of, the
+# headers too, so that a change of one of these links it again
+link = places=$(PLACES) && \
+    $(CROSS)gcc $(GUEST_CFLAGS) -I$(GUESTS) $(GUEST_LDFLAGS) $$places \
+    -T $(filter %.ld,$(1)) $(filter-out %.ld %.h,$(1)) -o $@ && $(GUESTS)/copy_data $@ && \
+    { echo '$@: $(filter %.a %.ld,$(1)) $(filter %.xml,$(PLACE))'; \
     $(CROSS)gcc $(GUEST_CFLAGS) -I$(GUESTS) -MM -MP -MT $@ $(filter %.c %.S,$(1)); } > $@.d
 
+# A raw image, for `bare`: all but the variables, which the start-up code makes.
 %.bin: %.elf
-	$(CROSS)objcopy -O binary $< $@
+	$(CROSS)objcopy -O binary -R .data $< $@
 	chmod a-x $@
 
 # These rules are not to name the first target.

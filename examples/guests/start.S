@@ -1,30 +1,35 @@
-! Start-up of a compiled guest, which is entered at its first byte.
+! The start of every program; guarded.ld has the places.
 !
-! The linker gives stack_top, zeroed_from and zeroed_to (area.ld), and PARTITION, the partition's own number.
-! The stack grows down from the area's end. Each window that is spilled goes to its own %sp, so 64 bytes
-! stand free above the first %sp; the calling convention wants 92, and %sp is a multiple of 8.
+! A warm reset keeps the memory. So variables get what they begin with each time: from the copy in the code's area, or zero.
+! Windows are spilled to 64 bytes at their own %sp, and the calling convention wants 92: 96 are free above the first %sp.
 
         .section .text.start, "ax"
         .global _start
 _start:
         set     stack_top, %sp
         mov     0, %fp                  ! the stack ends here
+        set     data_copy, %o0
+        set     data_from, %o1
+        set     data_to, %o2
+1:      ldd     [%o0], %o4              ! eight bytes at least
+        std     %o4, [%o1]
+        add     %o1, 8, %o1
+        cmp     %o1, %o2
+        bne     1b
+        add     %o0, 8, %o0
+
         set     zeroed_from, %o0
         set     zeroed_to, %o1
+        mov     0, %g1
         cmp     %o0, %o1
-1:      bgeu    2f                      ! what no file has is zero
+2:      bgeu    3f
         nop
-        st      %g0, [%o0]
-        add     %o0, 4, %o0
-        ba      1b
+        std     %g0, [%o0]
+        add     %o0, 8, %o0
+        ba      2b
         cmp     %o0, %o1
 
-2:      call    main
-        nop
-        mov     2, %o0                  ! call 2: halt a partition
-        mov     PARTITION, %o1
-        ta      0x70
-3:      ba      3b                      ! not reached
+3:      call    start_program           ! it does not come back
         nop
 
         .section .note.GNU-stack, "", @progbits

@@ -1,4 +1,4 @@
-# What the Makefiles of the systems have in common. Each names its PROGRAMS, and their areas and numbers.
+# What the Makefiles of the systems have in common. Each names its PROGRAMS, and the partition of each by PLACE.
 #   make          links the programs, without symbols
 #   make symbols  links them with symbols in build/, for objdump
 #   make native   what those that are in NATIVE print as programs of this machine, by NATIVE_FLAGS, with INPUT
@@ -6,9 +6,8 @@ GUESTS = ../../guests
 include $(GUESTS)/guest.mk
 comma = ,
 
-# Small code, and 512 KiB a partition.
+# Small code.
 LEVEL = -Os
-AREA_SIZE = 0x80000
 
 LINES = $(GUESTS)/xm.h $(GUESTS)/lines.h
 LINKED = $(call link,$(1) $(filter %.S %.c %.a %.ld,$^))
@@ -17,11 +16,11 @@ all: $(PROGRAMS:%=%.elf)
 
 symbols: $(PROGRAMS:%=build/%.elf)
 
-%.elf: %.c $(LINES) $(START) $(AREA) build/routines.a Makefile ../system.mk
+%.elf: %.c $(LINES) $(START) $(LAYOUT) build/routines.a Makefile ../system.mk
 	$(call LINKED,-Wl$(comma)-s)
 	chmod a-x $@
 
-build/%.elf: %.c $(LINES) $(START) $(AREA) build/routines.a Makefile ../system.mk
+build/%.elf: %.c $(LINES) $(START) $(LAYOUT) build/routines.a Makefile ../system.mk
 	$(call LINKED)
 
 # Of an archive only what is called for is linked.

@@ -120,11 +120,17 @@ def test_what_a_build_prints(tmp_path: Path) -> None:
         "container out/system.xmp",
     ]
     header = (tmp_path / "out/areas.h").read_text()
-    assert "#define PRODUCER_PARTITION 0\n#define PRODUCER_AREA_BASE 0x40100000\n#define PRODUCER_AREA_SIZE 0x80000\n" in header
+    assert "#define PRODUCER_PARTITION 0\n#define PRODUCER_AREA_BASE 0x40100000\n#define PRODUCER_AREA_SIZE 0x10000\n" in header
     assert '#define CONSUMER_PORT_0 "' in header
-    assert (
-        tmp_path / "out/consumer.ld"
-    ).read_text() == "AREA_BASE = 0x40180000;\nAREA_SIZE = 0x80000;\nPARTITION = 1;\nINCLUDE area.ld\n"
+    assert (tmp_path / "out/consumer.ld").read_text().splitlines() == [
+        "STACK_BASE = 0x40180000;",
+        "STACK_SIZE = 0x10000;",
+        "DATA_BASE = 0x40190000;",
+        "DATA_SIZE = 0x30000;",
+        "CODE_BASE = 0x401c0000;",
+        "CODE_SIZE = 0x40000;",
+        "INCLUDE guarded.ld",
+    ]
 
 
 BAD_FILES = [
@@ -179,7 +185,7 @@ def test_colours_where_the_output_is_a_terminal(supervisor: Path) -> None:
                           env={**os.environ, "XM_RUN": program_of_user() or str(SECOND), "TERM": "xterm-256color"})  # fmt: skip
     plain = re.sub(r"\x1b\[[0-9;]*m", "", done.stdout).replace("\r", "")
     assert "\x1b[" in done.stdout
-    assert "[2310] sensor     CON start 0\\n\n" in plain
+    assert "[2271] sensor     CON start 0\\n\n" in plain
 
 
 def test_words_of_a_run_that_are_wrong(supervisor: Path) -> None:
@@ -217,7 +223,7 @@ def test_a_program_of_sources(tmp_path: Path) -> None:
     for text in ("partition", "number"):
         (tmp_path / "mine.c").write_text(MINE.replace("partition", text))
         done = xm(tmp_path, "build", "three.xml", "out")
-        assert (done.status, done.err) == (0, "") and " entry=40180000 of out/chains.elf\n" in done.out
+        assert (done.status, done.err) == (0, "") and " entry=401c0000 of out/chains.elf\n" in done.out
         assert f"chains CON {text} 1\\n\n" in xm(tmp_path, "run", "out", "--frames", "2").out
     (tmp_path / "mine.c").write_text("int main(void) { return missing; }\n")
     done = xm(tmp_path, "build", "three.xml", "out")
@@ -236,15 +242,31 @@ def test_the_linker_script_of_a_partition(supervisor: Path) -> None:
         f"-L{guests}",
         "-T",
         "out/payload.ld",
-        f"{guests}/start.S",
+        *(f"{guests}/{name}" for name in ("start.S", "start.c", "bare.c")),
         "mine.c",
         "-o",
         "mine.elf",
     ]
     subprocess.run(words, cwd=supervisor, check=True)
+    subprocess.run([f"{guests}/copy_data", "mine.elf"], cwd=supervisor, check=True)
     symbols = read_symbols(str(supervisor / "mine.elf"))
-    assert symbols.where(0x40200000) == "_start"
-    assert symbols.end <= 0x40280000
+    assert symbols.where(0x40240000) == "_start"
+    assert [start for start, _ in symbols.segments] == [0x40210000, 0x40240000]
+
+
+@pytest.mark.skipif(not shutil.which(COMPILER), reason="there is no compiler for guests")
+def test_sources_of_a_partition_without_the_three_areas(tmp_path: Path) -> None:
+    (tmp_path / "x.xml").write_text((ROOT / "docs/xm_cf_example.xml").read_text())
+    (tmp_path / "x.toml").write_text(f'[programs]\ncontrol = ["mine.c"]\npayload = "{SYSTEMS}/supervisor/sensor.elf"\n')
+    (tmp_path / "mine.c").write_text("int main(void) { return 0; }\n")
+    done = xm(tmp_path, "build", "x.xml", "out")
+    assert (done.status, len(done.err.splitlines())) == (2, 1)
+    assert done.err.startswith("xm: not linked: areas: x.xml: a program needs three areas")
+
+
+def test_the_area_of_a_stack_is_not_warned_of(supervisor: Path) -> None:
+    """Nothing of a program is in it before it runs."""
+    assert "warning" not in xm(supervisor, "build", str(SYSTEMS / "supervisor/supervisor.xml"), "again").out
 
 
 def test_areas_without_a_program_are_warned_of(tmp_path: Path) -> None:
@@ -263,9 +285,11 @@ def test_a_core_file_at_the_instruction_that_fails(supervisor: Path) -> None:
     done = xm(supervisor, "core", "sensor.core", str(SENSOR))
     lines = done.out.splitlines()
     assert (done.status, done.err) == (0, "")
-    assert lines[0] == "P1 ready resets=0 status=0 exec=591"
-    assert lines[1] == "pc 40180184 main+0x64 at sensor.c:34"
-    assert "#0 40180184 main+0x64 at sensor.c:34" in lines and "#1 40180038 _start+0x38 at start.S:22" in lines
+    assert lines[0] == "P1 ready resets=0 status=0 exec=552"
+    assert lines[1] == "pc 401c01a4 main+0x64 at sensor.c:34"
+    calls = ["#0 401c01a4 main+0x64 at sensor.c:34", "#1 401c0294 start_program+0xc at bare.c:9", "#2 401c006c _start+0x6c at start.S:32"]
+    assert [line for line in lines if line.startswith("#")] == calls
+    assert "stack: at most 193 of 65536 bytes used, 4018fec8 now" in lines
     source = (SYSTEMS / "supervisor/sensor.c").read_text().splitlines()
     assert "reading(count)" in source[34 - 1]
 
@@ -281,8 +305,8 @@ def test_a_program_file_that_shows_nothing_of_a_core_file(supervisor: Path) -> N
 def test_a_health_log_in_a_core_file(supervisor: Path) -> None:
     xm(supervisor, "run", "out", "--ticks", "8012", "--core", "sensor=later.core")
     lines = xm(supervisor, "core", "later.core").out.splitlines()
-    assert lines[0] == "P1 halted resets=0 status=0 exec=592"
-    assert "health 0 [8011] SPARC_DIVIDE_EXCEPTION 40180184 HALT" in lines
+    assert lines[0] == "P1 halted resets=0 status=0 exec=553"
+    assert "health 0 [8011] SPARC_DIVIDE_EXCEPTION 401c01a4 HALT" in lines
 
 
 def test_a_script_is_shown_and_made_again(tmp_path: Path) -> None:
@@ -373,7 +397,7 @@ P0 succeeds
 sensor succeeds
 """
 UNMET = [
-    ("no HM", "3 found, the first is [8011] P1 HM XM_HM_EV_SPARC_DIVIDE_EXCEPTION 40180184 XM_HM_AC_HALT"),
+    ("no HM", "3 found, the first is [8011] P1 HM XM_HM_EV_SPARC_DIVIDE_EXCEPTION 401c01a4 XM_HM_AC_HALT"),
     ("P2 CON times 8", "7 found"), ("P2 TRACE", "0 found"), ("P1 resets > 0", "resets is 0"), ("P2 ends ready", "ends is idle"),
     ("P0 within 4ms of P1 HM CON sensor*", "after [8011] the first is at [12508], 4497 us later"), ("P7 ends idle", "there is no P7"),
     ("P0 within 1s of P1 HALT CON sensor*", "after [44624] none comes"), ("P0 within 1s of P2 HM CON", "what it is measured from does not come"),

@@ -30,17 +30,13 @@ def header(system: System) -> str:
     return "\n".join([*lines, "", "#endif", ""])
 
 
-def linker_script(partition: Partition) -> str:
-    """The areas and the number of a partition, for a program that is linked with it and with area.ld beside xm.h."""
-    area = partition.areas[0]
-    lines = [f"AREA_BASE = 0x{area.start:08x};", f"AREA_SIZE = 0x{area.size:x};", f"PARTITION = {partition.number};"]
-    for number, other in enumerate(partition.areas[1:], 1):
-        lines += [f"AREA_{number}_BASE = 0x{other.start:08x};", f"AREA_{number}_SIZE = 0x{other.size:x};"]
-    return "\n".join([*lines, "INCLUDE area.ld", ""])
+def linker_script(places: list[tuple[str, int]]) -> str:
+    """The places of a partition's stack, data and code, for a program that is linked with it and with guarded.ld beside xm.h."""
+    return "\n".join([*(f"{name} = {number:#x};" for name, number in places), "INCLUDE guarded.ld", ""])
 
 
-def make_rules(system: System, programs: dict[int, Program], folder: str, guests: str) -> str:
-    """partition.mk: areas and numbers of all partitions, and the rules of those that are made of sources."""
+def make_rules(system: System, programs: dict[int, Program], folder: str, guests: str, xml: str) -> str:
+    """partition.mk: the place of each partition, and the rules of those that are made of sources."""
     words = words_of_partitions(system)
     lines = [
         f"# Of the description {system.name}, by xm build.",
@@ -51,15 +47,10 @@ def make_rules(system: System, programs: dict[int, Program], folder: str, guests
         "all:",
     ]
     for partition in system.partitions:
-        area, elf = partition.areas[0], f"{folder}/{words[partition.number]}.elf"
-        lines += [
-            "",
-            f"{elf}: AREA_BASE = 0x{area.start:08x}",
-            f"{elf}: AREA_SIZE = 0x{area.size:x}",
-            f"{elf}: PARTITION = {partition.number}",
-        ]
+        elf = f"{folder}/{words[partition.number]}.elf"
+        lines += ["", f"{elf}: PLACE = {xml} {partition.number}"]
         sources = programs[partition.number].sources if partition.number in programs else ()
         if sources:
-            needed = " ".join(["$(START)", *sources, "$(GUESTS)/routines.c", "$(AREA)"])
-            lines += [f"all: {elf}", f"{elf}: {needed} {folder}/areas.h {folder}/partition.mk", f"\t$(call link,{needed})"]
+            needed = " ".join(["$(START)", *sources, "$(GUESTS)/routines.c", "$(LAYOUT)"])
+            lines += [f"all: {elf}", f"{elf}: {needed} {folder}/areas.h {folder}/partition.mk {xml}", f"\t$(call link,{needed})"]
     return "\n".join([*lines, ""])

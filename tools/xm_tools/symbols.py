@@ -31,12 +31,15 @@ class SourceLine:
 
 @dataclass
 class Symbols:
-    """The functions and the lines of a program, in the order of their addresses; its memory is from `start` to `end`."""
+    """The functions and the lines of a program, in the order of their addresses; its memory is `segments`, each with its end."""
 
     functions: list[Function] = field(default_factory=list)
     lines: list[SourceLine] = field(default_factory=list)
-    start: int = 0
-    end: int = 0
+    segments: list[tuple[int, int]] = field(default_factory=list)
+
+    def has(self, address: int) -> bool:
+        """Whether an address is in the memory of the program."""
+        return any(start <= address < end for start, end in self.segments)
 
     def function(self, address: int) -> Function | None:
         """The function that an address is in; one without a size reaches up to the next one."""
@@ -76,9 +79,8 @@ def read_symbols(path: str) -> Symbols:
         if file.num_sections() > MOST_SECTIONS:
             raise Unusable(f"{path}: more than {MOST_SECTIONS} sections")
         segments = [segment.header for segment in file.iter_segments() if segment.header.p_type == "PT_LOAD"]
-        start = min((header.p_vaddr for header in segments), default=0)
-        end = max((header.p_vaddr + header.p_memsz for header in segments), default=0)
-        return Symbols(functions_of(file), lines_of(file), start, end)
+        places = [(header.p_vaddr, header.p_vaddr + header.p_memsz) for header in segments]
+        return Symbols(functions_of(file), lines_of(file), places)
     except Unusable:
         raise
     except Exception as error:  # the library has no class of its own for what damaged bytes lead to

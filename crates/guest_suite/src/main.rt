@@ -58,7 +58,7 @@ fn main(rt: HostRuntime) -> Result<()> {
     }
     println!(rt; "hello.bin, tick by tick")?;
     let image = fs::read(&rt, "hello.bin")?;
-    show_ticks(&rt, rt.alloc(), &image, 24, &mut out)
+    show_ticks(&rt, rt.alloc(), &image, 100, &mut out)
 }
 
 // Puts the files of the data folder into the store.

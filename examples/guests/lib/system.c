@@ -1,4 +1,4 @@
-/* What newlib asks of the machine, but for files: the program's start and end, memory and clocks. */
+/* What newlib asks of the machine, but for files: the program's start, memory and clocks. */
 #include <xm.h>
 #include <errno.h>
 #include <signal.h>
@@ -9,13 +9,12 @@
 #include <sys/wait.h>
 #include <unistd.h>
 #include "program.h"
+#include "../start.h"
 
 /* By guarded.ld. */
 extern char heap_from[], heap_to[];
-extern void (*const constructors_from[])(void), (*const constructors_to[])(void), (*const destructors_to[])(void);
 
 int main(int count, char **arguments, char **environment);
-void start_program(void);
 
 /* C++ asks for it. */
 void *__dso_handle;
@@ -25,26 +24,6 @@ char **environ = no_environment;
 
 static char *heap_at = heap_from;
 
-/*
- * The end. A status that is not 0 is the event PARTITION_ERROR, with the status as its word, so that the report shows it. With
- * traps disabled no action is a trap.
- */
-void _exit(int status)
-{
-    sparc_set_psr(0);
-    if (status != 0)
-        XM_hm_raise_event((unsigned)status);
-    for (;;)
-        XM_halt_partition((unsigned)XM_get_self());
-}
-
-/* In the order opposite to that of the constructors. */
-static void run_destructors(void)
-{
-    for (void (*const *function)(void) = destructors_to; function != constructors_to; function--)
-        function[-1]();
-}
-
 /* What start.S calls. Traps are enabled, for `ta 3`; interrupts stay masked until the program unmasks them. */
 void start_program(void)
 {
@@ -52,8 +31,7 @@ void start_program(void)
     sparc_set_tbr((xm_word)trap_entries);
     sparc_set_psr(XM_TRAPS_ENABLED);
     atexit(run_destructors);
-    for (void (*const *function)(void) = constructors_from; function != constructors_to; function++)
-        (*function)();
+    run_constructors();
     while (program_arguments[count] != NULL)
         count++;
     exit(main(count, program_arguments, environ));

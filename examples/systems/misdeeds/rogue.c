@@ -26,7 +26,7 @@ static void call_at(unsigned address)
     ((void (*)(void))address)();
 }
 
-/* Calls itself without end. Each call takes 64 KiB of the stack and stores nothing there, and the partition has 512 KiB. */
+/* Calls itself without end. Each call takes 64 KiB and stores nothing there, and the stack has 64 KiB. */
 static unsigned run_away(unsigned depth)
 {
     static unsigned (*volatile again)(unsigned) = run_away;

@@ -11,9 +11,9 @@ partitions. What a description has not stands beside it in a file of the same na
   [run]
   frames = 12                             how long `xm run DIR` runs without an option
 
-For guests it writes areas.h (numbers, areas and names of ports), a linker script for each partition (NAME.ld), and
-partition.mk (areas and numbers for make), so that none of these is written twice. An area in which a program has nothing is
-warned of.
+For guests it writes areas.h (numbers, areas and names of ports), a linker script for each partition that has areas for stack,
+data and code (NAME.ld), and partition.mk (the places of partitions for make), so that none of these is written twice. An area
+in which a program has nothing is warned of, unless it is that of the stack.
 """
 
 import os
@@ -47,6 +47,16 @@ def guests_folder() -> str:
     raise Unusable("the folder examples/guests is not found, which linking needs")
 
 
+def places_of(guests: str, xml: str, partition: int) -> list[tuple[str, int]]:
+    """Where the stack, data and code of a partition are: the linker's symbols by `areas`. Without them there is one line why."""
+    done = subprocess.run(
+        [f"{guests}/areas", xml, str(partition)], stdin=subprocess.DEVNULL, capture_output=True, text=True, errors="replace", check=False
+    )
+    if done.returncode:
+        raise Unusable(done.stderr.strip())
+    return [(name, int(number, 16)) for name, number in re.findall(r"--defsym=(\w+)=(0x[0-9a-f]+)", done.stdout)]
+
+
 class Build:
     """A folder in which a system is made. `beside` is the .toml file, where it is not the one beside the description."""
 
@@ -55,6 +65,8 @@ class Build:
         self.system: System = read_description(xml)
         self.given: BuildFile = read_build_file(beside or str(Path(xml).with_suffix(".toml")), self.system)
         self.words = words_of_partitions(self.system)
+        self.guests = guests_folder()
+        self.places: dict[int, list[tuple[str, int]]] = {}
 
     def path(self, name: str) -> str:
         return str(self.folder / name)
@@ -79,16 +91,28 @@ class Build:
     def generate(self) -> None:
         write(self.path("areas.h"), header(self.system).encode())
         for partition in self.system.partitions:
-            write(self.path(f"{self.words[partition.number]}.ld"), linker_script(partition).encode())
+            self.place(partition)
         folder, programs = str(self.folder.resolve()), self.given.programs
-        guests = guests_folder()
-        write(self.path("partition.mk"), make_rules(self.system, programs, folder, guests).encode())
+        rules = make_rules(self.system, programs, folder, self.guests, str(Path(self.xml).resolve()))
+        write(self.path("partition.mk"), rules.encode())
+
+    def place(self, partition: Partition) -> None:
+        """Finds the places of a partition's stack, data and code; a program of sources has to have them."""
+        try:
+            self.places[partition.number] = places_of(self.guests, self.xml, partition.number)
+        except Unusable as fault:
+            if self.given.programs[partition.number].sources:
+                raise Unusable(f"not linked: {fault}") from None
+            return
+        script = linker_script(self.places[partition.number])
+        write(self.path(f"{self.words[partition.number]}.ld"), script.encode())
 
     def link(self) -> None:
         """Links what is made of sources, by make."""
-        if not any(program.sources for program in self.given.programs.values()):
+        sources = [source for program in self.given.programs.values() for source in program.sources]
+        if not sources:
             return
-        paths = [str(self.folder.resolve()), *(source for program in self.given.programs.values() for source in program.sources)]
+        paths = [str(self.folder.resolve()), str(Path(self.xml).resolve()), *sources]
         spaced = next((path for path in paths if SPACED.search(path)), None)
         if spaced:
             raise Unusable(f"{spaced}: make takes no blanks, `$`, `#` or `:` in names")
@@ -120,9 +144,10 @@ class Build:
         return path
 
     def warn(self, partition: Partition, image: Image) -> None:
+        stack = dict(self.places.get(partition.number, [])).get("STACK_BASE")
         for area in partition.areas:
             inside = [segment for segment in image.segments if area.start <= segment.address < area.end]
-            if not inside:
+            if not inside and area.start != stack:
                 self.say(f"{self.system.title(partition.number)}: warning: its program has nothing in the area at {area.start:08x}")
 
     def keep(self) -> None:

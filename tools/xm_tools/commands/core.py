@@ -55,11 +55,12 @@ def calls(core: Core, symbols: Symbols) -> Iterator[int]:
 
 
 def stack_lines(core: Core, symbols: Symbols) -> Iterator[str]:
-    """How much of the stack was ever used: its lowest byte that is not zero, above the program's own memory."""
+    """How much of the stack was ever used: its lowest byte that is not zero, above what the program has in its area."""
     pointer = core.registers()[STACK_POINTER]
     for area in core.areas:
-        if symbols.end and area.start <= pointer < area.end and area.start <= symbols.end <= area.end:
-            above = area.content[symbols.end - area.start :]
+        if symbols.segments and area.start <= pointer < area.end:
+            own = [end for _, end in symbols.segments if area.start < end <= area.end]
+            above = area.content[max(own, default=area.start) - area.start :]
             used = len(above) - next((number for number, byte in enumerate(above) if byte), len(above))
             yield f"stack: at most {used} of {len(above)} bytes used, {pointer:08x} now"
 
@@ -104,7 +105,7 @@ def notes_of(core: Core, path: str, symbols: Symbols) -> Iterator[str]:
     """Why a program file shows nothing of a core file."""
     if not symbols.functions:
         yield f"note: {path} has no symbols: link it with -g"
-    elif not symbols.start <= core.pc < symbols.end:
+    elif not symbols.has(core.pc):
         yield f"note: the program counter is outside of {path}: is it the program of P{core.partition}?"
 
 

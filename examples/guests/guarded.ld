@@ -1,7 +1,8 @@
 /*
  * A program in three areas of its partition, one after the other: the stack, below which the partition has nothing, so that a
  * stack that grows too long is stopped; data and heap; and code, which is read-only. `areas` gives their addresses and sizes
- * from the description. What variables begin with is in the code's area, too: the start-up code copies it.
+ * from the description, or those of three parts of the one area of `bare`, which guard nothing. What variables begin with is in
+ * the code's area, too, where `copy_data` puts it after linking: the start-up code copies it.
  */
 ENTRY(_start)
 

@@ -1,6 +1,6 @@
 """Tries areas and words on descriptions and texts whose results were worked by hand.
 
-usage: /usr/bin/python3 -m pytest examples/guests/lib/areas_test.py
+usage: /usr/bin/python3 -m pytest examples/guests/areas_test.py
 """
 
 import importlib.util
@@ -14,9 +14,10 @@ import pytest
 HERE = Path(__file__).resolve().parent
 
 
-def loaded(name: str) -> ModuleType:
+def loaded(path: str) -> ModuleType:
     sys.dont_write_bytecode = True
-    spec = importlib.util.spec_from_loader(f"lib_{name}", SourceFileLoader(f"lib_{name}", str(HERE / name)))
+    name = Path(path).name
+    spec = importlib.util.spec_from_loader(f"lib_{name}", SourceFileLoader(f"lib_{name}", str(HERE / path)))
     assert spec is not None and spec.loader is not None
     module = importlib.util.module_from_spec(spec)
     sys.modules[spec.name] = module
@@ -25,7 +26,7 @@ def loaded(name: str) -> ModuleType:
 
 
 areas = loaded("areas")
-words = loaded("words")
+words = loaded("lib/words")
 
 STACK = '<Area start="0x40100000" size="64KB"/>'
 DATA = '<Area start="0x40110000" size="0.5MB"/>'
@@ -37,7 +38,7 @@ def description(*rows: str) -> str:
 
 
 def symbols(*rows: str) -> str:
-    return " ".join(areas.symbols(areas.areas_of(description(*rows), 1)))
+    return " ".join(areas.symbols(areas.places(areas.areas_of(description(*rows), 1))))
 
 
 @pytest.mark.parametrize("rows", [(STACK, DATA, CODE), (CODE, DATA, STACK)])
@@ -62,6 +63,13 @@ def test_areas_are_found_by_flag_and_order(rows: tuple[str, ...]) -> None:
 def test_other_areas_are_refused(rows: tuple[str, ...], fault: str) -> None:
     with pytest.raises(areas.Unfit, match=fault):
         symbols(*rows)
+
+
+def test_the_parts_of_bare_fill_its_area_and_begin_with_the_code() -> None:
+    parts = sorted(areas.BARE.items(), key=lambda part: part[1].start)
+    assert [name for name, _ in parts] == ["CODE", "DATA", "STACK"]
+    assert parts[0][1].start == 0x40000000 and parts[-1][1].end == 0x40100000
+    assert all(one.end == other.start for (_, one), (_, other) in zip(parts, parts[1:]))
 
 
 def test_a_partition_that_is_not_there_is_refused() -> None:
