@@ -5,6 +5,7 @@ usage: programs.py build [NAME ..]            builds programs for partitions and
        programs.py alone PROGRAM [NAME ..]    runs each as the only partition, by PROGRAM, as `./xm_run`
        programs.py together PROGRAM [NAME ..] runs them as the partitions of one system
        programs.py table [--write]            prints the table, or writes it into README.md
+       programs.py names                      prints the names of all
 
 All programs of programs.toml, or those that are named. What is made is in ~/.cache/xm_run-programs/made, or in the folder
 XM_PROGRAMS, where `fetch` puts the sources. Ends with 1 where a console, an end or a count of ticks differs.
@@ -391,12 +392,18 @@ def write_table(programs: list[Program]) -> None:
     page.write_text(text[:begin] + "\n".join(rows(programs)) + text[end:])
 
 
-def main(words: list[str]) -> int:
-    programs = programs_of((HERE / "programs.toml").read_text())
+def lay_out(programs: list[Program]) -> None:
+    """Writes the description by which all are linked, where it is not there."""
     MADE.mkdir(parents=True, exist_ok=True)
     layout = description("together", programs, programs, [1000] * len(programs))
     if not (MADE / "together.xml").exists() or (MADE / "together.xml").read_text() != layout:
         (MADE / "together.xml").write_text(layout)
+
+
+def main(words: list[str]) -> int:
+    programs = programs_of((HERE / "programs.toml").read_text())
+    if words != ["names"]:
+        lay_out(programs)
     faults: list[str] = []
     match words:
         case ["build", *names]:
@@ -407,6 +414,9 @@ def main(words: list[str]) -> int:
                 faults += run_alone(str(Path(simulator).resolve()), program, programs)
         case ["together", simulator, *names]:
             faults += run_together(str(Path(simulator).resolve()), chosen(programs, names), programs)
+        case ["names"]:
+            print("\n".join(program.name for program in programs))
+            return 0
         case ["table"]:
             print("\n".join(rows(programs)))
         case ["table", "--write"]:
