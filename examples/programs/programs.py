@@ -27,9 +27,11 @@ HERE = Path(__file__).resolve().parent
 LIBRARY = HERE.parent / "guests/lib"
 PLACE = Path(os.environ.get("XM_PROGRAMS") or Path(os.environ.get("XDG_CACHE_HOME") or Path.home() / ".cache") / "xm_run-programs")
 MADE = PLACE / "made"
+# Some programs print the names of their sources, which are not to depend on the folder.
+NAMES_FLAG = f"-fmacro-prefix-map={PLACE}/="
 # What this machine executes needs no optimization.
-NATIVE_FLAGS = ["-O0", "-w", "-D_DEFAULT_SOURCE", "-ffp-contract=off"]
-PARTITION_FLAGS = ["-O2", "-w", "-ffp-contract=off"]
+NATIVE_FLAGS = ["-O0", "-w", "-D_DEFAULT_SOURCE", "-ffp-contract=off", NAMES_FLAG]
+PARTITION_FLAGS = ["-O2", "-w", "-ffp-contract=off", NAMES_FLAG]
 CPP_FLAGS = ["-fno-exceptions", "-fno-rtti", "-fno-threadsafe-statics"]
 FIRST_AREA = 0x40100000
 # The most ticks of a run: a program that halted costs none.
