@@ -25,7 +25,7 @@ use verdict::Verdict;
 const WORKED: &str = "worked.toml";
 
 // The files of cases, in the order in which they are done.
-const BOOKS: [&str; 30] = [
+const BOOKS: [&str; 31] = [
     "differing.toml",
     "raw_images.toml",
     "descriptions.toml",

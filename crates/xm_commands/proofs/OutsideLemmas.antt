@@ -11,6 +11,7 @@ use Rattle.xm_base.specs.Options.{on}
 use Rattle.xm_base.specs.declared.limits.TheConstants.{FILE_BYTES, IMAGE_BYTES, TICKS}
 use Rattle.xm_outside.specs.Causes.{counted}
 use Rattle.xm_outside.specs.Files.{Files, OthersStay, stored}
+use Rattle.upset_model.specs.declared.upset_line.UpsetLine.{UpsetLine}
 use Rattle.command_line.specs.Words.{Command, PartFile, RunOption, Bare, Parse, Upgrade, BuildImage, ReadImage, Pack, ListContainer, CheckContainer, MakePlan, CheckPlan, ListGroups, ListSteerers, Generate, Run, Replay, ReplayFiles, cores_in, replay_core, replay_input, scripts_in, span_in}
 use Rattle.xm_container.specs.Reading.{unpacked}
 use Rattle.fault_messages.specs.declared.fault.BoxFault.{BoxFault}
@@ -24,7 +25,7 @@ use Rattle.file_commands.specs.Inputs.{no_inputs}
 use Rattle.file_commands.specs.Packing.{container_of}
 use Rattle.builders.specs.Ready.{Replay as Readied, Unready, replay_of}
 use Rattle.file_commands.specs.Denial.{Denial}
-use Rattle.file_commands.specs.Outcome.{Outcome, Output, bare_outcome, content, converted, first_long, input_bytes, outcome_of_file, outcome_of_print, packed_to, played, outcome_of_run, ran_for, ran_scripted, ran_with, ran_within, command_refused, refused_by, replay_outcome_by, replay_outcome, run_by, run_outcome, inputs_of, outcome_of, scripts_for, ticks_asked, unless_long, outcome_of_contents}
+use Rattle.file_commands.specs.Outcome.{Outcome, Output, bare_outcome, content, converted, first_long, input_bytes, outcome_of_file, outcome_of_print, packed_to, played, outcome_of_run, ran_for, ran_scripted, ran_struck, ran_with, ran_within, command_refused, refused_by, replay_outcome_by, replay_outcome, run_by, run_outcome, inputs_of, outcome_of, scripts_for, ticks_asked, unless_long, upsets_for, outcome_of_contents}
 use Rattle.xm_commands.specs.Top.{AreContents}
 use Rattle.file_commands.specs.Work.{counted_by, Outside, ReadsFiles, wrote}
 use Rattle.file_commands.specs.lemmas.CommandLemmas.{outcome-long}
@@ -96,40 +97,50 @@ packed-denied file (Ok bytes) denial e = absurd (cc)
 packed-denied file (Err refusal) denial e = same_refusal refusal denial e
 
 -- a run of a system is not refused
-ran-denied : (ticks : ℕ) (cores : List PartFile) (scripts : List Output) (system : System) (inputs : List (List ℕ)) (denial : Denial) → (outcome_of_run ticks cores scripts system inputs).denial ≡ Some denial → ⊥
+ran-denied : (upsets : List UpsetLine) (ticks : ℕ) (cores : List PartFile) (scripts : List Output) (system : System) (inputs : List (List ℕ)) (denial : Denial) → (outcome_of_run upsets ticks cores scripts system inputs).denial ≡ Some denial → ⊥
 unfolding outcome_of_run
-ran-denied ticks cores scripts system inputs denial e = cc
+ran-denied upsets ticks cores scripts system inputs denial e = cc
 
 -- a run of an image is refused so, or not at all
 bare-denied : (file : List ℕ) (ticks : ℕ) (image : List ℕ) (denial : Denial) → (bare_outcome file ticks image).denial ≡ Some denial → bare_outcome file ticks image ≡ refused_by denial
 unfolding bare_outcome
 bare-denied file ticks image denial e = at ((length image == 0) || nat_lt IMAGE_BYTES (length image)) e
   where
-    at : (t : Bool) → (if t then command_refused file (length_text (length image)) else outcome_of_run ticks [] [] (bare_system image) (no_inputs 1)).denial ≡ Some denial → (if t then command_refused file (length_text (length image)) else outcome_of_run ticks [] [] (bare_system image) (no_inputs 1)) ≡ refused_by denial
+    at : (t : Bool) → (if t then command_refused file (length_text (length image)) else outcome_of_run [] ticks [] [] (bare_system image) (no_inputs 1)).denial ≡ Some denial → (if t then command_refused file (length_text (length image)) else outcome_of_run [] ticks [] [] (bare_system image) (no_inputs 1)) ≡ refused_by denial
     at true e = same_refusal _ denial e
-    at false e = absurd (ran-denied ticks [] [] (bare_system image) (no_inputs 1) denial e)
+    at false e = absurd (ran-denied [] ticks [] [] (bare_system image) (no_inputs 1) denial e)
 
 -- and so is a run whose scripts may be too long
-scripted-denied : (ticks : ℕ) (cores : List PartFile) (system : System) (inputs : List (List ℕ)) (scripts : Result (List Output) Denial) (denial : Denial) → (ran_scripted ticks cores system inputs scripts).denial ≡ Some denial → ran_scripted ticks cores system inputs scripts ≡ refused_by denial
-scripted-denied ticks cores system inputs (Ok scripts) denial e = absurd (ran-denied ticks cores scripts system inputs denial e)
-scripted-denied ticks cores system inputs (Err refusal) denial e = same_refusal refusal denial e
+scripted-denied : (upsets : List UpsetLine) (ticks : ℕ) (cores : List PartFile) (system : System) (inputs : List (List ℕ)) (scripts : Result (List Output) Denial) (denial : Denial)
+    → (ran_scripted upsets ticks cores system inputs scripts).denial ≡ Some denial → ran_scripted upsets ticks cores system inputs scripts ≡ refused_by denial
+scripted-denied upsets ticks cores system inputs (Ok scripts) denial e = absurd (ran-denied upsets ticks cores scripts system inputs denial e)
+scripted-denied upsets ticks cores system inputs (Err refusal) denial e = same_refusal refusal denial e
+
+-- and a run whose upsets may be refused
+struck-denied : (ticks : ℕ) (options : List RunOption) (system : System) (inputs : List (List ℕ)) (given : Result (List UpsetLine) Denial) (denial : Denial)
+    → (ran_struck ticks options system inputs given).denial ≡ Some denial → ran_struck ticks options system inputs given ≡ refused_by denial
+struck-denied ticks options system inputs (Ok upsets) denial e = scripted-denied upsets ticks (cores_in options) system inputs (scripts_for upsets (with_inputs system inputs) ticks (scripts_in options)) denial e
+struck-denied ticks options system inputs (Err refusal) denial e = same_refusal refusal denial e
 
 -- and a run that may be too long
-within-denied : (file : List ℕ) (options : List RunOption) (system : System) (inputs : List (List ℕ)) (denial : Denial) → (ran_within file options system inputs).denial ≡ Some denial → ran_within file options system inputs ≡ refused_by denial
+within-denied : (file : List ℕ) (options : List RunOption) (contents : List (List ℕ)) (system : System) (inputs : List (List ℕ)) (denial : Denial)
+    → (ran_within file options contents system inputs).denial ≡ Some denial → ran_within file options contents system inputs ≡ refused_by denial
 unfolding ran_within
-within-denied file options system inputs denial e = at (ticks_asked (span_in options) system.conf) e
+within-denied file options contents system inputs denial e = at (ticks_asked (span_in options) system.conf) e
   where
-    by : (asked : ℕ) (t : Bool) (scripts : Result (List Output) Denial) → (if t then command_refused file (ticks_text asked) else ran_scripted asked (cores_in options) system inputs scripts).denial ≡ Some denial → (if t then command_refused file (ticks_text asked) else ran_scripted asked (cores_in options) system inputs scripts) ≡ refused_by denial
-    by asked true scripts e = same_refusal _ denial e
-    by asked false scripts e = scripted-denied asked (cores_in options) system inputs scripts denial e
+    by : (asked : ℕ) (t : Bool) (given : Result (List UpsetLine) Denial) → (if t then command_refused file (ticks_text asked) else ran_struck asked options system inputs given).denial ≡ Some denial
+        → (if t then command_refused file (ticks_text asked) else ran_struck asked options system inputs given) ≡ refused_by denial
+    by asked true given e = same_refusal _ denial e
+    by asked false given e = struck-denied asked options system inputs given denial e
 
-    at : (asked : ℕ) → (ran_for file asked options system inputs).denial ≡ Some denial → ran_for file asked options system inputs ≡ refused_by denial
-    at asked e = by asked (nat_lt TICKS asked) (scripts_for (with_inputs system inputs) asked (scripts_in options)) e
+    at : (asked : ℕ) → (ran_for file asked options contents system inputs).denial ≡ Some denial → ran_for file asked options contents system inputs ≡ refused_by denial
+    at asked e = by asked (nat_lt TICKS asked) (upsets_for system.conf asked options contents) e
 
 -- and a run whose inputs may be refused
-with-denied : (file : List ℕ) (options : List RunOption) (system : System) (read : Result (List (List ℕ)) Denial) (denial : Denial) → (ran_with file options system read).denial ≡ Some denial → ran_with file options system read ≡ refused_by denial
-with-denied file options system (Ok inputs) denial e = within-denied file options system inputs denial e
-with-denied file options system (Err refusal) denial e = same_refusal refusal denial e
+with-denied : (file : List ℕ) (options : List RunOption) (contents : List (List ℕ)) (system : System) (read : Result (List (List ℕ)) Denial) (denial : Denial)
+    → (ran_with file options contents system read).denial ≡ Some denial → ran_with file options contents system read ≡ refused_by denial
+with-denied file options contents system (Ok inputs) denial e = within-denied file options contents system inputs denial e
+with-denied file options contents system (Err refusal) denial e = same_refusal refusal denial e
 
 -- and a run of a container
 run-denied : (file : List ℕ) (options : List RunOption) (bytes : List ℕ) (contents : List (List ℕ)) (denial : Denial) → (run_outcome file options bytes contents).denial ≡ Some denial → run_outcome file options bytes contents ≡ refused_by denial
@@ -137,7 +148,7 @@ unfolding run_outcome
 run-denied file options bytes contents denial e = at (unpacked bytes) e
   where
     at : (read : Result System BoxFault) → (run_by file options contents read).denial ≡ Some denial → run_by file options contents read ≡ refused_by denial
-    at (Ok system) e = with-denied file options system _ denial e
+    at (Ok system) e = with-denied file options contents system _ denial e
     at (Err fault) e = same_refusal _ denial e
 
 -- and a replay
