@@ -121,7 +121,7 @@ module _ (container : List ℕ) (options : List RunOption) (contents : List (Lis
       ≡ (if t then command_refused container (ticks_text (ticks_asked (span_in options) system.conf))
       else ran_struck (ticks_asked (span_in options) system.conf) options system inputs (upsets_for system.conf (ticks_asked (span_in options) system.conf) options (drop 1 contents))) → WasRan container options contents
   by_ticks short system unpacks inputs given true over same = absurd (never _ same)
-  by_ticks short system unpacks inputs given false within same = 
+  by_ticks short system unpacks inputs given false within same =
       by_scripts short system unpacks inputs given (grind (arith, nat_tests)) (scripts_for [] (with_inputs system inputs) (ticks_asked (span_in options) system.conf) (scripts_in options)) refl
       (same ∙ ap (ran_struck (ticks_asked (span_in options) system.conf) options system inputs) (none_given options (drop 1 contents) system unstruck))
 

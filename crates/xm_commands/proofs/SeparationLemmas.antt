@@ -305,7 +305,7 @@ container_by Did Shows container options contents before after are receives neve
         → Did (ran_with container options (drop 1 contents) system read) → ContainerAlone Shows contents container options before after
     given system unpacks (Ok inputs) reads done =
         let shown : (upsets : List UpsetLine) → upsets_given options (drop 1 contents) system ≡ Ok upsets
-            → Did (ran_to upsets (ticks_asked (span_in options) system.conf) (cores_in options) (scripts_in options) system inputs) → ContainerAlone Shows contents container options before after =
+        → Did (ran_to upsets (ticks_asked (span_in options) system.conf) (cores_in options) (scripts_in options) system inputs) → ContainerAlone Shows contents container options before after =
         λ upsets striking run. record {
           are = are;
           system = system;
@@ -315,7 +315,7 @@ container_by Did Shows container options contents before after are receives neve
           upsets = upsets;
           striking = striking;
           numbers = λ files known.
-          receives files known contents (subst (λ (o : Option Files). AreContents o (Run container options) contents) known are) system inputs upsets unpacks reads striking;
+              receives files known contents (subst (λ (o : Option Files). AreContents o (Run container options) contents) known are) system inputs upsets unpacks reads striking;
           shows = shows upsets system inputs (ticks_asked (span_in options) system.conf) (cores_in options) (scripts_in options) (given_inside (length system.conf.parts) options (drop 1 contents) inputs reads) run;
         } in
         within_by Did container options (drop 1 contents) system inputs never shown done
