@@ -26,6 +26,7 @@ _xm_run_after_option() {
         run:--frames | run:--ticks) ;;
         run:--input | run:--core) _xm_run_part_file ;;
         run:--script) _xm_run_part_file scr ;;
+        run:--upset) _xm_run_files ;;
         alone:--input | alone:--core) _xm_run_files ;;
         *) return 1 ;;
     esac
@@ -38,6 +39,7 @@ _xm_run_run() {
             _xm_run_after_option && return
             local options='--input --core --script'
             [[ " ${words[*]} " == *' --frames '* || " ${words[*]} " == *' --ticks '* ]] || options+=' --frames --ticks'
+            [[ " ${words[*]} " == *' --upset '* ]] || options+=' --upset'
             _xm_run_words "$options"
             ;;
     esac

@@ -44,7 +44,7 @@ _xm_value() {
 
 _xm_options() {
     case $1 in
-        run) _xm_words '--frames --ticks --input --core --script --report' ;;
+        run) _xm_words '--frames --ticks --input --core --script --upset --report' ;;
         expect) _xm_words '--names --junit' ;;
         compare) _xm_words '--names' ;;
         export) _xm_words '--json --csv --vcd --perfetto --system' ;;
