@@ -1,28 +1,32 @@
 -- What ticks of a replay show, and that it is kept.
-use Rattle.std.proofs.Common.{◌≡◌, ℕ, ◌+◌, ◌≤◌, false, List, [], ◌∷◌, ◌++◌, drop, length, take, Option, Some, None, Result, Ok, Err, refl, sym, ap, subst, ◌∙◌, arith, append_assoc, length-append}
+use Rattle.std.proofs.Common.{◌≡◌, ℕ, ◌+◌, ◌≤◌, false, List, [], ◌∷◌, ◌++◌, drop, length, map, suc, take, Option, Some, None, Result, Ok, Err, refl, sym, ap, subst, ◌∙◌, arith, append_assoc, length-append}
 use Rattle.std.proofs.Math.Seq.{drop-append_seam, take-append_seam, take-length}
 use Rattle.std.proofs.lemmas.List.{append-nil, drop-append-le, drop_all, length-drop, take-append-drop, take-append-le, take_all}
 use Rattle.std.specs.Prelude.{IfSome}
 use Rattle.xm_report.specs.Report.{ReportLine, texts}
-use Rattle.machine_model.specs.Alone.{Alone, alone_from, alone_lines, alone_said, alone_start, alone_step, alone_step_lines, alone_step_said}
+use Rattle.machine_model.specs.Alone.{Alone, alone_lines, alone_step, alone_step_lines, alone_step_said}
 use Rattle.machine_model.specs.Cue.{Cue}
 use Rattle.machine_model.specs.Machine.{Machine}
 use Rattle.machine_model.specs.View.{PartitionView, System, view_of}
 use Rattle.replay_model.specs.Passes.{part_in}
 use Rattle.replay_tick.specs.LoneSpan.{AreSilent}
-use Rattle.recording_model.specs.Lone.{Lone, booted_alone}
+use Rattle.recording_model.specs.Lone.{booted_alone}
 use Rattle.recording_model.specs.Replayed.{replayed}
-use Rattle.replay_model.specs.Taking.{first_untaken}
-use Rattle.xm_machine.specs.AloneStep.{KeepsSaid, StepsAlone}
+use Rattle.upset_model.specs.Places.{Timetable}
+use Rattle.upset_model.specs.Reports.{struck_line}
+use Rattle.upset_model.specs.Upsets.{alone_upset_from, later}
+use Rattle.upset_model.specs.lemmas.Segments.{AreNone, from}
+use Rattle.upset_model.specs.declared.upset_line.UpsetLine.{UpsetLine}
 use Rattle.xm_machine.specs.declared.alone_span.AloneFault.{AloneFault}
 use Rattle.xm_machine.specs.declared.alone_span.AloneFault.TheVariants as fault
 use Rattle.xm_alone.specs.Replay.{IsReplayed, halted_by, lone_in}
 use Rattle.xm_alone.specs.Shown.{ShownTick, shown_by, shown_from, shown_tick}
 use Rattle.xm_alone.specs.Kept.{AreSized, IsKept, kept_ticks, said_size, text_size, ticks_in}
 use Rattle.xm_alone.specs.lemmas.Kept.{KeepsShown, KeepsTick, KeepsTicks}
+use Rattle.xm_alone.specs.lemmas.Struck.{KeepsStruck, StepsStruck, tick_after, tick_lines, tick_said}
 use Rattle.xm_alone.specs.declared.keeping.Extent.{Extent}
 use Rattle.xm_alone.specs.declared.keeping.Kept.{Kept}
-use Rattle.xm_alone.proofs.FollowLemmas.{IsFitting, said_more}
+use Rattle.xm_alone.proofs.FollowLemmas.{IsFitting, from_here, no_strikes, none_followed, none_from, strikes_of, struck_none}
 use Rattle.xm_alone.proofs.SilentLemmas.{first_none, second_none}
 
 -- what a tick shows that has this text and these console bytes
@@ -30,82 +34,84 @@ abbrev pub tick_of : List ℕ → List ℕ → ShownTick
 tick_of text said = record { text = text; said = said }
 
 -- cues of two parts
-pub shown_add : (view : PartitionView) (a : Alone) (xs ys : List Cue) → shown_from view a (xs ++ ys) ≡ shown_from view a xs ++ shown_from view (alone_from view a xs) ys
-shown_add view a [] ys = refl
-shown_add view a (x ∷ xs) ys =
-    let first = shown_tick (texts (alone_step_lines view a x)) (alone_step_said view a x) in
-    ap (λ later. first ++ later) (shown_add view (alone_step view a x) xs ys)
-    ∙ sym (append_assoc first (shown_from view (alone_step view a x) xs) (shown_from view (alone_from view (alone_step view a x) xs) ys))
+pub shown_add : (view : PartitionView) (t : Timetable) (a : Alone) (xs ys : List Cue)
+    → shown_from view t a (xs ++ ys) ≡ shown_from view t a xs ++ shown_from view (from (length xs) t) (alone_upset_from view (strikes_of t) a xs) ys
+shown_add view t a [] ys = refl
+shown_add view t a (x ∷ xs) ys =
+    let first = shown_tick (texts (tick_lines view (t 0) a x)) (tick_said view (t 0) a x) in
+    let next = tick_after view (t 0) a x in
+    ap (λ rest. first ++ rest) (shown_add view (later t) next xs ys)
+    ∙ sym (append_assoc first (shown_from view (later t) next xs) (shown_from view (from (length xs) (later t)) (alone_upset_from view (strikes_of (later t)) next xs) ys))
 
--- cues that print nothing show nothing
-pub silent_shows : (view : PartitionView) (a : Alone) (cues : List Cue) → alone_lines view a cues ≡ [] → shown_from view a cues ≡ []
-silent_shows view a [] none = refl
-silent_shows view a (cue ∷ later) none =
-    ap (λ (lines : List ReportLine). shown_tick (texts lines) (alone_step_said view a cue) ++ shown_from view (alone_step view a cue) later)
-    (first_none (alone_step_lines view a cue) (alone_lines view (alone_step view a cue) later) none)
-    ∙ silent_shows view (alone_step view a cue) later (second_none (alone_step_lines view a cue) (alone_lines view (alone_step view a cue) later) none)
+-- cues that print nothing, before which nothing strikes, show nothing
+pub silent_shows : (view : PartitionView) (t : Timetable) (a : Alone) (cues : List Cue) → AreNone (length cues) t → alone_lines view a cues ≡ [] → shown_from view t a cues ≡ []
+silent_shows view t a [] none empty = refl
+silent_shows view t a (cue ∷ cues) none empty =
+    let none_now : t 0 ≡ [] = none 0 (omega arith) in
+    ap (λ (ls : List UpsetLine). shown_tick (texts (tick_lines view ls a cue)) (tick_said view ls a cue) ++ shown_from view (later t) (tick_after view ls a cue) cues) none_now
+    ∙ ap (λ (b : Alone). shown_tick (texts (alone_step_lines view b cue)) (alone_step_said view b cue) ++ shown_from view (later t) (alone_step view b cue) cues) (struck_none a)
+    ∙ ap (λ (lines : List ReportLine). shown_tick (texts lines) (alone_step_said view a cue) ++ shown_from view (later t) (alone_step view a cue) cues)
+    (first_none (alone_step_lines view a cue) (alone_lines view (alone_step view a cue) cues) empty)
+    ∙ silent_shows view (later t) (alone_step view a cue) cues (λ k below. none (suc k) (omega (arith, below))) (second_none (alone_step_lines view a cue) (alone_lines view (alone_step view a cue) cues) empty)
 
 -- what silent cues and one more show is what that one shows
-last_shown : (p : ℕ) (quiet : List Cue) (cue : Cue) (old before : Machine) → AreSilent p quiet old before
-    → shown_from (view_of old.system p) (part_in old p) (quiet ++ cue ∷ []) ≡ shown_tick (texts (alone_step_lines (view_of before.system p) (part_in before p) cue)) (alone_step_said (view_of before.system p) (part_in before p) cue)
-last_shown p quiet cue old before silent =
+last_shown : (p : ℕ) (t : Timetable) (quiet : List Cue) (cue : Cue) (old before : Machine) → AreNone (length quiet) t → AreSilent p quiet old before
+    → shown_from (view_of old.system p) t (part_in old p) (quiet ++ cue ∷ [])
+    ≡ shown_tick (texts (tick_lines (view_of before.system p) (t (length quiet)) (part_in before p) cue)) (tick_said (view_of before.system p) (t (length quiet)) (part_in before p) cue)
+last_shown p t quiet cue old before none silent =
     let view = view_of old.system p in
-    let last = shown_tick (texts (alone_step_lines view (alone_from view (part_in old p) quiet) cue)) (alone_step_said view (alone_from view (part_in old p) quiet) cue) in
-    shown_add view (part_in old p) quiet (cue ∷ [])
-    ∙ ap (λ (first : List ShownTick). first ++ (last ++ [])) (silent_shows view (part_in old p) quiet silent.lines)
-    ∙ append-nil last
-    ∙ ap (λ (a : Alone). shown_tick (texts (alone_step_lines view a cue)) (alone_step_said view a cue)) (sym silent.part)
-    ∙ ap (λ (system : System). shown_tick (texts (alone_step_lines (view_of system p) (part_in before p) cue)) (alone_step_said (view_of system p) (part_in before p) cue)) (sym silent.system.system)
-
--- and so are the console bytes
-last_said : (p : ℕ) (quiet : List Cue) (cue : Cue) (old before : Machine) → AreSilent p quiet old before
-    → alone_said (view_of old.system p) (part_in old p) (quiet ++ cue ∷ []) ≡ alone_step_said (view_of before.system p) (part_in before p) cue
-last_said p quiet cue old before silent =
-    let view = view_of old.system p in
-    said_more view (part_in old p) quiet cue
-    ∙ ap (λ (first : List ℕ). first ++ alone_step_said view (alone_from view (part_in old p) quiet) cue) silent.said
-    ∙ ap (λ (a : Alone). alone_step_said view a cue) (sym silent.part)
-    ∙ ap (λ (system : System). alone_step_said (view_of system p) (part_in before p) cue) (sym silent.system.system)
+    let here = λ (v : PartitionView) (ls : List UpsetLine) (a : Alone). shown_tick (texts (tick_lines v ls a cue)) (tick_said v ls a cue) in
+    let left = alone_upset_from view (strikes_of t) (part_in old p) quiet in
+    let same : left ≡ part_in before p = none_from view (strikes_of t) (part_in old p) quiet (no_strikes t (length quiet) none) ∙ sym silent.part in
+    shown_add view t (part_in old p) quiet (cue ∷ [])
+    ∙ ap (λ (first : List ShownTick). first ++ (here view (from (length quiet) t 0) left ++ [])) (silent_shows view t (part_in old p) quiet none silent.lines)
+    ∙ append-nil (here view (from (length quiet) t 0) left)
+    ∙ ap (λ (ls : List UpsetLine). here view ls left) (from_here (length quiet) t)
+    ∙ ap (λ (a : Alone). here view (t (length quiet)) a) same
+    ∙ ap (λ (system : System). here (view_of system p) (t (length quiet)) (part_in before p)) (sym silent.system.system)
 
 -- what there is is one thing
 some_is : (a b : List ℕ) → Some a ≡ Some b → a ≡ b
 some_is a b same = cc
 
 -- a sink that keeps a text has what it had before
-pub first_kept : {T : Type 0} (ended : Result T AloneFault) (p : ℕ) (cue : Cue) (before new : Machine) (had got : List ℕ) → StepsAlone ended p cue before new (Some had) (Some got)
+pub first_kept : {T : Type 0} (ended : Result T AloneFault) (p : ℕ) (lines : List UpsetLine) (cue : Cue) (before new : Machine) (had got : List ℕ) → StepsStruck ended p lines cue before new (Some had) (Some got)
     → (rest : List ℕ) × (got ≡ had ++ rest)
-first_kept (Ok done) p cue before new had got step =
-    (texts (alone_step_lines (view_of before.system p) (part_in before p) cue), some_is got (had ++ texts (alone_step_lines (view_of before.system p) (part_in before p) cue)) step.1)
-first_kept (Err fault.Write) p cue before new had got step =
-    let bytes = texts (alone_step_lines (view_of before.system p) (part_in before p) cue) in
+first_kept (Ok done) p lines cue before new had got step =
+    let bytes = texts (tick_lines (view_of before.system p) lines (part_in before p) cue) in
+    (bytes, some_is got (had ++ bytes) step.1)
+first_kept (Err fault.Write) p lines cue before new had got step =
+    let bytes = texts (tick_lines (view_of before.system p) lines (part_in before p) cue) in
     (take step.1.count bytes, some_is got (had ++ take step.1.count bytes) step.1.grew)
-first_kept (Err fault.Cue) p cue before new had got step = ([], some_is got had step.1 ∙ sym (append-nil had))
+first_kept (Err fault.Cue) p lines cue before new had got step =
+    let bytes = texts (map struck_line lines) in
+    (take step.1.count bytes, some_is got (had ++ take step.1.count bytes) step.1.grew)
 
 -- so its first bytes are those before
-module _ {T : Type 0} (ended : Result T AloneFault) (p : ℕ) (cue : Cue) (before new : Machine) (had got : List ℕ) (step : StepsAlone ended p cue before new (Some had) (Some got)) where
+module _ {T : Type 0} (ended : Result T AloneFault) (p : ℕ) (lines : List UpsetLine) (cue : Cue) (before new : Machine) (had got : List ℕ) (step : StepsStruck ended p lines cue before new (Some had) (Some got)) where
   pub first_within : length had ≤ length got
   first_within =
-      let more = first_kept ended p cue before new had got step in
+      let more = first_kept ended p lines cue before new had got step in
       omega (arith, ap (λ (bytes : List ℕ). length bytes) more.1, length-append had more.0)
 
   pub first_same : take (length had) got ≡ had
   first_same =
-      let more = first_kept ended p cue before new had got step in
+      let more = first_kept ended p lines cue before new had got step in
       ap (take (length had)) more.1 ∙ take-append_seam had more.0
 
 -- what ticks that were followed show is kept
-pub ticks_kept : {T : Type 0} (ended : Result T AloneFault) (p : ℕ) (quiet : List Cue) (cue : Cue) (old before new : Machine) (had got said emitted : List ℕ) (begun : ℕ) (kept mid : Kept) (after : Option Kept)
-    → AreSilent p quiet old before → StepsAlone ended p cue before new (Some had) (Some got) → KeepsSaid ended p (quiet ++ cue ∷ []) old said
+pub ticks_kept : {T : Type 0} (ended : Result T AloneFault) (p : ℕ) (t : Timetable) (quiet : List Cue) (cue : Cue) (old before new : Machine) (had got said emitted : List ℕ) (begun : ℕ) (kept mid : Kept) (after : Option Kept)
+    → AreNone (length quiet) t → AreSilent p quiet old before → StepsStruck ended p (t (length quiet)) cue before new (Some had) (Some got) → KeepsStruck ended p (t (length quiet)) cue before said
     → kept.text.bytes.items ≡ had → mid.text.bytes.items ≡ got → mid.ticks.items ≡ kept.ticks.items → mid.said.items ≡ kept.said.items → begun ≡ length had → emitted ≡ said
-    → KeepsTicks ended begun emitted mid after → KeepsShown (Some kept) after (shown_from (view_of old.system p) (part_in old p) (quiet ++ cue ∷ []))
-ticks_kept ended p quiet cue old before new had got said emitted begun kept mid None silent step bytes had_is got_is ticks_are said_is begun_is emitted_is keeps = tt
-ticks_kept (Err why) p quiet cue old before new had got said emitted begun kept mid (Some after) silent step bytes had_is got_is ticks_are said_is begun_is emitted_is keeps = absurd keeps
-ticks_kept (Ok done) p quiet cue old before new had got said emitted begun kept mid (Some after) silent step bytes had_is got_is ticks_are said_is begun_is emitted_is keeps =
-    let printed = texts (alone_step_lines (view_of before.system p) (part_in before p) cue) in
+    → KeepsTicks ended begun emitted mid after → KeepsShown (Some kept) after (shown_from (view_of old.system p) t (part_in old p) (quiet ++ cue ∷ []))
+ticks_kept ended p t quiet cue old before new had got said emitted begun kept mid None none silent step bytes had_is got_is ticks_are said_is begun_is emitted_is keeps = tt
+ticks_kept (Err why) p t quiet cue old before new had got said emitted begun kept mid (Some after) none silent step bytes had_is got_is ticks_are said_is begun_is emitted_is keeps = absurd keeps
+ticks_kept (Ok done) p t quiet cue old before new had got said emitted begun kept mid (Some after) none silent step bytes had_is got_is ticks_are said_is begun_is emitted_is keeps =
+    let printed = texts (tick_lines (view_of before.system p) (t (length quiet)) (part_in before p) cue) in
     let got_more : got ≡ had ++ printed = some_is got (had ++ printed) step.1 in
     let first : take begun mid.text.bytes.items ≡ kept.text.bytes.items = ap (λ n. take n mid.text.bytes.items) begun_is ∙ ap (take (length had)) (got_is ∙ got_more) ∙ take-append_seam had printed ∙ sym had_is in
     let last : drop begun mid.text.bytes.items ≡ printed = ap (λ n. drop n mid.text.bytes.items) begun_is ∙ ap (drop (length had)) (got_is ∙ got_more) ∙ drop-append_seam had printed in
-    let says : emitted ≡ alone_step_said (view_of before.system p) (part_in before p) cue = emitted_is ∙ bytes ∙ last_said p quiet cue old before silent in (
+    let says : emitted ≡ tick_said (view_of before.system p) (t (length quiet)) (part_in before p) cue = emitted_is ∙ bytes in (
       keeps.sized,
       keeps.ticks
           ∙ ap (λ (es : List Extent). ticks_in es (take begun mid.text.bytes.items) mid.said.items ++ shown_tick (drop begun mid.text.bytes.items) emitted) ticks_are
@@ -113,7 +119,7 @@ ticks_kept (Ok done) p quiet cue old before new had got said emitted begun kept 
           ∙ ap (λ (ts : List ℕ). ticks_in kept.ticks.items ts kept.said.items ++ shown_tick (drop begun mid.text.bytes.items) emitted) first
           ∙ ap (λ (ts : List ℕ). kept_ticks kept ++ shown_tick ts emitted) last
           ∙ ap (λ (ss : List ℕ). kept_ticks kept ++ shown_tick printed ss) says
-          ∙ ap (λ (more : List ShownTick). kept_ticks kept ++ more) (sym (last_shown p quiet cue old before silent)),
+          ∙ ap (λ (more : List ShownTick). kept_ticks kept ++ more) (sym (last_shown p t quiet cue old before none silent)),
     )
 
 -- what is kept, if anything, is this
@@ -126,47 +132,34 @@ keeps_on None (Some after) all shows had keeps = absurd keeps
 keeps_on (Some before) (Some after) all shows had keeps = (keeps.0, keeps.1 ∙ ap (λ (first : List ShownTick). first ++ shows) had.1)
 
 -- partition p can take the first cues of a script, these are left, the next has this number, and what was shown is kept, if anything
-pub record IsKeeping (p tick : ℕ) (cues left : List Cue) (old now : Machine) (kept : Option Kept) : Type 0 where
-  pub fitting : IsFitting p tick cues left old now
-  pub shown : AllKept kept (shown_by (view_of old.system p) fitting.before)
+pub record IsKeeping (upsets : List UpsetLine) (p tick : ℕ) (cues left : List Cue) (old now : Machine) (kept : Option Kept) : Type 0 where
+  pub fitting : IsFitting upsets p tick cues left old now
+  pub shown : AllKept kept (shown_by upsets (view_of old.system p) fitting.before)
 
 -- none was done yet
-pub none_kept : (p : ℕ) (cues left : List Cue) (g : Machine) (kept : Kept) → left ≡ cues → lone_in g p ≡ booted_alone g.system p → IsKept kept → kept_ticks kept ≡ [] → IsKeeping p 0 cues left g g (Some kept)
-none_kept p cues left g kept all fresh sized empty =
-    let view = view_of g.system p in
-    let part : part_in g p ≡ alone_start view = ap (λ (lone : Lone). lone.part) fresh in
-    record {
-      fitting = record {
-        before = [];
-        following = record {
-          split = all;
-          system = record { system = refl; parts = refl };
-          part = part;
-          halted = ap (λ (lone : Lone). lone.halted) fresh;
-          untaken = ap (first_untaken view (alone_start view) 0) (sym all) ∙ ap (λ (a : Alone). first_untaken view a 0 left) (sym part);
-        };
-        count = refl;
-      };
-      shown = (sized, empty);
-    }
+pub none_kept : (upsets : List UpsetLine) (p : ℕ) (cues left : List Cue) (g : Machine) (kept : Kept) → left ≡ cues → lone_in g p ≡ booted_alone g.system p → IsKept kept → kept_ticks kept ≡ [] → IsKeeping upsets p 0 cues left g g (Some kept)
+none_kept upsets p cues left g kept all fresh sized empty = record {
+  fitting = record { before = []; following = none_followed upsets p cues left g all fresh; count = refl };
+  shown = (sized, empty);
+}
 
 -- all were done
-module _ (p tick : ℕ) (cues left : List Cue) (old now : Machine) (kept : Option Kept) (none : left ≡ []) (is : IsKeeping p tick cues left old now kept) where
+module _ (upsets : List UpsetLine) (p tick : ℕ) (cues left : List Cue) (old now : Machine) (kept : Option Kept) (none : left ≡ []) (is : IsKeeping upsets p tick cues left old now kept) where
   before_all : is.fitting.before ≡ cues
   before_all = sym (append-nil is.fitting.before) ∙ ap (λ (rest : List Cue). is.fitting.before ++ rest) (sym none) ∙ is.fitting.following.split
 
-  pub all_left : IsReplayed cues (lone_in old p) (lone_in now p)
+  pub all_left : IsReplayed upsets cues (lone_in old p) (lone_in now p)
   all_left =
       let follows = is.fitting.following in
       record {
-        part = follows.part ∙ ap (replayed (view_of old.system p)) before_all;
+        part = follows.part ∙ ap (replayed upsets (view_of old.system p)) before_all;
         halted = follows.halted ∙ ap (halted_by false) before_all;
         system = follows.system.system;
         p = refl;
       }
 
-  pub all_shown : AllKept kept (shown_by (view_of old.system p) cues)
-  all_shown = subst (λ (done : List Cue). AllKept kept (shown_by (view_of old.system p) done)) before_all is.shown
+  pub all_shown : AllKept kept (shown_by upsets (view_of old.system p) cues)
+  all_shown = subst (λ (done : List Cue). AllKept kept (shown_by upsets (view_of old.system p) done)) before_all is.shown
 
 -- ticks of which one more is kept
 more_ticks : (ticks : List Extent) (last : Extent) (text said rest bytes : List ℕ) → AreSized ticks text said → last.text ≡ length rest → last.said ≡ length bytes

@@ -5,3 +5,5 @@ mod NextLemmas
 mod PlayLemmas
 mod ShownLemmas
 mod SilentLemmas
+mod ComingLemmas
+mod StruckLemmas

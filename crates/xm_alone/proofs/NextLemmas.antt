@@ -1,9 +1,9 @@
 -- A partition alone that follows many cues, all but the last of which are silent.
-use Rattle.std.proofs.Common.{◌≡◌, ℕ, zero, suc, ◌+◌, ◌-◌, ◌<◌, ◌≤◌, Bool, true, false, if◌then◌else◌, List, [], ◌∷◌, ◌++◌, length, replicate, Option, Some, None, Result, Ok, Err, refl, sym, ap, subst, ◌∙◌, arith, append_assoc, length-append}
+use Rattle.std.proofs.Common.{◌≡◌, ℕ, zero, suc, ◌+◌, ◌-◌, ◌<◌, ◌≤◌, Bool, true, false, if◌then◌else◌, List, [], ◌∷◌, ◌++◌, length, map, replicate, Option, Some, None, Result, Ok, Err, refl, sym, ap, subst, ◌∙◌, arith, append_assoc, length-append}
 use Rattle.std.proofs.lemmas.List.{append-nil, length-replicate}
 use Rattle.xm_outside.specs.Causes.{Rose}
 use Rattle.xm_outside.specs.Growth.{grown}
-use Rattle.xm_report.specs.Report.{texts}
+use Rattle.xm_report.specs.Report.{ReportLine, texts}
 use Rattle.uart_board.specs.Views.{BoardView}
 use Rattle.cue_scripts.specs.Entries.{bare_cue}
 use Rattle.cue_scripts.specs.Script.{HaltsLast, IsScript}
@@ -13,27 +13,33 @@ use Rattle.machine_model.specs.Lists.{is_number}
 use Rattle.machine_model.specs.Machine.{Machine}
 use Rattle.machine_model.specs.View.{PartitionView, System, part_of, view_of}
 use Rattle.replay_model.specs.Passes.{part_in}
-use Rattle.replay_model.specs.Step.{IsLone, IsOfSystem}
-use Rattle.replay_model.specs.Taking.{first_untaken, takes_cue}
+use Rattle.replay_model.specs.Step.{IsOfSystem}
+use Rattle.replay_model.specs.Taking.{takes_cue}
 use Rattle.replay_tick.specs.LoneSpan.{AreSilent, AreTaken}
 use Rattle.tick_steps.specs.CueValues.{cue_value}
 use Rattle.tick_steps.specs.declared.cue.Cue as code_cue
+use Rattle.upset_model.specs.Places.{Timetable, strike_of}
+use Rattle.upset_model.specs.Reports.{alone_reported}
+use Rattle.upset_model.specs.Upsets.{Strike, alone_struck, alone_upset_from, later}
+use Rattle.upset_model.specs.lemmas.Segments.{AreNone, from, from_at}
+use Rattle.upset_model.specs.declared.upset_line.UpsetLine.{UpsetLine}
 use Rattle.xm_machine.specs.AloneSpan.{SpansAlone}
-use Rattle.xm_machine.specs.AloneStep.{HasStepCause, IsSaidAlone, KeepsSaid, StepsAlone}
+use Rattle.xm_machine.specs.AloneStep.{IsSaidAlone, KeepsSaid, StepsAlone}
 use Rattle.xm_machine.specs.declared.alone_span.AloneFault.{AloneFault}
 use Rattle.xm_machine.specs.declared.alone_span.AloneFault.TheVariants as fault
-use Rattle.xm_alone.specs.lemmas.Cues.{ComesNext, Follows, FollowsSaid, IsNextCue, cues_left, next_cues, next_left}
-use Rattle.recording_model.specs.Replayed.{cue_lines, replayed}
+use Rattle.xm_alone.specs.lemmas.Cues.{ComesNext, FollowsSaid, IsNextCue, cues_left, next_cues, next_left}
+use Rattle.recording_model.specs.Replayed.{cue_lines, first_refused, first_untaken_struck, replayed, strikes_in}
 use Rattle.xm_alone.specs.Replay.{IsCutReplay, TakesAll, lone_in}
 use Rattle.xm_alone.specs.Shown.{shown_by, shown_from}
 use Rattle.xm_alone.specs.lemmas.Kept.{KeepsShown}
 use Rattle.xm_alone.specs.lemmas.ReplayTerms.{is_refused}
+use Rattle.xm_alone.specs.lemmas.Struck.{FollowsStruck, HasStruckCause, IsStruckLone, StepsStruck, own_at, script_said, tick_taken}
 use Rattle.recording_model.specs.Lone.{replay_said}
 use Rattle.xm_alone.specs.declared.cues.Cues as code
 use Rattle.xm_alone.specs.declared.cues.Next as code_next
 use Rattle.xm_alone.specs.declared.cues.Next.TheVariants as next
 use Rattle.xm_alone.specs.declared.keeping.Kept.{Kept}
-use Rattle.xm_alone.proofs.FollowLemmas.{IsFitting, IsFollowing, from_add, left_cue, left_runs, left_ticks, lines_add, one_after, one_followed, said_add, still_runs}
+use Rattle.xm_alone.proofs.FollowLemmas.{IsFitting, IsFollowing, cue_lines_add, from_add, from_from, from_here, left_cue, left_runs, left_ticks, none_from, none_lines, none_said, one_after, one_followed, said_add, still_runs, strikes_are, strikes_at, taken_many}
 use Rattle.xm_alone.proofs.KeptLemmas.{AllKept, IsKeeping, keeps_on, shown_add}
 use Rattle.xm_alone.proofs.PlayLemmas.{IsPlaying, heard_as, one_cut, one_played}
 
@@ -93,84 +99,108 @@ other_follows ended p cue old new had got begun board said runs step heard kept 
   kept = kept;
 }
 
--- cues that the partition takes are none that it does not
-taken_many : (view : PartitionView) (a : Alone) (tick : ℕ) (xs ys : List Cue) → AreTaken view a xs → first_untaken view a tick (xs ++ ys) ≡ first_untaken view (alone_from view a xs) (tick + length xs) ys
-taken_many view a tick [] ys taken = ap (λ n. first_untaken view a n ys) (none tick)
-  where
-    none : (n : ℕ) → n ≡ n + 0
-    none n = omega arith
-taken_many view a tick (x ∷ xs) ys taken =
-    ap (λ takes. if takes then first_untaken view (alone_step view a x) (suc tick) (xs ++ ys) else Some tick) taken.0
-    ∙ taken_many view (alone_step view a x) (suc tick) xs ys taken.1 ∙ ap (λ n. first_untaken view (alone_from view (alone_step view a x) xs) n ys) (more tick (length xs))
-  where
-    more : (i n : ℕ) → suc i + n ≡ i + suc n
-    more i n = omega arith
+-- a partition's own lines from some ticks on, none of which comes before silent cues: nothing strikes it there
+none_from_there : (upsets : List UpsetLine) (view : PartitionView) (before : List Cue) (n : ℕ) → AreNone n (from (length before) (own_at upsets view)) → AreNone n (from (length before) (strikes_in upsets view))
+none_from_there upsets view before n none k below =
+    from_at (length before) k (strikes_in upsets view) ∙ strikes_at upsets view (length before + k)
+    ∙ ap (map strike_of) (sym (from_at (length before) k (own_at upsets view)) ∙ none k below)
+
+-- silent cues more, before which nothing strikes
+module _ (upsets : List UpsetLine) (view : PartitionView) (before quiet : List Cue) (none : AreNone (length quiet) (from (length before) (own_at upsets view))) where
+  pub quiet_replayed : replayed upsets view (before ++ quiet) ≡ alone_from view (replayed upsets view before) quiet
+  quiet_replayed =
+      from_add view (strikes_in upsets view) (alone_start view) before quiet
+      ∙ none_from view (from (length before) (strikes_in upsets view)) (replayed upsets view before) quiet (none_from_there upsets view before (length quiet) none)
+
+  pub quiet_lines : alone_lines view (replayed upsets view before) quiet ≡ [] → cue_lines upsets view (before ++ quiet) ≡ cue_lines upsets view before
+  quiet_lines empty =
+      let own = own_at upsets view in
+      cue_lines_add upsets view before quiet
+      ∙ ap (λ (s : ℕ → List Strike). cue_lines upsets view before ++ alone_reported view (from (length before) own) (alone_upset_from view s (alone_start view) before) quiet) (sym (strikes_are upsets view))
+      ∙ ap (λ (rest : List ReportLine). cue_lines upsets view before ++ rest) (none_lines view (from (length before) own) (replayed upsets view before) quiet none ∙ empty)
+      ∙ append-nil (cue_lines upsets view before)
+
+  pub quiet_said : alone_said view (replayed upsets view before) quiet ≡ [] → script_said upsets view (before ++ quiet) ≡ script_said upsets view before
+  quiet_said empty =
+      said_add view (strikes_in upsets view) (alone_start view) before quiet
+      ∙ ap (λ (rest : List ℕ). script_said upsets view before ++ rest)
+      (none_said view (from (length before) (strikes_in upsets view)) (replayed upsets view before) quiet (none_from_there upsets view before (length quiet) none) ∙ empty)
+      ∙ append-nil (script_said upsets view before)
 
 -- partition p has followed cues, and then silent ones; another one is left
-many_followed : (p : ℕ) (cues before quiet : List Cue) (cue : Cue) (later : List Cue) (old now mid : Machine) → IsScript old.system.conf p cues
-    → IsFollowing p cues before (quiet ++ cue ∷ later) old now → AreSilent p quiet now mid → IsFollowing p cues (before ++ quiet) (cue ∷ later) old mid
-many_followed p cues before quiet cue later old now mid script is silent =
+many_followed : (upsets : List UpsetLine) (p : ℕ) (cues before quiet : List Cue) (cue : Cue) (later : List Cue) (old now mid : Machine) → IsScript old.system.conf p cues
+    → AreNone (length quiet) (from (length before) (own_at upsets (view_of old.system p)))
+    → IsFollowing upsets p cues before (quiet ++ cue ∷ later) old now → AreSilent p quiet now mid → IsFollowing upsets p cues (before ++ quiet) (cue ∷ later) old mid
+many_followed upsets p cues before quiet cue later old now mid script none is silent =
     let view = view_of old.system p in
+    let s = strikes_in upsets view in
     let seen : view_of now.system p ≡ view = ap (λ system. view_of system p) is.system.system in
     let whole : (before ++ quiet) ++ cue ∷ later ≡ cues = append_assoc before quiet (cue ∷ later) ∙ is.split in
     let part : part_in mid p ≡ alone_from view (part_in now p) quiet = silent.part ∙ ap (λ (v : PartitionView). alone_from v (part_in now p) quiet) seen in
     let taken : AreTaken view (part_in now p) quiet = subst (λ (v : PartitionView). AreTaken v (part_in now p) quiet) seen silent.taken in
+    let count : length before + length quiet ≡ length (before ++ quiet) = sym (length-append before quiet) in
     record {
       split = whole;
       system = record { system = silent.system.system ∙ is.system.system; parts = silent.system.parts ∙ is.system.parts };
-      part = part ∙ ap (λ (a : Alone). alone_from view a quiet) is.part ∙ sym (from_add view (alone_start view) before quiet);
+      part = part ∙ ap (λ (a : Alone). alone_from view a quiet) is.part ∙ sym (quiet_replayed upsets view before quiet none);
       halted = silent.running ∙ sym (still_runs (before ++ quiet) cue later (subst HaltsLast (sym whole) script.halts));
-      untaken = is.untaken ∙ taken_many view (part_in now p) (length before) quiet (cue ∷ later) taken
-          ∙ ap (λ (a : Alone). first_untaken view a (length before + length quiet) (cue ∷ later)) (sym part)
-          ∙ ap (λ n. first_untaken view (part_in mid p) n (cue ∷ later)) (sym (length-append before quiet));
+      untaken = is.untaken ∙ taken_many view (from (length before) s) (part_in now p) (length before) quiet (cue ∷ later) (none_from_there upsets view before (length quiet) none) taken
+          ∙ ap (λ (a : Alone). first_untaken_struck view (from (length quiet) (from (length before) s)) a (length before + length quiet) (cue ∷ later)) (sym part)
+          ∙ ap (λ (f : ℕ → List Strike). first_untaken_struck view f (part_in mid p) (length before + length quiet) (cue ∷ later)) (from_from (length quiet) (length before) s)
+          ∙ ap (λ n. first_untaken_struck view (from n s) (part_in mid p) n (cue ∷ later)) count;
     }
 
 -- their lines and console bytes are those before
-many_played : (p : ℕ) (cues quiet : List Cue) (cue : Cue) (later : List Cue) (old now mid : Machine) (had got : Option (List ℕ)) (first board : BoardView) → IsScript old.system.conf p cues
-    → IsPlaying p cues (quiet ++ cue ∷ later) old now had got first board → AreSilent p quiet now mid → IsPlaying p cues (cue ∷ later) old mid had got first board
-many_played p cues quiet cue later old now mid had got first board script is silent =
+many_played : (upsets : List UpsetLine) (p tick : ℕ) (cues quiet : List Cue) (cue : Cue) (later : List Cue) (old now mid : Machine) (had got : Option (List ℕ)) (first board : BoardView) → IsScript old.system.conf p cues
+    → IsPlaying upsets p tick cues (quiet ++ cue ∷ later) old now had got first board → AreNone (length quiet) (from tick (own_at upsets (view_of old.system p))) → AreSilent p quiet now mid
+    → IsPlaying upsets p (tick + length quiet) cues (cue ∷ later) old mid had got first board
+many_played upsets p tick cues quiet cue later old now mid had got first board script is nothing silent =
     let view = view_of old.system p in
+    let none : AreNone (length quiet) (from (length is.before) (own_at upsets view)) = subst (λ n. AreNone (length quiet) (from n (own_at upsets view))) is.count nothing in
     let seen : view_of now.system p ≡ view = ap (λ system. view_of system p) is.following.system.system in
-    let no_lines : alone_lines view (replayed view is.before) quiet ≡ [] =
+    let no_lines : alone_lines view (replayed upsets view is.before) quiet ≡ [] =
     ap (λ (a : Alone). alone_lines view a quiet) (sym is.following.part) ∙ ap (λ (v : PartitionView). alone_lines v (part_in now p) quiet) (sym seen) ∙ silent.lines in
-    let no_bytes : alone_said view (replayed view is.before) quiet ≡ [] =
+    let no_bytes : alone_said view (replayed upsets view is.before) quiet ≡ [] =
     ap (λ (a : Alone). alone_said view a quiet) (sym is.following.part) ∙ ap (λ (v : PartitionView). alone_said v (part_in now p) quiet) (sym seen) ∙ silent.said in
-    let same_lines : cue_lines view (is.before ++ quiet) ≡ cue_lines view is.before =
-    lines_add view (alone_start view) is.before quiet ∙ ap (λ more. cue_lines view is.before ++ more) no_lines ∙ append-nil (cue_lines view is.before) in
-    let same_bytes : alone_said view (alone_start view) (is.before ++ quiet) ≡ alone_said view (alone_start view) is.before =
-    said_add view (alone_start view) is.before quiet ∙ ap (λ more. alone_said view (alone_start view) is.before ++ more) no_bytes ∙ append-nil (alone_said view (alone_start view) is.before) in
     record {
       before = is.before ++ quiet;
-      following = many_followed p cues is.before quiet cue later old now mid script is.following silent;
-      report = is.report ∙ ap (λ lines. grown had (texts lines)) (sym same_lines);
-      heard = heard_as (replay_said (lone_in old p) is.before) (replay_said (lone_in old p) (is.before ++ quiet)) first board
-          (λ uart. ap (λ bytes. if is_number (part_of old.system.conf p).console uart then bytes else []) (sym same_bytes)) is.heard;
+      following = many_followed upsets p cues is.before quiet cue later old now mid script none is.following silent;
+      count = omega (arith, is.count, length-append is.before quiet);
+      report = is.report ∙ ap (λ lines. grown had (texts lines)) (sym (quiet_lines upsets view is.before quiet none no_lines));
+      heard = heard_as (replay_said upsets (lone_in old p) is.before) (replay_said upsets (lone_in old p) (is.before ++ quiet)) first board
+          (λ uart. ap (λ bytes. if is_number (part_of old.system.conf p).console uart then bytes else []) (sym (quiet_said upsets view is.before quiet none no_bytes))) is.heard;
     }
 
-many_fit : (p tick : ℕ) (cues quiet : List Cue) (cue : Cue) (later : List Cue) (old now mid : Machine) → IsScript old.system.conf p cues
-    → IsFitting p tick cues (quiet ++ cue ∷ later) old now → AreSilent p quiet now mid → IsFitting p (tick + length quiet) cues (cue ∷ later) old mid
-many_fit p tick cues quiet cue later old now mid script is silent = record {
-  before = is.before ++ quiet;
-  following = many_followed p cues is.before quiet cue later old now mid script is.following silent;
-  count = omega (arith, is.count, length-append is.before quiet);
-}
+-- the same with the cues that are left written otherwise
+with_cues : (upsets : List UpsetLine) (p tick : ℕ) (cues all left : List Cue) (old now : Machine) (had got : Option (List ℕ)) (first board : BoardView) → all ≡ left
+    → IsPlaying upsets p tick cues all old now had got first board → IsPlaying upsets p tick cues left old now had got first board
+with_cues upsets p tick cues all left old now had got first board same is = subst (λ rest. IsPlaying upsets p tick cues rest old now had got first board) same is
+
+-- a cue that the partition cannot take is the first
+untaken_here : (view : PartitionView) (s : ℕ → List Strike) (a : Alone) (tick : ℕ) (cue : Cue) (cues : List Cue) → takes_cue view (alone_struck (s 0) a) cue ≡ false → first_untaken_struck view s a tick (cue ∷ cues) ≡ Some tick
+untaken_here view s a tick cue cues untaken =
+    ap (λ takes. if takes then first_untaken_struck view (later s) (alone_step view (alone_struck (s 0) a) cue) (suc tick) cues else Some tick) untaken
+
+-- the partition's own lines before the last of the ticks
+own_there : (upsets : List UpsetLine) (view : PartitionView) (n k m : ℕ) → m ≡ n + k → from n (own_at upsets view) k ≡ own_at upsets view m
+own_there upsets view n k m is = from_at n k (own_at upsets view) ∙ ap (own_at upsets view) (sym is)
 
 -- what is left of the cues before and after those that come next
-rest_is : {T : Type 0} (ended : Result T AloneFault) (ticks p : ℕ) (all : List Cue) (first : code_next.Next) (others : code.Cues) (old new : Machine) (had got : Option (List ℕ)) (begun board : BoardView)
-    → ComesNext all first others → (f : Follows ended ticks p first old new had got begun board) → all ≡ f.quiet ++ f.cue ∷ (next_left first ticks ++ cues_left others)
-rest_is ended ticks p all first others old new had got begun board next f =
+rest_is : {T : Type 0} (ended : Result T AloneFault) (ticks p : ℕ) (own : Timetable) (all : List Cue) (first : code_next.Next) (others : code.Cues) (old new : Machine) (had got : Option (List ℕ)) (begun board : BoardView) (said : List ℕ)
+    → ComesNext all first others → (f : FollowsStruck ended ticks p own first old new had got begun board said) → all ≡ f.quiet ++ f.cue ∷ (next_left first ticks ++ cues_left others)
+rest_is ended ticks p own all first others old new had got begun board said next f =
     next.split ∙ ap (λ cues. cues ++ cues_left others) f.split ∙ append_assoc f.quiet (f.cue ∷ next_left first ticks) (cues_left others)
 
 -- a fault of the sink raises its count
-pub rose_from : (T : Type 0) (why : AloneFault) (before between now : ℕ) → why ≡ fault.Write → HasStepCause {T = T} (Err why) between now → between ≡ before → Rose before now
+pub rose_from : (T : Type 0) (why : AloneFault) (before between now : ℕ) → why ≡ fault.Write → HasStruckCause {T = T} (Err why) between now → between ≡ before → Rose before now
 rose_from T why before between now write cause same =
-    subst (λ n. Rose n now) same (subst (λ (w : AloneFault). HasStepCause {T = T} (Err w) between now) write cause)
+    subst (λ n. Rose n now) same (subst (λ (w : AloneFault). HasStruckCause {T = T} (Err w) between now) write cause)
 
 -- a tick that was not refused was done
-lone_of : {T : Type 0} (ended : Result T AloneFault) (p : ℕ) (cue : Cue) (old new : Machine) (had got : Option (List ℕ)) → is_refused ended ≡ false → StepsAlone ended p cue old new had got → IsLone p cue old new
-lone_of (Ok done) p cue old new had got right step = step.0
-lone_of (Err fault.Write) p cue old new had got right step = step.0
-lone_of (Err fault.Cue) p cue old new had got right step = absurd (not_so right)
+lone_of : {T : Type 0} (ended : Result T AloneFault) (p : ℕ) (lines : List UpsetLine) (cue : Cue) (old new : Machine) (had got : Option (List ℕ)) → is_refused ended ≡ false → StepsStruck ended p lines cue old new had got → IsStruckLone p lines cue old new
+lone_of (Ok done) p lines cue old new had got right step = step.0
+lone_of (Err fault.Write) p lines cue old new had got right step = step.0
+lone_of (Err fault.Cue) p lines cue old new had got right step = absurd (not_so right)
   where
     not_so : true ≡ false → ⊥
     not_so e = cc
@@ -179,93 +209,128 @@ lone_of (Err fault.Cue) p cue old new had got right step = absurd (not_so right)
 same_on : (a b c : Machine) → IsOfSystem a b → IsOfSystem a c → IsOfSystem b c
 same_on a b c one other = record { system = other.system ∙ sym one.system; parts = other.parts ∙ sym one.parts }
 
-module _ (p ticks : ℕ) (cues all : List Cue) (first : code_next.Next) (others : code.Cues) (old now new : Machine) (script : IsScript old.system.conf p cues) (next : ComesNext all first others) (same : IsOfSystem now new) where
+module _ (upsets : List UpsetLine) (p tick ticks : ℕ) (cues all : List Cue) (first : code_next.Next) (others : code.Cues) (old now new : Machine) (own : Timetable) (script : IsScript old.system.conf p cues) (next : ComesNext all first others) (same : IsOfSystem now new) (owns : own ≡ from tick (own_at upsets (view_of old.system p))) where
+  -- none of the partition's own upsets strikes before silent cues
+  none_there : (count : ℕ) → AreNone count own → AreNone count (from tick (own_at upsets (view_of old.system p)))
+  none_there count none = subst (λ (t : Timetable). AreNone count t) owns none
+
+  -- those before the last of the ticks
+  last_there : (k n : ℕ) → n ≡ tick + k → own k ≡ own_at upsets (view_of old.system p) n
+  last_there k n is = ap (λ (t : Timetable). t k) owns ∙ own_there upsets (view_of old.system p) tick k n is
+
   -- the cues that come next went out whole
-  pub next_played : (had mid got : Option (List ℕ)) (begun between board : BoardView) {T : Type 0} (done : T) → IsPlaying p cues all old now had mid begun between
-      → Follows (Ok done) ticks p first now new mid got between board → IsPlaying p cues (next_left first ticks ++ cues_left others) old new had got begun board
-  next_played had mid got begun between board done is f =
-      one_played p cues (f.cue ∷ (next_left first ticks ++ cues_left others)) f.cue (next_left first ticks ++ cues_left others) old f.before new had mid got begun between board refl
-      (many_played p cues f.quiet f.cue (next_left first ticks ++ cues_left others) old now f.before had mid begun between script
-      (subst (λ left. IsPlaying p cues left old now had mid begun between) (rest_is (Ok done) ticks p all first others now new mid got between board next f) is) f.silent)
-      f.step.0 (same_on now f.before new f.silent.system same) f.step.1 f.heard
+  pub next_played : (had mid got : Option (List ℕ)) (begun between board : BoardView) (said : List ℕ) {T : Type 0} (done : T) → IsPlaying upsets p tick cues all old now had mid begun between
+      → FollowsStruck (Ok done) ticks p own first now new mid got between board said
+      → IsPlaying upsets p (tick + ticks) cues (next_left first ticks ++ cues_left others) old new had got begun board
+  next_played had mid got begun between board said done is f =
+      let rest = next_left first ticks ++ cues_left others in
+      let count : (tick + length f.quiet) + 1 ≡ tick + ticks = omega (arith, f.count) in
+      subst (λ n. IsPlaying upsets p n cues rest old new had got begun board) count
+      (one_played upsets p (tick + length f.quiet) cues (f.cue ∷ rest) (own (length f.quiet)) f.cue rest old f.before new had mid got begun between board refl
+      (many_played upsets p tick cues f.quiet f.cue rest old now f.before had mid begun between script
+      (with_cues upsets p tick cues all (f.quiet ++ f.cue ∷ rest) old now had mid begun between (rest_is (Ok done) ticks p own all first others now new mid got between board said next f) is) (none_there (length f.quiet) f.none) f.silent)
+      (last_there (length f.quiet) (tick + length f.quiet) refl)
+      f.step.0 (same_on now f.before new f.silent.system same) f.step.1 f.heard)
 
   -- or in part
-  pub next_cut : (had mid got : Option (List ℕ)) (begun between board : BoardView) (T : Type 0) (why : AloneFault) → why ≡ fault.Write → IsPlaying p cues all old now had mid begun between
-      → Follows {T = T} (Err why) ticks p first now new mid got between board → IsCutReplay cues (cue_lines (view_of old.system p) cues) (lone_in old p) (lone_in new p) had got begun board
-  next_cut had mid got begun between board T why write is given =
-      let f : Follows {T = T} (Err fault.Write) ticks p first now new mid got between board = subst (λ (w : AloneFault). Follows {T = T} (Err w) ticks p first now new mid got between board) write given in
-      one_cut p cues (f.cue ∷ (next_left first ticks ++ cues_left others)) f.cue (next_left first ticks ++ cues_left others) old f.before new had mid got begun between board refl
-      (many_played p cues f.quiet f.cue (next_left first ticks ++ cues_left others) old now f.before had mid begun between script
-      (subst (λ left. IsPlaying p cues left old now had mid begun between) (rest_is {T = T} (Err fault.Write) ticks p all first others now new mid got between board next f) is) f.silent)
+  pub next_cut : (had mid got : Option (List ℕ)) (begun between board : BoardView) (said : List ℕ) (T : Type 0) (why : AloneFault) → why ≡ fault.Write → IsPlaying upsets p tick cues all old now had mid begun between
+      → FollowsStruck {T = T} (Err why) ticks p own first now new mid got between board said → IsCutReplay upsets cues (cue_lines upsets (view_of old.system p) cues) (lone_in old p) (lone_in new p) had got begun board
+  next_cut had mid got begun between board said T why write is given =
+      let rest = next_left first ticks ++ cues_left others in
+      let f : FollowsStruck {T = T} (Err fault.Write) ticks p own first now new mid got between board said = subst (λ (w : AloneFault). FollowsStruck {T = T} (Err w) ticks p own first now new mid got between board said) write given in
+      one_cut upsets p (tick + length f.quiet) cues (f.cue ∷ rest) (own (length f.quiet)) f.cue rest old f.before new had mid got begun between board refl
+      (many_played upsets p tick cues f.quiet f.cue rest old now f.before had mid begun between script
+      (with_cues upsets p tick cues all (f.quiet ++ f.cue ∷ rest) old now had mid begun between (rest_is {T = T} (Err fault.Write) ticks p own all first others now new mid got between board said next f) is) (none_there (length f.quiet) f.none) f.silent)
+      (last_there (length f.quiet) (tick + length f.quiet) refl)
       f.step.0 (same_on now f.before new f.silent.system same) f.step.1 f.heard
 
+  -- partition p can take all of them but the last
+  most_followed : {T : Type 0} (ended : Result T AloneFault) (had got : Option (List ℕ)) (begun board : BoardView) (said : List ℕ) → (is : IsFitting upsets p tick cues all old now)
+      → (f : FollowsStruck ended ticks p own first now new had got begun board said)
+      → IsFollowing upsets p cues (is.before ++ f.quiet) (f.cue ∷ (next_left first ticks ++ cues_left others)) old f.before
+  most_followed ended had got begun board said is f =
+      many_followed upsets p cues is.before f.quiet f.cue (next_left first ticks ++ cues_left others) old now f.before script
+      (subst (λ n. AreNone (length f.quiet) (from n (own_at upsets (view_of old.system p)))) is.count (none_there (length f.quiet) f.none))
+      (subst (λ left. IsFollowing upsets p cues is.before left old now) (rest_is ended ticks p own all first others now new had got begun board said next f) is.following) f.silent
+
   -- the partition can take them, and what they show is kept
-  pub next_kept : {T : Type 0} (ended : Result T AloneFault) (tick : ℕ) (had got : Option (List ℕ)) (begun board : BoardView) (before after : Option Kept) → is_refused ended ≡ false
-      → IsKeeping p tick cues all old now before → (f : Follows ended ticks p first now new had got begun board)
-      → KeepsShown before after (shown_from (view_of now.system p) (part_in now p) (f.quiet ++ f.cue ∷ [])) → IsKeeping p (tick + ticks) cues (next_left first ticks ++ cues_left others) old new after
-  next_kept ended tick had got begun board before after right is f keeps =
+  pub next_kept : {T : Type 0} (ended : Result T AloneFault) (had got : Option (List ℕ)) (begun board : BoardView) (said : List ℕ) (before after : Option Kept) → is_refused ended ≡ false
+      → IsKeeping upsets p tick cues all old now before → (f : FollowsStruck ended ticks p own first now new had got begun board said)
+      → KeepsShown before after (shown_from (view_of now.system p) own (part_in now p) (f.quiet ++ f.cue ∷ []))
+      → IsKeeping upsets p (tick + ticks) cues (next_left first ticks ++ cues_left others) old new after
+  next_kept ended had got begun board said before after right is f keeps =
       let fit = is.fitting in
       let view = view_of old.system p in
       let later = next_left first ticks ++ cues_left others in
-      let follows : IsFollowing p cues (fit.before ++ f.quiet) (f.cue ∷ later) old f.before =
-      many_followed p cues fit.before f.quiet f.cue later old now f.before script (subst (λ left. IsFollowing p cues fit.before left old now) (rest_is ended ticks p all first others now new had got begun board next f) fit.following) f.silent in
+      let more = f.quiet ++ f.cue ∷ [] in
+      let earlier = shown_by upsets view fit.before in
+      let number : length (fit.before ++ f.quiet) ≡ tick + length f.quiet = omega (arith, fit.count, length-append fit.before f.quiet) in
       record {
         fitting = record {
           before = (fit.before ++ f.quiet) ++ f.cue ∷ [];
-          following = one_followed p cues (fit.before ++ f.quiet) (f.cue ∷ later) f.cue later old f.before new refl follows (lone_of ended p f.cue f.before new had got right f.step) (same_on now f.before new f.silent.system same);
+          following = one_followed upsets p cues (fit.before ++ f.quiet) (f.cue ∷ later) (own (length f.quiet)) f.cue later old f.before new refl
+              (last_there (length f.quiet) (length (fit.before ++ f.quiet)) number) (most_followed ended had got begun board said fit f)
+              (lone_of ended p (own (length f.quiet)) f.cue f.before new had got right f.step) (same_on now f.before new f.silent.system same);
           count = omega (arith, fit.count, f.count, one_after (fit.before ++ f.quiet) f.cue, length-append fit.before f.quiet);
         };
         shown = subst (AllKept after)
-            (ap (λ (system : System). shown_by view fit.before ++ shown_from (view_of system p) (part_in now p) (f.quiet ++ f.cue ∷ [])) fit.following.system.system
-            ∙ ap (λ (a : Alone). shown_by view fit.before ++ shown_from view a (f.quiet ++ f.cue ∷ [])) fit.following.part
-            ∙ sym (shown_add view (alone_start view) fit.before (f.quiet ++ f.cue ∷ [])) ∙ ap (shown_by view) (sym (append_assoc fit.before f.quiet (f.cue ∷ []))))
-            (keeps_on before after (shown_by view fit.before) (shown_from (view_of now.system p) (part_in now p) (f.quiet ++ f.cue ∷ [])) is.shown keeps);
+            (ap (λ (system : System). earlier ++ shown_from (view_of system p) own (part_in now p) more) fit.following.system.system
+            ∙ ap (λ (a : Alone). earlier ++ shown_from view own a more) fit.following.part
+            ∙ ap (λ (t : Timetable). earlier ++ shown_from view t (replayed upsets view fit.before) more) (owns ∙ ap (λ n. from n (own_at upsets view)) fit.count)
+            ∙ ap (λ (s : ℕ → List Strike). earlier ++ shown_from view (from (length fit.before) (own_at upsets view)) (alone_upset_from view s (alone_start view) fit.before) more) (strikes_are upsets view)
+            ∙ sym (shown_add view (own_at upsets view) (alone_start view) fit.before more) ∙ ap (shown_by upsets view) (sym (append_assoc fit.before f.quiet (f.cue ∷ []))))
+            (keeps_on before after earlier (shown_from (view_of now.system p) own (part_in now p) more) is.shown keeps);
       }
 
   -- or the last of those that were followed is the first that it cannot
-  pub next_untaken : {T : Type 0} (tick : ℕ) (had got : Option (List ℕ)) (begun board : BoardView) → IsFitting p tick cues all old now
-      → Follows {T = T} (Err fault.Cue) ticks p first now new had got begun board → first_untaken (view_of old.system p) (alone_start (view_of old.system p)) 0 cues ≡ Some (tick + ticks - 1)
-  next_untaken {T = T} tick had got begun board is f =
-      let fit : IsFitting p (tick + length f.quiet) cues (f.cue ∷ (next_left first ticks ++ cues_left others)) old f.before =
-      many_fit p tick cues f.quiet f.cue (next_left first ticks ++ cues_left others) old now f.before script
-      (subst (λ left. IsFitting p tick cues left old now) (rest_is {T = T} (Err fault.Cue) ticks p all first others now new had got begun board next f) is) f.silent in
-      let seen : view_of f.before.system p ≡ view_of old.system p = ap (λ system. view_of system p) fit.following.system.system in
-      fit.following.untaken
-      ∙ ap (λ takes. if takes then first_untaken (view_of old.system p) (alone_step (view_of old.system p) (part_in f.before p) f.cue) (suc (length fit.before)) (next_left first ticks ++ cues_left others) else Some (length fit.before))
-      (ap (λ (v : PartitionView). takes_cue v (part_in f.before p) f.cue) (sym seen) ∙ f.step.0)
-      ∙ ap Some (sum tick ticks (length f.quiet) (length fit.before) fit.count f.count)
+  pub next_untaken : {T : Type 0} (had got : Option (List ℕ)) (begun board : BoardView) (said : List ℕ) → IsFitting upsets p tick cues all old now
+      → FollowsStruck {T = T} (Err fault.Cue) ticks p own first now new had got begun board said → first_refused upsets (view_of old.system p) cues ≡ Some (tick + ticks - 1)
+  next_untaken {T = T} had got begun board said is f =
+      let view = view_of old.system p in
+      let rest = next_left first ticks ++ cues_left others in
+      let n = length (is.before ++ f.quiet) in
+      let s = from n (strikes_in upsets view) in
+      let lines = own (length f.quiet) in
+      let number : n ≡ tick + length f.quiet = omega (arith, is.count, length-append is.before f.quiet) in
+      let strikes : s 0 ≡ map strike_of lines = from_here n (strikes_in upsets view) ∙ strikes_at upsets view n ∙ ap (map strike_of) (sym (last_there (length f.quiet) n number)) in
+      let follows = most_followed {T = T} (Err fault.Cue) had got begun board said is f in
+      let seen : view_of f.before.system p ≡ view = ap (λ system. view_of system p) follows.system.system in
+      follows.untaken
+      ∙ untaken_here view s (part_in f.before p) n f.cue rest
+      (ap (λ (ss : List Strike). takes_cue view (alone_struck ss (part_in f.before p)) f.cue) strikes ∙ ap (λ (v : PartitionView). tick_taken v lines (part_in f.before p) f.cue) (sym seen) ∙ f.step.0)
+      ∙ ap Some (sum tick ticks (length f.quiet) n f.count number)
     where
-      sum : (n j k b : ℕ) → n + k ≡ b → j ≡ k + 1 → b ≡ n + j - 1
-      sum n j k b whole is = omega (arith, whole, is)
+      sum : (n j k m : ℕ) → j ≡ k + 1 → m ≡ n + k → m ≡ n + j - 1
+      sum n j k m is both = omega (arith, is, both)
 
   -- what refused them is the cue
-  pub next_refused : {T : Type 0} (ended : Result T AloneFault) (tick : ℕ) (had got : Option (List ℕ)) (begun board : BoardView) → is_refused ended ≡ true
-      → IsFitting p tick cues all old now → Follows ended ticks p first now new had got begun board
-      → first_untaken (view_of old.system p) (alone_start (view_of old.system p)) 0 cues ≡ Some (tick + ticks - 1)
-  next_refused (Ok done) tick had got begun board wrong is f = absurd (not_so wrong)
+  pub next_refused : {T : Type 0} (ended : Result T AloneFault) (had got : Option (List ℕ)) (begun board : BoardView) (said : List ℕ) → is_refused ended ≡ true
+      → IsFitting upsets p tick cues all old now → FollowsStruck ended ticks p own first now new had got begun board said
+      → first_refused upsets (view_of old.system p) cues ≡ Some (tick + ticks - 1)
+  next_refused (Ok done) had got begun board said wrong is f = absurd (not_so wrong)
     where
       not_so : false ≡ true → ⊥
       not_so e = cc
-  next_refused (Err fault.Write) tick had got begun board wrong is f = absurd (not_so wrong)
+  next_refused (Err fault.Write) had got begun board said wrong is f = absurd (not_so wrong)
     where
       not_so : false ≡ true → ⊥
       not_so e = cc
-  next_refused (Err fault.Cue) tick had got begun board wrong is f = next_untaken tick had got begun board is f
+  next_refused (Err fault.Cue) had got begun board said wrong is f = next_untaken had got begun board said is f
 
   -- and none is refused of a script that fits
-  pub next_taken : {T : Type 0} (had mid got : Option (List ℕ)) (start between board : BoardView) (why : AloneFault) → why ≡ fault.Cue → IsPlaying p cues all old now had mid start between
-      → Follows {T = T} (Err why) ticks p first now new mid got between board → TakesAll (view_of old.system p) cues → ⊥
-  next_taken {T = T} had mid got start between board why refused is given fits =
-      let f : Follows {T = T} (Err fault.Cue) ticks p first now new mid got between board = subst (λ (w : AloneFault). Follows {T = T} (Err w) ticks p first now new mid got between board) refused given in
-      not_some (length is.before + ticks - 1) (sym (next_untaken (length is.before) mid got between board (record { before = is.before; following = is.following; count = refl }) f) ∙ fits)
+  pub next_taken : {T : Type 0} (had mid got : Option (List ℕ)) (start between board : BoardView) (said : List ℕ) (why : AloneFault) → why ≡ fault.Cue → IsPlaying upsets p tick cues all old now had mid start between
+      → FollowsStruck {T = T} (Err why) ticks p own first now new mid got between board said → TakesAll upsets (view_of old.system p) cues → ⊥
+  next_taken {T = T} had mid got start between board said why refused is given fits =
+      let f : FollowsStruck {T = T} (Err fault.Cue) ticks p own first now new mid got between board said = subst (λ (w : AloneFault). FollowsStruck {T = T} (Err w) ticks p own first now new mid got between board said) refused given in
+      not_some (tick + ticks - 1) (sym (next_untaken mid got between board said (record { before = is.before; following = is.following; count = is.count }) f) ∙ fits)
     where
       not_some : (n : ℕ) → Some n ≡ None → ⊥
       not_some n e = cc
 
-  pub next_unwritten : {T : Type 0} (had mid got : Option (List ℕ)) (start between board : BoardView) (why : AloneFault) → IsPlaying p cues all old now had mid start between
-      → Follows {T = T} (Err why) ticks p first now new mid got between board → TakesAll (view_of old.system p) cues → why ≡ fault.Write
-  next_unwritten had mid got start between board fault.Write is given fits = refl
-  next_unwritten had mid got start between board fault.Cue is given fits = absurd (next_taken had mid got start between board fault.Cue refl is given fits)
+  pub next_unwritten : {T : Type 0} (had mid got : Option (List ℕ)) (start between board : BoardView) (said : List ℕ) (why : AloneFault) → IsPlaying upsets p tick cues all old now had mid start between
+      → FollowsStruck {T = T} (Err why) ticks p own first now new mid got between board said → TakesAll upsets (view_of old.system p) cues → why ≡ fault.Write
+  next_unwritten had mid got start between board said fault.Write is given fits = refl
+  next_unwritten had mid got start between board said fault.Cue is given fits = absurd (next_taken had mid got start between board said fault.Cue refl is given fits)
 
 -- the first of the cues that come next
 first_cue : (all : List Cue) (first : code_next.Next) (others : code.Cues) → ComesNext all first others → (cue : Cue) × (later : List Cue) × (all ≡ cue ∷ later)
@@ -274,20 +339,26 @@ first_cue all (next.Alike own count) others comes =
 first_cue all (next.Other cue) others comes = (cue_value cue, cues_left others, comes.split)
 
 -- the cues that come next may be received, and there are ticks left for them
-module _ (p : ℕ) (cues before all : List Cue) (others : code.Cues) (old now : Machine) (script : IsScript old.system.conf p cues) (is : IsFollowing p cues before all old now) where
+module _ (upsets : List UpsetLine) (p : ℕ) (cues before all : List Cue) (others : code.Cues) (old now : Machine) (script : IsScript old.system.conf p cues) (is : IsFollowing upsets p cues before all old now) where
   pub next_is : (first : code_next.Next) → ComesNext all first others → IsNextCue now.system.conf p first
   next_is (next.Alike own count) comes = comes.some
-  next_is (next.Other cue) comes = left_cue p cues before all (cue_value cue) (cues_left others) old now comes.split is script
+  next_is (next.Other cue) comes = left_cue upsets p cues before all (cue_value cue) (cues_left others) old now comes.split is script
 
   pub next_runs : (first : code_next.Next) → ComesNext all first others → now.halted ≡ false
   next_runs first comes =
       let next = first_cue all first others comes in
-      left_runs p cues before all next.0 next.1 old now next.2 is script
+      left_runs upsets p cues before all next.0 next.1 old now next.2 is script
 
   pub next_ticks : (first : code_next.Next) → ComesNext all first others → now.ticks + length (next_cues first) ≤ 4000000000
   next_ticks first comes =
       let count : length all ≡ length (next_cues first ++ cues_left others) = ap (λ (xs : List Cue). length xs) comes.split in
-      omega (arith, count, length-append (next_cues first) (cues_left others), left_ticks p cues before all old now is script)
+      omega (arith, count, length-append (next_cues first) (cues_left others), left_ticks upsets p cues before all old now is script)
+
+  -- the next has a number that a tick may have
+  pub next_number : (first : code_next.Next) → ComesNext all first others → length before < 4000000000
+  next_number first comes =
+      let next = first_cue all first others comes in
+      omega (arith, script.few, ap (λ (xs : List Cue). length xs) is.split, length-append before all, ap (λ (xs : List Cue). length xs) next.2)
 
 -- what is still to come grows shorter
 pub next_shorter : (all : List Cue) (first : code_next.Next) (others : code.Cues) (ticks : ℕ) → ComesNext all first others → 0 < ticks → length (next_left first ticks ++ cues_left others) < length all

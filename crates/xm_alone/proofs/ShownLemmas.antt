@@ -1,5 +1,5 @@
 -- Ticks that were kept go out, one after the other: so a replay is shown that was done.
-use Rattle.std.proofs.Common.{◌≡◌, ℕ, ◌+◌, ◌<◌, ◌≤◌, Bool, true, false, if◌then◌else◌, List, [], ◌∷◌, ◌++◌, length, drop, take, Option, Some, None, Result, Ok, Err, refl, sym, ap, subst, ◌∙◌, arith, append_assoc}
+use Rattle.std.proofs.Common.{◌≡◌, ℕ, ◌<◌, ◌≤◌, Bool, true, false, if◌then◌else◌, List, [], ◌∷◌, ◌++◌, length, drop, take, Option, Some, None, Result, Ok, Err, refl, sym, ap, subst, ◌∙◌, arith, append_assoc}
 use Rattle.std.proofs.lemmas.List.{append-nil, length-drop}
 use Rattle.std.specs.Prelude.{IfSome, IsSome, ◌==◌, slice_index_or}
 use Rattle.std.proofs.lemmas.Bool.Decides.{nat_tests}
@@ -14,7 +14,7 @@ use Rattle.xm_conf.specs.Fits.{Fits}
 use Rattle.uart_board.specs.Heard.{IsHeard, said_to}
 use Rattle.uart_board.specs.lemmas.HeardLemmas.{heard_nothing, heard_then}
 use Rattle.uart_board.specs.Views.{BoardView}
-use Rattle.machine_model.specs.Alone.{Alone, alone_from, alone_lines, alone_said, alone_start, alone_step, alone_step_lines, alone_step_said}
+use Rattle.machine_model.specs.Alone.{Alone, alone_start}
 use Rattle.machine_model.specs.Cue.{Cue}
 use Rattle.machine_model.specs.Lines.{end_line}
 use Rattle.machine_model.specs.Lists.{is_number}
@@ -22,6 +22,11 @@ use Rattle.machine_model.specs.Machine.{Machine}
 use Rattle.machine_model.specs.View.{PartitionView, System, part_of}
 use Rattle.recording_model.specs.Lone.{Lone, own_view, replay_said}
 use Rattle.recording_model.specs.Replayed.{cue_lines, replay_lines, replayed}
+use Rattle.upset_model.specs.Places.{Timetable}
+use Rattle.upset_model.specs.Reports.{alone_reported}
+use Rattle.upset_model.specs.Upsets.{Strike, alone_upset_from, alone_upset_said, later}
+use Rattle.upset_model.specs.declared.upset_line.UpsetLine.{UpsetLine}
+use Rattle.xm_alone.specs.lemmas.Struck.{own_at, script_said, tick_after, tick_lines, tick_said}
 use Rattle.xm_alone.specs.Replay.{IsReplay, IsReplayed, IsSilentReplay, lone_in}
 use Rattle.xm_alone.specs.Shown.{IsCutShowing, IsShown, ShownTick, shown_by, shown_from, shown_tick}
 use Rattle.xm_alone.specs.Kept.{AreSized, IsKept, kept_ticks, ticks_in}
@@ -31,7 +36,7 @@ use Rattle.xm_alone.specs.declared.keeping.Kept.{Kept}
 use Rattle.xm_alone.proofs.FollowLemmas as follow
 use Rattle.xm_alone.proofs.KeptLemmas.{tick_of}
 use Rattle.xm_alone.proofs.PlayLemmas.{cut_showing, end_shown, heard_as, lone_end, showing_short}
-use Rattle.xm_alone.proofs.SilentLemmas.{no_lines, step_unsaid, unsaid}
+use Rattle.xm_alone.proofs.SilentLemmas.{no_lines, tick_unsaid_too, unsaid}
 
 -- bytes for a console, and then more for it
 both_said : (is : Bool) (one other : List ℕ) → (if is then one else []) ++ (if is then other else []) ≡ (if is then one ++ other else [])
@@ -172,45 +177,60 @@ tick_text : (text said : List ℕ) → shown_text (shown_tick text said) ≡ tex
 tick_text [] said = refl
 tick_text (byte ∷ text) said = append-nil (byte ∷ text)
 
-tick_said : (text said : List ℕ) → (text ≡ [] → said ≡ []) → shown_said (shown_tick text said) ≡ said
-tick_said [] said none = sym (none refl)
-tick_said (byte ∷ text) said none = append-nil said
+tick_said_is : (text said : List ℕ) → (text ≡ [] → said ≡ []) → shown_said (shown_tick text said) ≡ said
+tick_said_is [] said none = sym (none refl)
+tick_said_is (byte ∷ text) said none = append-nil said
 
 -- what cues show has the text of their lines, and their console bytes
-pub text_from : (view : PartitionView) (a : Alone) (cues : List Cue) → shown_text (shown_from view a cues) ≡ texts (alone_lines view a cues)
-text_from view a [] = refl
-text_from view a (cue ∷ later) =
-    let lines = alone_step_lines view a cue in
-    text_add (shown_tick (texts lines) (alone_step_said view a cue)) (shown_from view (alone_step view a cue) later)
-    ∙ ap (λ (t : List ℕ). t ++ shown_text (shown_from view (alone_step view a cue) later)) (tick_text (texts lines) (alone_step_said view a cue))
-    ∙ ap (λ (t : List ℕ). texts lines ++ t) (text_from view (alone_step view a cue) later)
-    ∙ sym (texts-append lines (alone_lines view (alone_step view a cue) later))
+pub text_from : (view : PartitionView) (t : Timetable) (a : Alone) (cues : List Cue) → shown_text (shown_from view t a cues) ≡ texts (alone_reported view t a cues)
+text_from view t a [] = refl
+text_from view t a (cue ∷ cues) =
+    let lines = tick_lines view (t 0) a cue in
+    let next = tick_after view (t 0) a cue in
+    text_add (shown_tick (texts lines) (tick_said view (t 0) a cue)) (shown_from view (later t) next cues)
+    ∙ ap (λ (bytes : List ℕ). bytes ++ shown_text (shown_from view (later t) next cues)) (tick_text (texts lines) (tick_said view (t 0) a cue))
+    ∙ ap (λ (bytes : List ℕ). texts lines ++ bytes) (text_from view (later t) next cues)
+    ∙ sym (texts-append lines (alone_reported view (later t) next cues))
 
-pub said_from : (view : PartitionView) (a : Alone) (cues : List Cue) → shown_said (shown_from view a cues) ≡ alone_said view a cues
-said_from view a [] = refl
-said_from view a (cue ∷ later) =
-    let lines = alone_step_lines view a cue in
-    said_add (shown_tick (texts lines) (alone_step_said view a cue)) (shown_from view (alone_step view a cue) later)
-    ∙ ap (λ (s : List ℕ). s ++ shown_said (shown_from view (alone_step view a cue) later))
-    (tick_said (texts lines) (alone_step_said view a cue) (λ none. step_unsaid view a cue (no_lines lines none)))
-    ∙ ap (λ (s : List ℕ). alone_step_said view a cue ++ s) (said_from view (alone_step view a cue) later)
+said_from : (view : PartitionView) (t : Timetable) (a : Alone) (cues : List Cue) → shown_said (shown_from view t a cues) ≡ alone_upset_said view (follow.strikes_of t) a cues
+said_from view t a [] = refl
+said_from view t a (cue ∷ cues) =
+    let lines = tick_lines view (t 0) a cue in
+    let next = tick_after view (t 0) a cue in
+    said_add (shown_tick (texts lines) (tick_said view (t 0) a cue)) (shown_from view (later t) next cues)
+    ∙ ap (λ (s : List ℕ). s ++ shown_said (shown_from view (later t) next cues))
+    (tick_said_is (texts lines) (tick_said view (t 0) a cue) (λ none. tick_unsaid_too view (t 0) a cue (no_lines lines none)))
+    ∙ ap (λ (s : List ℕ). tick_said view (t 0) a cue ++ s) (said_from view (later t) next cues)
+
+-- and so has a script from the boot on
+text_by : (upsets : List UpsetLine) (view : PartitionView) (cues : List Cue) → shown_text (shown_by upsets view cues) ≡ texts (cue_lines upsets view cues)
+text_by upsets view cues = text_from view (own_at upsets view) (alone_start view) cues
+
+said_by : (upsets : List UpsetLine) (view : PartitionView) (cues : List Cue) → shown_said (shown_by upsets view cues) ≡ script_said upsets view cues
+said_by upsets view cues =
+    said_from view (own_at upsets view) (alone_start view) cues
+    ∙ ap (λ (s : ℕ → List Strike). alone_upset_said view s (alone_start view) cues) (sym (follow.strikes_are upsets view))
 
 -- a replay whose cues show nothing is silent
-pub nothing_shown : (cues : List Cue) (old new : Lone) → IsReplayed cues old new → shown_by (own_view old) cues ≡ [] → IsSilentReplay cues old new
-nothing_shown cues old new left none =
+pub nothing_shown : (upsets : List UpsetLine) (cues : List Cue) (old new : Lone) → IsReplayed upsets cues old new → shown_by upsets (own_view old) cues ≡ [] → IsSilentReplay upsets cues old new
+nothing_shown upsets cues old new left none =
     let view = own_view old in
-    let lines : cue_lines view cues ≡ [] = no_lines (cue_lines view cues) (sym (text_from view (alone_start view) cues) ∙ ap shown_text none) in
-    record { left = left; lines = lines; said = unsaid view (alone_start view) cues lines }
+    let lines : cue_lines upsets view cues ≡ [] = no_lines (cue_lines upsets view cues) (sym (text_by upsets view cues) ∙ ap shown_text none) in
+    record {
+      left = left;
+      lines = lines;
+      said = ap (λ (s : ℕ → List Strike). alone_upset_said view s (alone_start view) cues) (follow.strikes_are upsets view) ∙ unsaid view (own_at upsets view) (alone_start view) cues lines;
+    }
 
 -- the cue that shows this tick, which comes after what shows those
-record IsShownAt (view : PartitionView) (a : Alone) (cues : List Cue) (earlier : List ShownTick) (tick : ShownTick) : Type 0 where
+record IsShownAt (view : PartitionView) (t : Timetable) (a : Alone) (cues : List Cue) (earlier : List ShownTick) (tick : ShownTick) : Type 0 where
   front : List Cue
   cue : Cue
   rest : List Cue
   split : front ++ cue ∷ rest ≡ cues
-  before : shown_from view a front ≡ earlier
-  text : tick.text ≡ texts (alone_step_lines view (alone_from view a front) cue)
-  said : tick.said ≡ alone_step_said view (alone_from view a front) cue
+  before : shown_from view t a front ≡ earlier
+  text : tick.text ≡ texts (tick_lines view (t (length front)) (alone_upset_from view (follow.strikes_of t) a front) cue)
+  said : tick.said ≡ tick_said view (t (length front)) (alone_upset_from view (follow.strikes_of t) a front) cue
 
 not_none : (xs : List ShownTick) (x : ShownTick) (ys : List ShownTick) → [] ≡ xs ++ x ∷ ys → ⊥
 not_none [] x ys same = cc
@@ -222,106 +242,112 @@ same_head x y xs ys same = cc
 same_tail : {X : Type 0} (x y : X) (xs ys : List X) → x ∷ xs ≡ y ∷ ys → xs ≡ ys
 same_tail x y xs ys same = cc
 
-shown_at : (view : PartitionView) (a : Alone) (cues : List Cue) (earlier : List ShownTick) (tick : ShownTick) (later : List ShownTick) → shown_from view a cues ≡ earlier ++ tick ∷ later → IsShownAt view a cues earlier tick
-shown_at view a [] earlier tick later same = absurd (not_none earlier tick later same)
-shown_at view a (first ∷ others) earlier tick later same =
-    at (texts (alone_step_lines view a first)) refl earlier same (λ sooner rest. shown_at view (alone_step view a first) others sooner tick later rest)
+shown_at : (view : PartitionView) (t : Timetable) (a : Alone) (cues : List Cue) (earlier : List ShownTick) (tick : ShownTick) (more : List ShownTick) → shown_from view t a cues ≡ earlier ++ tick ∷ more → IsShownAt view t a cues earlier tick
+shown_at view t a [] earlier tick more same = absurd (not_none earlier tick more same)
+shown_at view t a (first ∷ others) earlier tick more same =
+    at (texts (tick_lines view (t 0) a first)) refl earlier same (λ sooner rest. shown_at view (later t) (tick_after view (t 0) a first) others sooner tick more rest)
   where
-    at : (text : List ℕ) → texts (alone_step_lines view a first) ≡ text → (sooner : List ShownTick) → shown_tick text (alone_step_said view a first) ++ shown_from view (alone_step view a first) others ≡ sooner ++ tick ∷ later
-        → ((some : List ShownTick) → shown_from view (alone_step view a first) others ≡ some ++ tick ∷ later → IsShownAt view (alone_step view a first) others some tick) → IsShownAt view a (first ∷ others) sooner tick
-    at [] is sooner these next =
-        let found = next sooner these in
+    at : (text : List ℕ) → texts (tick_lines view (t 0) a first) ≡ text → (sooner : List ShownTick) → shown_tick text (tick_said view (t 0) a first) ++ shown_from view (later t) (tick_after view (t 0) a first) others ≡ sooner ++ tick ∷ more
+        → ((some : List ShownTick) → shown_from view (later t) (tick_after view (t 0) a first) others ≡ some ++ tick ∷ more → IsShownAt view (later t) (tick_after view (t 0) a first) others some tick) → IsShownAt view t a (first ∷ others) sooner tick
+    at [] is sooner these found_in =
+        let found = found_in sooner these in
         record {
           front = first ∷ found.front;
           cue = found.cue;
           rest = found.rest;
           split = ap (λ (cues : List Cue). first ∷ cues) found.split;
-          before = ap (λ (t : List ℕ). shown_tick t (alone_step_said view a first) ++ shown_from view (alone_step view a first) found.front) is ∙ found.before;
+          before = ap (λ (b : List ℕ). shown_tick b (tick_said view (t 0) a first) ++ shown_from view (later t) (tick_after view (t 0) a first) found.front) is ∙ found.before;
           text = found.text;
           said = found.said;
         }
-    at (byte ∷ text) is [] these next =
-        let here : tick_of (byte ∷ text) (alone_step_said view a first) ≡ tick = same_head (tick_of (byte ∷ text) (alone_step_said view a first)) tick (shown_from view (alone_step view a first) others) later these in
+    at (byte ∷ text) is [] these found_in =
+        let here : tick_of (byte ∷ text) (tick_said view (t 0) a first) ≡ tick = same_head (tick_of (byte ∷ text) (tick_said view (t 0) a first)) tick (shown_from view (later t) (tick_after view (t 0) a first) others) more these in
         record {
           front = [];
           cue = first;
           rest = others;
           split = refl;
           before = refl;
-          text = ap (λ (t : ShownTick). t.text) (sym here) ∙ sym is;
-          said = ap (λ (t : ShownTick). t.said) (sym here);
+          text = ap (λ (s : ShownTick). s.text) (sym here) ∙ sym is;
+          said = ap (λ (s : ShownTick). s.said) (sym here);
         }
-    at (byte ∷ text) is (one ∷ sooner) these next =
-        let here : tick_of (byte ∷ text) (alone_step_said view a first) ≡ one = same_head (tick_of (byte ∷ text) (alone_step_said view a first)) one (shown_from view (alone_step view a first) others) (sooner ++ tick ∷ later) these in
-        let found = next sooner (same_tail (tick_of (byte ∷ text) (alone_step_said view a first)) one (shown_from view (alone_step view a first) others) (sooner ++ tick ∷ later) these) in
+    at (byte ∷ text) is (one ∷ sooner) these found_in =
+        let here : tick_of (byte ∷ text) (tick_said view (t 0) a first) ≡ one = same_head (tick_of (byte ∷ text) (tick_said view (t 0) a first)) one (shown_from view (later t) (tick_after view (t 0) a first) others) (sooner ++ tick ∷ more) these in
+        let found = found_in sooner (same_tail (tick_of (byte ∷ text) (tick_said view (t 0) a first)) one (shown_from view (later t) (tick_after view (t 0) a first) others) (sooner ++ tick ∷ more) these) in
         record {
           front = first ∷ found.front;
           cue = found.cue;
           rest = found.rest;
           split = ap (λ (cues : List Cue). first ∷ cues) found.split;
-          before = ap (λ (t : List ℕ). shown_tick t (alone_step_said view a first) ++ shown_from view (alone_step view a first) found.front) is
-              ∙ ap (λ (t : ShownTick). t ∷ shown_from view (alone_step view a first) found.front) here ∙ ap (λ (ts : List ShownTick). one ∷ ts) found.before;
+          before = ap (λ (b : List ℕ). shown_tick b (tick_said view (t 0) a first) ++ shown_from view (later t) (tick_after view (t 0) a first) found.front) is
+              ∙ ap (λ (s : ShownTick). s ∷ shown_from view (later t) (tick_after view (t 0) a first) found.front) here ∙ ap (λ (ts : List ShownTick). one ∷ ts) found.before;
           text = found.text;
           said = found.said;
         }
 
 -- the same console of a partition that was replayed
-same_console : (cues : List Cue) (old now : Lone) (console : Option ℕ) → IsReplayed cues old now → console ≡ (part_of now.system.conf now.p).console → console ≡ (part_of old.system.conf old.p).console
-same_console cues old now console left is = is ∙ ap (λ (system : System). (part_of system.conf now.p).console) left.system ∙ ap (λ p. (part_of old.system.conf p).console) left.p
+same_console : (upsets : List UpsetLine) (cues : List Cue) (old now : Lone) (console : Option ℕ) → IsReplayed upsets cues old now → console ≡ (part_of now.system.conf now.p).console → console ≡ (part_of old.system.conf old.p).console
+same_console upsets cues old now console left is = is ∙ ap (λ (system : System). (part_of system.conf now.p).console) left.system ∙ ap (λ p. (part_of old.system.conf p).console) left.p
 
 -- the console bytes of ticks are those of the cues that show them
-heard_cues : (old : Lone) (console : Option ℕ) (some : List Cue) (said : List ℕ) (begun board : BoardView) → console ≡ (part_of old.system.conf old.p).console
-    → said ≡ alone_said (own_view old) (alone_start (own_view old)) some → IsHeard (console_said console said) begun board → IsHeard (replay_said old some) begun board
-heard_cues old console some said begun board console_is is heard =
-    heard_as (console_said console said) (replay_said old some) begun board
+heard_cues : (upsets : List UpsetLine) (old : Lone) (console : Option ℕ) (some : List Cue) (said : List ℕ) (begun board : BoardView) → console ≡ (part_of old.system.conf old.p).console
+    → said ≡ script_said upsets (own_view old) some → IsHeard (console_said console said) begun board → IsHeard (replay_said upsets old some) begun board
+heard_cues upsets old console some said begun board console_is is heard =
+    heard_as (console_said console said) (replay_said upsets old some) begun board
     (λ uart. ap (λ (place : Option ℕ). if is_number place uart then said else []) console_is ∙ ap (λ (bytes : List ℕ). if is_number (part_of old.system.conf old.p).console uart then bytes else []) is) heard
 
 -- where a replay answers, its showing does
-shown_replay : {T : Type 0} (result : Result T WriteFault) (cues : List Cue) (lines : List ReportLine) (old now : Lone) (had got : Option (List ℕ)) (begun board : BoardView)
-    → IsReplay result cues lines old now had got begun board → IsShown result cues lines old now had got begun board
-shown_replay (Ok done) cues lines old now had got begun board is = is
-shown_replay (Err unwritten) cues lines old now had got begun board is = record { done = is.done; within = is.within; report = is.report; heard = is.heard; whole = is.whole; cut = is.cut }
+shown_replay : {T : Type 0} (result : Result T WriteFault) (upsets : List UpsetLine) (cues : List Cue) (lines : List ReportLine) (old now : Lone) (had got : Option (List ℕ)) (begun board : BoardView)
+    → IsReplay result upsets cues lines old now had got begun board → IsShown result upsets cues lines old now had got begun board
+shown_replay (Ok done) upsets cues lines old now had got begun board is = is
+shown_replay (Err unwritten) upsets cues lines old now had got begun board is = record { done = is.done; within = is.within; report = is.report; heard = is.heard; whole = is.whole; cut = is.cut }
 
 -- all ticks of a replay that was done went out, and then the line of its end
-pub whole_showing : {T : Type 0} (result : Result T WriteFault) (cues : List Cue) (old now : Lone) (console : Option ℕ) (ticks : List ShownTick) (had mid got : Option (List ℕ)) (begun board : BoardView)
+pub whole_showing : {T : Type 0} (result : Result T WriteFault) (upsets : List UpsetLine) (cues : List Cue) (old now : Lone) (console : Option ℕ) (ticks : List ShownTick) (had mid got : Option (List ℕ)) (begun board : BoardView)
     → console ≡ (part_of now.system.conf now.p).console → ArePlayed console ticks had mid begun board → Writes result mid (text_of (end_line now.p now.part.state)) got
-    → IsReplayed cues old now → ticks ≡ shown_by (own_view old) cues → IsShown result cues (replay_lines (own_view old) cues) old now had got begun board
-whole_showing result cues old now console ticks had mid got begun board console_is played writes left shows =
+    → IsReplayed upsets cues old now → ticks ≡ shown_by upsets (own_view old) cues → IsShown result upsets cues (replay_lines upsets (own_view old) cues) old now had got begun board
+whole_showing result upsets cues old now console ticks had mid got begun board console_is played writes left shows =
     let view = own_view old in
-    shown_replay result cues (replay_lines view cues) old now had got begun board
-    (end_shown result cues old now had mid got begun board
+    shown_replay result upsets cues (replay_lines upsets view cues) old now had got begun board
+    (end_shown result upsets cues old now had mid got begun board
     (record {
       left = left;
-      report = played.report ∙ ap (λ (ts : List ShownTick). grown had (shown_text ts)) shows ∙ ap (grown had) (text_from view (alone_start view) cues);
-      heard = heard_cues old console cues (shown_said ticks) begun board (same_console cues old now console left console_is) (ap shown_said shows ∙ said_from view (alone_start view) cues) played.heard;
+      report = played.report ∙ ap (λ (ts : List ShownTick). grown had (shown_text ts)) shows ∙ ap (grown had) (text_by upsets view cues);
+      heard = heard_cues upsets old console cues (shown_said ticks) begun board (same_console upsets cues old now console left console_is) (ap shown_said shows ∙ said_by upsets view cues) played.heard;
     })
-    (subst (λ bytes. Writes result mid bytes got) (lone_end cues old now left) writes))
+    (subst (λ bytes. Writes result mid bytes got) (lone_end upsets cues old now left) writes))
 
 -- or not all of them
-pub cut_played : (cues : List Cue) (old now : Lone) (console : Option ℕ) (ticks : List ShownTick) (had got : Option (List ℕ)) (begun board : BoardView)
+pub cut_played : (upsets : List UpsetLine) (cues : List Cue) (old now : Lone) (console : Option ℕ) (ticks : List ShownTick) (had got : Option (List ℕ)) (begun board : BoardView)
     → console ≡ (part_of now.system.conf now.p).console → AreCutPlayed console ticks had got begun board
-    → IsReplayed cues old now → ticks ≡ shown_by (own_view old) cues → IsCutShowing cues (replay_lines (own_view old) cues) old had got begun board
-cut_played cues old now console ticks had got begun board console_is played left shows =
+    → IsReplayed upsets cues old now → ticks ≡ shown_by upsets (own_view old) cues → IsCutShowing upsets cues (replay_lines upsets (own_view old) cues) old had got begun board
+cut_played upsets cues old now console ticks had got begun board console_is played left shows =
     let view = own_view old in
-    let here = shown_at view (alone_start view) cues played.earlier played.tick played.later (sym shows ∙ played.split) in
+    let own = own_at upsets view in
+    let here = shown_at view own (alone_start view) cues played.earlier played.tick played.later (sym shows ∙ played.split) in
+    let lines = own (length here.front) in
     let done = here.front ++ here.cue ∷ [] in
-    let said : shown_said (played.earlier ++ played.tick ∷ []) ≡ alone_said view (alone_start view) done =
-    said_more played.earlier played.tick ∙ ap (λ (ts : List ShownTick). shown_said ts ++ played.tick.said) (sym here.before) ∙ ap (λ (bytes : List ℕ). bytes ++ played.tick.said) (said_from view (alone_start view) here.front)
-    ∙ ap (λ (bytes : List ℕ). alone_said view (alone_start view) here.front ++ bytes) here.said ∙ sym (follow.said_more view (alone_start view) here.front here.cue) in
-    (showing_short cues old had got begun board
-    (cut_showing old cues here.front here.cue here.rest had played.mid got begun board (append_assoc here.front (here.cue ∷ []) here.rest ∙ here.split)
-    (played.report ∙ ap (λ (ts : List ShownTick). grown had (shown_text ts)) (sym here.before) ∙ ap (grown had) (text_from view (alone_start view) here.front))
-    (subst (λ (bytes : List ℕ). GrewByPrefix played.mid bytes got) here.text played.last)
-    (heard_cues old console done (shown_said (played.earlier ++ played.tick ∷ [])) begun board (same_console cues old now console left console_is) said played.heard)).0).0
+    let left_is : alone_upset_from view (follow.strikes_of own) (alone_start view) here.front ≡ replayed upsets view here.front =
+    ap (λ (s : ℕ → List Strike). alone_upset_from view s (alone_start view) here.front) (sym (follow.strikes_are upsets view)) in
+    let text : played.tick.text ≡ texts (tick_lines view lines (replayed upsets view here.front) here.cue) = here.text ∙ ap (λ (a : Alone). texts (tick_lines view lines a here.cue)) left_is in
+    let bytes : played.tick.said ≡ tick_said view lines (replayed upsets view here.front) here.cue = here.said ∙ ap (λ (a : Alone). tick_said view lines a here.cue) left_is in
+    let said : shown_said (played.earlier ++ played.tick ∷ []) ≡ script_said upsets view done =
+    said_more played.earlier played.tick ∙ ap (λ (ts : List ShownTick). shown_said ts ++ played.tick.said) (sym here.before) ∙ ap (λ (front : List ℕ). front ++ played.tick.said) (said_by upsets view here.front)
+    ∙ ap (λ (last : List ℕ). script_said upsets view here.front ++ last) bytes ∙ sym (follow.said_more upsets view here.front here.cue lines refl) in
+    (showing_short upsets cues old had got begun board
+    (cut_showing upsets old cues here.front lines here.cue here.rest had played.mid got begun board refl (append_assoc here.front (here.cue ∷ []) here.rest ∙ here.split)
+    (played.report ∙ ap (λ (ts : List ShownTick). grown had (shown_text ts)) (sym here.before) ∙ ap (grown had) (text_by upsets view here.front))
+    (subst (λ (tick : List ℕ). GrewByPrefix played.mid tick got) text played.last)
+    (heard_cues upsets old console done (shown_said (played.earlier ++ played.tick ∷ [])) begun board (same_console upsets cues old now console left console_is) said played.heard)).0).0
 
 -- where nothing is kept of a replay, and nothing was left out, it was silent
-pub kept_silent : (kept : Option Kept) (cues : List Cue) (old new : Lone) → IsReplayed cues old new → IsSome kept × IfSome kept (λ k. kept_ticks k ≡ [])
-    → IfSome kept (λ k. IsKept k × (kept_ticks k ≡ shown_by (own_view old) cues)) → IsSilentReplay cues old new
-kept_silent None cues old new left empty shows = absurd (not_so empty.0)
+pub kept_silent : (kept : Option Kept) (upsets : List UpsetLine) (cues : List Cue) (old new : Lone) → IsReplayed upsets cues old new → IsSome kept × IfSome kept (λ k. kept_ticks k ≡ [])
+    → IfSome kept (λ k. IsKept k × (kept_ticks k ≡ shown_by upsets (own_view old) cues)) → IsSilentReplay upsets cues old new
+kept_silent None upsets cues old new left empty shows = absurd (not_so empty.0)
   where
     not_so : false ≡ true → ⊥
     not_so e = cc
-kept_silent (Some kept) cues old new left empty shows = nothing_shown cues old new left (sym shows.1 ∙ empty.1)
+kept_silent (Some kept) upsets cues old new left empty shows = nothing_shown upsets cues old new left (sym shows.1 ∙ empty.1)
 
 -- a console is one of eight UARTs
 pub console_below : (conf : Conf) (p : ℕ) (part : Part) → Fits (described conf) → p < length conf.parts → part ≡ slice_index_or conf.parts p part → IfSome part.console (λ place. place < 8)

@@ -2,7 +2,7 @@
 use Rattle.std.proofs.Common.{◌≡◌, ℕ, Bool, true, false, if◌then◌else◌, List, [], ◌∷◌, ◌++◌, map, Some, None, Err, refl, ap, ◌∙◌}
 use Rattle.std.specs.List.{flat_map}
 use Rattle.xm_report.specs.Report.{ConsoleLine, EndPart, EndWhole, HealthLine, MovedLine, PlanLine, ReportLine, StruckLine, SystemLine, TraceLine, WholeLine, console_text, end_part_text, end_whole_text, health_text, moved_text, plan_text, struck_text, system_text, text_of, texts, trace_text, whole_text}
-use Rattle.machine_model.specs.Alone.{Alone, alone_lines, alone_lines_of, alone_local, alone_local_in, alone_said, alone_step, alone_step_lines, alone_step_said}
+use Rattle.machine_model.specs.Alone.{Alone, alone_lines_of, alone_local, alone_local_in, alone_step_lines, alone_step_said}
 use Rattle.machine_model.specs.Cue.{Away, Cue, CueSlot, Mine}
 use Rattle.machine_model.specs.Lines.{local_lines, local_said}
 use Rattle.machine_model.specs.LocalTick.{local_tick, said_in, worked}
@@ -12,6 +12,12 @@ use Rattle.machine_model.specs.View.{PartitionView}
 use Rattle.fault_messages.specs.declared.fault.ScriptFault.{ScriptFault}
 use Rattle.fault_messages.specs.declared.fault.ScriptFault.TheVariants as fault
 use Rattle.xm_alone.specs.Replay.{AnswersFit}
+use Rattle.upset_model.specs.Places.{Timetable}
+use Rattle.upset_model.specs.Reports.{alone_reported, struck_line}
+use Rattle.upset_model.specs.Upsets.{alone_upset_said, later}
+use Rattle.upset_model.specs.declared.upset_line.UpsetLine.{UpsetLine}
+use Rattle.xm_alone.specs.lemmas.Struck.{struck_by, tick_after, tick_lines, tick_said}
+use Rattle.xm_alone.proofs.FollowLemmas.{strikes_of}
 
 -- each line has a text
 has_text : (line : ReportLine) → text_of line ≡ [] → ⊥
@@ -64,19 +70,23 @@ pub step_unsaid : (view : PartitionView) (a : Alone) (cue : Cue) → alone_step_
 unfolding alone_step_lines alone_lines_of alone_step_said alone_local
 step_unsaid view a cue none = local_unsaid cue.mine view a cue.seen (first_none _ _ (first_none _ _ none))
 
-pub unsaid : (view : PartitionView) (a : Alone) (cues : List Cue) → alone_lines view a cues ≡ [] → alone_said view a cues ≡ []
-unsaid view a [] none = refl
-unsaid view a (cue ∷ later) none =
-    ap (λ bytes. bytes ++ alone_said view (alone_step view a cue) later) (step_unsaid view a cue (first_none (alone_step_lines view a cue) (alone_lines view (alone_step view a cue) later) none))
-    ∙ unsaid view (alone_step view a cue) later (second_none (alone_step_lines view a cue) (alone_lines view (alone_step view a cue) later) none)
+pub tick_unsaid_too : (view : PartitionView) (lines : List UpsetLine) (a : Alone) (cue : Cue) → tick_lines view lines a cue ≡ [] → tick_said view lines a cue ≡ []
+tick_unsaid_too view lines a cue none = step_unsaid view (struck_by lines a) cue (second_none (map struck_line lines) (alone_step_lines view (struck_by lines a) cue) none)
+
+pub unsaid : (view : PartitionView) (t : Timetable) (a : Alone) (cues : List Cue) → alone_reported view t a cues ≡ [] → alone_upset_said view (strikes_of t) a cues ≡ []
+unsaid view t a [] none = refl
+unsaid view t a (cue ∷ cues) none =
+    let rest = alone_reported view (later t) (tick_after view (t 0) a cue) cues in
+    ap (λ bytes. bytes ++ alone_upset_said view (strikes_of (later t)) (tick_after view (t 0) a cue) cues) (tick_unsaid_too view (t 0) a cue (first_none (tick_lines view (t 0) a cue) rest none))
+    ∙ unsaid view (later t) (tick_after view (t 0) a cue) cues (second_none (tick_lines view (t 0) a cue) rest none)
 
 -- a fault says the same of a script, whatever an answer without it has
-pub fault_fits : (S T : Type 0) (view : PartitionView) (cues : List Cue) (why : ScriptFault) → AnswersFit {T = S} view cues (Err why) → AnswersFit {T = T} view cues (Err why)
-fault_fits S T view cues fault.Memory answers = tt
-fault_fits S T view cues fault.Magic answers = absurd answers
-fault_fits S T view cues (fault.Version found) answers = absurd answers
-fault_fits S T view cues (fault.Short at) answers = absurd answers
-fault_fits S T view cues (fault.Trailing at) answers = absurd answers
-fault_fits S T view cues (fault.Field at) answers = absurd answers
-fault_fits S T view cues (fault.Length found) answers = absurd answers
-fault_fits S T view cues (fault.Cue tick) answers = answers
+pub fault_fits : (S T : Type 0) (upsets : List UpsetLine) (view : PartitionView) (cues : List Cue) (why : ScriptFault) → AnswersFit {T = S} upsets view cues (Err why) → AnswersFit {T = T} upsets view cues (Err why)
+fault_fits S T upsets view cues fault.Memory answers = tt
+fault_fits S T upsets view cues fault.Magic answers = absurd answers
+fault_fits S T upsets view cues (fault.Version found) answers = absurd answers
+fault_fits S T upsets view cues (fault.Short at) answers = absurd answers
+fault_fits S T upsets view cues (fault.Trailing at) answers = absurd answers
+fault_fits S T upsets view cues (fault.Field at) answers = absurd answers
+fault_fits S T upsets view cues (fault.Length found) answers = absurd answers
+fault_fits S T upsets view cues (fault.Cue tick) answers = answers

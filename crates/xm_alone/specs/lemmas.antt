@@ -2,3 +2,4 @@ pub mod Cues
 pub mod Kept
 pub mod ReplayTerms
 pub mod ShownTerms
+pub mod Struck

@@ -8,8 +8,8 @@ ghost use Rattle.machine_model.specs.Cue.{Cue};
 ghost use Rattle.machine_model.specs.Lines.{end_line};
 ghost use Rattle.machine_model.specs.View.{part_of, view_of};
 ghost use Rattle.span_model.specs.Passes.{part_at};
-ghost use Rattle.uart_board.specs.Views.{BoardView};
 ghost use Rattle.system_state.specs.State.{with_inputs};
+ghost use Rattle.upset_files.specs.Fits.{AllFit};
 ghost use Rattle.recording_model.specs.Replayed.{cue_lines, replay_lines};
 ghost use Rattle.xm_alone.specs.Replay.{IsReplay, IsReplayed, IsSilentReplay, TakesAll, AnswersFit, lone_in};
 ghost use Rattle.xm_alone.specs.Shown.{IsShown, shown_by};
@@ -23,13 +23,16 @@ use crate::fitting::takes_all;
 use crate::following::follow;
 use crate::keeping::Kept;
 use crate::shown::Shown;
+use crate::striking::due_at;
 use cue_scripts::{Script, ScriptFault};
 use loaded_system::System;
 use machine_model::{boots_alone, keeps_numbers};
 use std::alloc::Global;
 use std::marker::Model;
 use uart_board::{Board, ViewBoard};
-use xm_base::{Memory, PartId, proof};
+use upset_files::places_are_spelled;
+use upset_model::{Coming, UpsetLine};
+use xm_base::{Memory, PartId, TICKS, proof};
 use xm_machine::{AloneFault, Inputs, Machine};
 use xm_outside::Sink;
 use xm_report::{Line, WriteFault, put_line};
@@ -86,33 +89,35 @@ impl Alone {
         })
     }
 
-    /// Whether partition `p` of a system with these input words can take each cue of a script in the state which the cues before it leave;
-    /// else the number of the first that it cannot, counted from 0. All of them are done, and nothing goes out. Where none printed or said
-    /// anything the partition is given back as they left it, so that nothing of the replay is left but `end`.
+    /// Whether partition `p` of a system with these input words can take each cue of a script in the state which the cues before it and
+    /// its own of these upsets leave; else the number of the first that it cannot, counted from 0. All of them are done, and nothing goes
+    /// out. Where none printed or said anything, and no upset struck, the partition is given back as they left it.
     pub fn tried(
         alloc: Global,
         system: System,
         inputs: Inputs,
         p: PartId,
         script: &Script,
+        upsets: &[UpsetLine],
     ) -> Result<Option<Alone>, ScriptFault>
-        // Called for a partition that exists, with inputs for each partition, and with a script that the partition may
-        // receive.
+        // Called for a partition that exists, with inputs for each partition, with a script that the partition may
+        // receive, and with upsets that fit the system.
         requires partition { p < length system.conf.parts }
         requires inputs { length inputs ≡ length system.conf.parts }
         requires script { IsScript system.conf p script.now }
+        requires upsets { AllFit system.conf TICKS 0 upsets.now }
         // As `fits`; and where it can take each cue, and the answer has the partition, then the cues printed and wrote
         // nothing, and it stands as they left it. It may answer without the partition where they printed nothing, too,
         // by which a replay is slower and no other: only its measured time shows that it does not.
-        ensures fits { AnswersFit (view_of (with_inputs system inputs) p) script.now result }
-        ensures silent { IfOk result (λ silent. IfSome silent (IsSilentReplay script.now (booted_alone (with_inputs system inputs) p))) }
+        ensures fits { AnswersFit upsets.now (view_of (with_inputs system inputs) p) script.now result }
+        ensures silent { IfOk result (λ silent. IfSome silent (IsSilentReplay upsets.now script.now (booted_alone (with_inputs system inputs) p))) }
     {
         proof! {
             boots_alone();
             keeps_numbers();
         }
         let mut machine = Machine::boot(alloc, system, inputs)?;
-        match takes_all(&mut machine, p, script, Kept::new(alloc, 0)) {
+        match takes_all(&mut machine, p, script, upsets, Kept::new(alloc, 0)) {
             Ok(kept) => {
                 if is_silent(&kept) {
                     Ok(Some(Alone { machine, p }))
@@ -124,34 +129,37 @@ impl Alone {
         }
     }
 
-    /// Replays partition `p` of a system with these input words under each cue of a script, where it can take them; else the number of the
-    /// first that it cannot, counted from 0. Nothing goes out: what the cues print and write to the console is kept, to be shown after
-    /// the replay. There is no answer to be shown where that is too long, or memory for it runs out; `Alone::play` shows it then.
+    /// Replays partition `p` of a system with these input words under each cue of a script and with its own of these upsets, where it can
+    /// take the cues; else the number of the first that it cannot, counted from 0. Nothing goes out: what the cues and the upsets print, and
+    /// what the cues write to the console, is kept, to be shown after the replay. There is no answer to be shown where that is too long, or memory for it runs out; `Alone::play` shows it then.
     pub fn replayed(
         alloc: Global,
         system: System,
         inputs: Inputs,
         p: PartId,
         script: &Script,
+        upsets: &[UpsetLine],
     ) -> Result<Option<Replayed>, ScriptFault>
-        // Called for a partition that exists, with inputs for each partition, and with a script that the partition may
-        // receive.
+        // Called for a partition that exists, with inputs for each partition, with a script that the partition may
+        // receive, and with upsets that fit the system.
         requires partition { p < length system.conf.parts }
         requires inputs { length inputs ≡ length system.conf.parts }
         requires script { IsScript system.conf p script.now }
+        requires upsets { AllFit system.conf TICKS 0 upsets.now }
         // As `fits`; and where it can take each cue, and the answer has the partition, then it stands as the cues left
         // it, with all that they print and write to the console. It may answer without the partition at any time, by
         // which a replay is slower and no other: only its measured time shows that it does not.
-        ensures fits { AnswersFit (view_of (with_inputs system inputs) p) script.now result }
-        ensures left { IfOk result (λ done. IfSome done (λ replayed. IsReplayed script.now (booted_alone (with_inputs system inputs) p) replayed.alone)) }
-        ensures shown { IfOk result (λ done. IfSome done (λ replayed. replayed.shown ≡ shown_by (view_of (with_inputs system inputs) p) script.now)) }
+        ensures fits { AnswersFit upsets.now (view_of (with_inputs system inputs) p) script.now result }
+        ensures left { IfOk result (λ done. IfSome done (λ replayed. IsReplayed upsets.now script.now (booted_alone (with_inputs system inputs) p) replayed.alone)) }
+        ensures shown { IfOk result (λ done. IfSome done (λ replayed. replayed.shown ≡ shown_by upsets.now (view_of (with_inputs system inputs) p) script.now)) }
     {
         proof! {
             boots_alone();
             keeps_numbers();
         }
         let mut machine = Machine::boot(alloc, system, inputs)?;
-        let kept = match takes_all(&mut machine, p, script, Kept::new(alloc, KEPT_BYTES)) {
+        let room = Kept::new(alloc, KEPT_BYTES);
+        let kept = match takes_all(&mut machine, p, script, upsets, room) {
             Ok(kept) => kept,
             Err(fault) => return Err(fault),
         };
@@ -174,47 +182,40 @@ impl Alone {
     ) -> Result<(), WriteFault>
         // Where the partition stands as cues left it that show this, its lines and that of its end go out, and its
         // console bytes are written, as `Alone::play` answers it; after `WriteFault`, too, but that all cues were done.
-        ensures replay { (old : Lone) (cues : List Cue) → IsReplayed cues old self.now → shown.now ≡ shown_by (own_view old) cues
-            → IsShown result cues (replay_lines (own_view old) cues) old self.now (O.got out.old) (O.got out.new) (⟦<Board as ViewBoard>⟧.board_view board.old) (⟦<Board as ViewBoard>⟧.board_view board.new) }
+        ensures replay { (upsets : List UpsetLine) (old : Lone) (cues : List Cue) → IsReplayed upsets cues old self.now → shown.now ≡ shown_by upsets (own_view old) cues
+            → IsShown result upsets cues (replay_lines upsets (own_view old) cues) old self.now (O.got out.old) (O.got out.new) (⟦<Board as ViewBoard>⟧.board_view board.old) (⟦<Board as ViewBoard>⟧.board_view board.new) }
         ensures cause { HasWriteCause result (O.faults out.old) (O.faults out.new) }
     {
         shown.play(console_of(&self.machine, self.p), out, board)?;
         put_line(out, &end_line(&self.machine, self.p))
     }
 
-    /// The line of the partition's end goes out. It is the whole report of a replay whose cues printed and said nothing.
-    pub fn end<O: Sink>(&self, out: &mut O) -> Result<(), WriteFault>
-        // The line of the partition's end is the whole report of a replay whose cues print and say nothing, answered as
-        // `Alone::play` answers it.
-        ensures replay { (old : Lone) (cues : List Cue) (board : BoardView) → IsSilentReplay cues old self.now → IsReplay result cues (replay_lines (own_view old) cues) old self.now (O.got out.old) (O.got out.new) board board }
-        ensures cause { HasWriteCause result (O.faults out.old) (O.faults out.new) }
-    {
-        put_line(out, &end_line(&self.machine, self.p))
-    }
-
-    /// Replays a script that fits: the partition's lines and the line of its end go out, and its console bytes go to their UART. After
-    /// `WriteFault` the tick in hand was done whole, its bytes were said, and no later one was begun.
+    /// Replays a script that fits: before each tick the partition's own of these upsets strike, each with its line; the partition's lines and
+    /// the line of its end go out, and its console bytes go to their UART. After `WriteFault` the tick in hand was done whole, its bytes
+    /// were said, and no later one was begun.
     pub fn play<O: Sink>(
         &mut self,
         script: &Script,
+        upsets: &[UpsetLine],
         out: &mut O,
         board: &mut Board,
     ) -> Result<(), WriteFault>
-        // Called for a partition as it boots and with a script that the partition may receive and that it can take to
-        // its end.
+        // Called for a partition as it boots, with a script that the partition may receive, and with upsets that fit the
+        // system and with which it can take the script to its end.
         requires fresh { self.old ≡ booted_alone self.old.system self.old.p }
         requires script { IsScript self.old.system.conf self.old.p script.now }
-        requires fits { TakesAll (own_view self.old) script.now }
-        // A replay of a script that fits leaves of the partition what it is alone under these cues, and the hypervisor
-        // halted where the last of them halts it; its lines and that of its end went out, and its console bytes were
-        // written. Where the sink failed, that many of the cues were done, their console bytes were written, and a prefix
+        requires upsets { AllFit self.old.system.conf TICKS 0 upsets.now }
+        requires fits { TakesAll upsets.now (own_view self.old) script.now }
+        // A replay of a script that fits leaves of the partition what it is alone under these cues and its own upsets, each
+        // of which strikes before its tick, and the hypervisor halted where the last of the cues halts it; its lines, those
+        // of its upsets among them, and that of its end went out, and its console bytes were written. Where the sink failed, that many of the cues were done, their console bytes were written, and a prefix
         // of the same lines went out: the last of these cues is the one whose lines were cut, or the last of all.
-        ensures replay { IsReplay result script.now (replay_lines (own_view self.old) script.now) self.old self.new (O.got out.old) (O.got out.new) (⟦<Board as ViewBoard>⟧.board_view board.old) (⟦<Board as ViewBoard>⟧.board_view board.new) }
+        ensures replay { IsReplay result upsets.now script.now (replay_lines upsets.now (own_view self.old) script.now) self.old self.new (O.got out.old) (O.got out.new) (⟦<Board as ViewBoard>⟧.board_view board.old) (⟦<Board as ViewBoard>⟧.board_view board.new) }
         // A replay is answered by a fault only where the sink's count of faults rose, and nothing else of it moves that
         // count.
         ensures cause { HasWriteCause result (O.faults out.old) (O.faults out.new) }
     {
-        play_cues(&mut self.machine, self.p, script, out, board)?;
+        play_cues(&mut self.machine, self.p, script, upsets, out, board)?;
         put_line(out, &end_line(&self.machine, self.p))
     }
 
@@ -239,29 +240,39 @@ impl Alone {
     }
 }
 
-/// Replays the cues of a script.
+/// Replays the cues of a script, with the partition's own upsets.
 fn play_cues<O: Sink>(
     machine: &mut Machine,
     p: PartId,
     script: &Script,
+    upsets: &[UpsetLine],
     out: &mut O,
     board: &mut Board,
 ) -> Result<(), WriteFault>
     requires partition { p < length machine.old.state.parts }
     requires fresh { lone_in machine.old.state p ≡ booted_alone machine.old.state.system p }
     requires script { IsScript machine.old.state.system.conf p script.now }
-    requires fits { TakesAll (view_of machine.old.state.system p) script.now }
+    requires upsets { AllFit machine.old.state.system.conf TICKS 0 upsets.now }
+    requires fits { TakesAll upsets.now (view_of machine.old.state.system p) script.now }
     ensures parts { length machine.new.state.parts ≡ length machine.old.state.parts }
-    ensures replay { IsReplay result script.now (cue_lines (view_of machine.old.state.system p) script.now) (lone_in machine.old.state p) (lone_in machine.new.state p) (O.got out.old) (O.got out.new) (⟦<Board as ViewBoard>⟧.board_view board.old) (⟦<Board as ViewBoard>⟧.board_view board.new) }
+    ensures replay { IsReplay result upsets.now script.now (cue_lines upsets.now (view_of machine.old.state.system p) script.now) (lone_in machine.old.state p) (lone_in machine.new.state p) (O.got out.old) (O.got out.new) (⟦<Board as ViewBoard>⟧.board_view board.old) (⟦<Board as ViewBoard>⟧.board_view board.new) }
     ensures cause { HasWriteCause result (O.faults out.old) (O.faults out.new) }
 {
+    proof! {
+        let _now = machine.sys();
+        places_are_spelled();
+    }
     let mut rest = Cues::of(script);
+    let mut coming = Coming::new(upsets);
+    let mut tick = 0;
     while let Some((next, later)) = rest.next() {
-        let done = follow(machine, p, next, out, board);
+        let now = due_at(&mut coming, tick);
+        let done = follow(machine, p, next, now, out, board);
         match done.ended {
             Ok(()) => {}
             Err(fault) => return Err(unwritten(fault)),
         }
+        tick += done.ticks;
         rest = later.after(next, done.ticks);
     }
     Ok(())

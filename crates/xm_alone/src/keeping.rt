@@ -1,14 +1,18 @@
 //! What ticks of a partition in isolation print and write to its console, kept tick by tick.
 
-ghost use Rattle.std.specs.Prelude.{◌≡◌, ◌+◌, ◌<◌, ◌≤◌, ◌∷◌, ◌++◌, [], false, true, IfSome, length, take};
+ghost use Rattle.std.specs.Prelude.{◌≡◌, ℕ, ◌+◌, ◌<◌, ◌≤◌, ◌∷◌, ◌++◌, [], All, false, true, IfSome, length, take};
 ghost use Rattle.replay_model.specs.Step.{IsOfSystem};
 ghost use Rattle.xm_alone.specs.lemmas.Cues.{HasNext, IsNextCue, next_cues};
 ghost use Rattle.xm_alone.specs.Kept.{AreSized, IsKept, kept_ticks};
 ghost use Rattle.xm_alone.specs.lemmas.Kept.{FollowsKept, KeepsTick, KeepsTicks};
+ghost use Rattle.upset_model.specs.Places.{Timetable, lines_for};
+ghost use Rattle.upset_model.specs.lemmas.Segments.{AreNoneLater};
+ghost use Rattle.xm_machine.specs.Striking.{MayStrike};
 
 use crate::cues::Next;
 use crate::following::follow;
 use crate::kept_text::KeptText;
+use crate::striking::Due;
 use crate::unprinted::NoSink;
 use std::alloc::Global;
 use uart_board::Board;
@@ -96,6 +100,7 @@ pub(crate) fn follow_kept(
     machine: &mut Machine,
     p: PartId,
     next: Next<'_>,
+    due: Due<'_>,
     kept: Option<Kept>,
     board: &mut Board,
 ) -> (AloneSpan, Option<Kept>)
@@ -103,16 +108,24 @@ pub(crate) fn follow_kept(
     requires running { machine.old.state.halted ≡ false }
     requires more { machine.old.state.ticks + length (next_cues next) ≤ TICKS }
     requires next { IsNextCue machine.old.state.system.conf p next }
+    requires some { 0 < due.most }
+    requires strike { All (MayStrike machine.old.state) due.lines.now }
     requires kept { IfSome kept IsKept }
-    ensures follows { FollowsKept result.0 p next.entry machine.old.state machine.new.state kept result.1 }
+    ensures follows { (own : Timetable) → own 0 ≡ lines_for p due.entry.lines.now → AreNoneLater due.entry.most own
+        → FollowsKept result.0 p own next.entry machine.old.state machine.new.state kept result.1 }
     ensures within { HasNext next.entry result.0.ticks }
+    ensures some { 0 < result.0.ticks }
+    ensures most { result.0.ticks ≤ due.entry.most }
     ensures system { IsOfSystem machine.old.state machine.new.state }
 {
     let Some(mut kept) = kept else {
-        return (follow(machine, p, next, &mut NoSink::new(), board), None);
+        return (
+            follow(machine, p, next, due, &mut NoSink::new(), board),
+            None,
+        );
     };
     let begun = kept.text.bytes.len();
-    let done = follow(machine, p, next, &mut kept.text, board);
+    let done = follow(machine, p, next, due, &mut kept.text, board);
     let kept = kept.with_ticks(done.ended, begun, machine.said());
     (done, kept)
 }

@@ -8,7 +8,8 @@ use Rattle.xm_machine.specs.declared.alone_span.AloneFault.{AloneFault}
 use Rattle.xm_machine.specs.declared.alone_span.AloneSpan.{AloneSpan}
 use Rattle.xm_alone.specs.Kept.{IsKept, kept_ticks, ticks_in}
 use Rattle.xm_alone.specs.Shown.{ShownTick, shown_from, shown_tick}
-use Rattle.xm_alone.specs.lemmas.Cues.{Follows}
+use Rattle.xm_alone.specs.lemmas.Struck.{FollowsStruck}
+use Rattle.upset_model.specs.Places.{Timetable}
 use Rattle.xm_alone.specs.declared.cues.Next as code_next
 use Rattle.xm_alone.specs.declared.keeping.Kept.{Kept}
 
@@ -29,11 +30,12 @@ KeepsShown before None shows = Unit {0}
 KeepsShown None (Some after) shows = ⊥
 KeepsShown (Some before) (Some after) shows = IsKept after × (kept_ticks after ≡ kept_ticks before ++ shows)
 
--- partition p followed the first of the cues that come next, and what it showed is kept
-pub record FollowsKept (done : AloneSpan) (p : ℕ) (first : code_next.Next) (old new : Machine) (before after : Option Kept) : Type 0 where
+-- partition p followed the first of the cues that come next, with these lines of its own upsets before each tick, and what it showed is kept
+pub record FollowsKept (done : AloneSpan) (p : ℕ) (own : Timetable) (first : code_next.Next) (old new : Machine) (before after : Option Kept) : Type 0 where
   pub had : Option (List ℕ)
   pub got : Option (List ℕ)
   pub begun : BoardView
   pub board : BoardView
-  pub follows : Follows done.ended done.ticks p first old new had got begun board
-  pub kept : KeepsShown before after (shown_from (view_of old.system p) (part_in old p) (follows.quiet ++ follows.cue ∷ []))
+  pub said : List ℕ
+  pub follows : FollowsStruck done.ended done.ticks p own first old new had got begun board said
+  pub kept : KeepsShown before after (shown_from (view_of old.system p) own (part_in old p) (follows.quiet ++ follows.cue ∷ []))

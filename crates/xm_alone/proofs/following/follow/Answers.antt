@@ -1,15 +1,14 @@
-use Rattle.std.proofs.Common.{arith}
-use Rattle.xm_alone.proofs.NextLemmas.{alike_follows, other_follows}
+use Rattle.std.proofs.Common.{◌≡◌, [], ap, arith, ◌∙◌}
+use Rattle.std.proofs.lemmas.Bool.Decides.{nat_tests}
+use Rattle.upset_model.specs.Places.{lines_for}
+use Rattle.xm_alone.proofs.StruckLemmas.{no_items, none_follows}
 use Rattle.xm_alone.proofs.following.follow.Goals as goal
 
-pub returns-in-Alike-clause-follows : goal.returns-in-Alike-clause-follows
-returns-in-Alike-clause-follows g c =
-    rw c.in-Alike.is (alike_follows c.span_alone.result.ended c.span_alone.result.ticks c.args.p c.in-Alike.count c.in-Alike.own c.args.machine.now.state c.span_alone.new.self.state
-    (g.O.Sink.got c.args.out.now) (g.O.Sink.got c.span_alone.new.out) (record { places = _; marks = _ }) (record { places = _; marks = _ }) c.span_alone.new.self.said
-    c.span_alone.ensures.some (omega (arith, c.span_alone.ensures.within, c.from.ensures)) c.span_alone.ensures.span c.span_alone.ensures.said)
+pub returns-then-is_empty-clause-follows : goal.returns-then-is_empty-clause-follows
+returns-then-is_empty-clause-follows g c = λ own its later.
+    let none : c.args.due.lines.now ≡ [] = no_items c.args.due.lines.now (grind (arith, nat_tests, c.is_empty.ensures, c.if-is_empty.true)) in
+    none_follows c.follow_ticks.result.ended c.follow_ticks.result.ticks c.args.due.most c.args.p own c.args.next c.args.machine.now.state c.follow_ticks.new.machine.state (g.O.Sink.got c.args.out.now) (g.O.Sink.got c.follow_ticks.new.out)
+    (record { places = _; marks = _ }) (record { places = _; marks = _ }) c.follow_ticks.new.machine.said (its ∙ ap (lines_for c.args.p) none) later c.follow_ticks.ensures.most c.follow_ticks.ensures.follows
 
-pub returns-in-Other-clause-follows : goal.returns-in-Other-clause-follows
-returns-in-Other-clause-follows g c =
-    rw c.in-Other.is (other_follows c.step_alone-ended.result c.args.p c.in-Other.cue c.args.machine.now.state c.step_alone-ended.new.self.state
-    (g.O.Sink.got c.args.out.now) (g.O.Sink.got c.step_alone-ended.new.out) (record { places = _; marks = _ }) (record { places = _; marks = _ }) c.step_alone-ended.new.self.said
-    c.requires.running c.step_alone-ended.ensures.step c.step_alone-ended.ensures.heard c.step_alone-ended.ensures.said)
+pub returns-else-is_empty-clause-follows : goal.returns-else-is_empty-clause-follows
+returns-else-is_empty-clause-follows g c = λ own its later. c.follow_struck.ensures.follows own its
