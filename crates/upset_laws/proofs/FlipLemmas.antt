@@ -1,6 +1,6 @@
 -- Flips of bits at places.
-use Rattle.std.proofs.Common.{◌≡◌, ℕ, ◌<◌, ◌≤◌, ◌+◌, ◌%◌, ◌^◌, Bool, true, false, List, [], ◌∷◌, length, map, Option, None, Some, refl, sym, ap, ◌∙◌, arith, subst}
-use Rattle.std.specs.Prelude.{◌==◌, if◌then◌else◌, bit_xor, slice_index, unwrap_or}
+use Rattle.std.proofs.Common.{◌≡◌, ℕ, zero, suc, ◌<◌, ◌≤◌, ◌+◌, ◌%◌, ◌^◌, Bool, true, false, List, [], ◌∷◌, length, map, Option, None, Some, refl, sym, ap, ◌∙◌, arith, subst}
+use Rattle.std.specs.Prelude.{◌==◌, if◌then◌else◌, bit_xor, slice_index, slice_set, unwrap_or}
 use Rattle.std.specs.List.{AllByRecursion}
 use Rattle.std.specs.Option.{ForSome}
 use Rattle.std.proofs.Math.Pow.{pow-lt}
@@ -13,13 +13,13 @@ use Rattle.guest_bus.specs.lemmas.MemoryLemmas.{get-insert_other, get-insert_sam
 use Rattle.sparc_step.specs.Registers.{AreRegisters, Registers}
 use Rattle.virt_clocks.specs.Clocks.{IsTimer, armed}
 use Rattle.virt_clocks.specs.declared.timer.Timer.{Timer}
-use Rattle.virt_traps.specs.Virtual.{AreVirtualTraps}
 use Rattle.xm_base.specs.Bytes.{AreBytes}
 use Rattle.xm_traces.specs.Ring.{Kept}
 use Rattle.xm_traces.specs.declared.entry.TraceEntry.{TraceEntry}
 use Rattle.machine_model.specs.Partition.{PartitionState}
 use Rattle.machine_model.specs.View.{PartitionView}
 use Rattle.range_model.specs.Numbers.{AreBelow, IsByteMemory}
+use Rattle.range_model.specs.Ranges.{IsPartitionInRange}
 use Rattle.range_model.specs.Registers.{AreWordRegisters}
 use Rattle.upset_laws.specs.FlipLaws.{AreSameBut, FlipsItsPlace, FlipsKeepFacts, FlipsKeepRanges, FlipsKeepRegisters, FlipsKeepTimers, FlipsKeepTraps, FlipsNothingElse, FlipsStayIn, HasItsInterval, StrikesByOwnLines, TwoStruckRuns, place_bits, place_value}
 use Rattle.upset_model.specs.Places.{deadline_of, flip, flipped, flipped_at, flipped_timer, due, interval_of, is_place, lines_for, schedule_of, upset_of}
@@ -237,15 +237,15 @@ flips_keep_timers view Pending bit ps here f = f
 flips_keep_timers view (MemoryByte address) bit ps here f = f
 
 -- words stay words, and bytes stay bytes
-words_stay : (n bit : ℕ) (words : List ℕ) → bit < 32 → n < length words → AreBelow (2 ^ 32) words → AreBelow (2 ^ 32) (flipped_at n bit words)
-words_stay n bit words low there all k = by (k == n) refl
-  where
-    by : (b : Bool) → (k == n) ≡ b → slice_index (flipped_at n bit words) k < 2 ^ 32
-    by true is =
-        let same : k ≡ n = grind (arith, is, nat_tests) in
-        subst (λ m. slice_index (flipped_at n bit words) m < 2 ^ 32) (sym same)
-        (subst (λ value. value < 2 ^ 32) (sym (flips_here n bit words there)) (xor_lt 32 (slice_index words n) (2 ^ bit) (all n) (pow-lt low)))
-    by false other = subst (λ value. value < 2 ^ 32) (sym ((same_but n bit words).others k other)) (all k)
+set_below : (bound : ℕ) (words : List ℕ) (n word : ℕ) → word < bound → AreBelow bound words → AreBelow bound (slice_set words n word)
+set_below bound [] n word small all k = all k
+set_below bound (first ∷ words) zero word small all zero = small
+set_below bound (first ∷ words) zero word small all (suc k) = all (suc k)
+set_below bound (first ∷ words) (suc n) word small all zero = all zero
+set_below bound (first ∷ words) (suc n) word small all (suc k) = set_below bound words n word small (λ i. all (suc i)) k
+
+words_stay : (n bit : ℕ) (words : List ℕ) → bit < 32 → AreBelow (2 ^ 32) words → AreBelow (2 ^ 32) (flipped_at n bit words)
+words_stay n bit words low all = set_below (2 ^ 32) words n (flipped bit (slice_index words n)) (xor_lt 32 (slice_index words n) (2 ^ bit) (all n) (pow-lt low)) all
 
 bytes_stay : (address bit : ℕ) (ps : PartitionState) → bit < 8 → IsByteMemory ps.memory → IsByteMemory (flip (MemoryByte address) bit ps).memory
 bytes_stay address bit ps low all other = by (other == address) refl
@@ -262,19 +262,19 @@ bytes_stay address bit ps low all other = by (other == address) refl
 table_ends : (base : ℕ) → base % 4096 ≡ 0 → base < 2 ^ 32 → base + 4096 ≤ 2 ^ 32
 table_ends base whole below = omega (arith, whole, below)
 
-core_stays : (view : PartitionView) (place : Place) (bit : ℕ) (ps : PartitionState) → is_place view place bit ≡ true → AreRegisters ps.core → AreWordRegisters ps.core → AreWordRegisters (flip place bit ps).core
-core_stays view (Global n) bit ps here r f = record { pc = f.pc; npc = f.npc; y = f.y; icc = f.icc; cwp = f.cwp; globals = words_stay n bit ps.core.globals (grind (arith, here)) (let below : n < 8 = grind (arith, here) in let eight = r.eight_globals in omega (arith, below, eight)) f.globals; windows = f.windows }
-core_stays view (Windowed n) bit ps here r f = record { pc = f.pc; npc = f.npc; y = f.y; icc = f.icc; cwp = f.cwp; globals = f.globals; windows = words_stay n bit ps.core.windows (grind (arith, here)) (let below : n < 128 = grind (arith, here) in let all = r.eight_windows in omega (arith, below, all)) f.windows }
-core_stays view Pc bit ps here r f = record { pc = xor_lt 32 ps.core.pc (2 ^ bit) f.pc (pow-lt (in_width view Pc bit here)); npc = f.npc; y = f.y; icc = f.icc; cwp = f.cwp; globals = f.globals; windows = f.windows }
-core_stays view Npc bit ps here r f = record { pc = f.pc; npc = xor_lt 32 ps.core.npc (2 ^ bit) f.npc (pow-lt (in_width view Npc bit here)); y = f.y; icc = f.icc; cwp = f.cwp; globals = f.globals; windows = f.windows }
-core_stays view YRegister bit ps here r f = record { pc = f.pc; npc = f.npc; y = xor_lt 32 ps.core.y (2 ^ bit) f.y (pow-lt (in_width view YRegister bit here)); icc = f.icc; cwp = f.cwp; globals = f.globals; windows = f.windows }
-core_stays view Conditions bit ps here r f = record { pc = f.pc; npc = f.npc; y = f.y; icc = conditions bit ps.core.icc (grind (arith, here)) f.icc; cwp = f.cwp; globals = f.globals; windows = f.windows }
-core_stays view HardwareDeadline bit ps here r f = f
-core_stays view ExecutionDeadline bit ps here r f = f
-core_stays view TrapBase bit ps here r f = f
-core_stays view Mask bit ps here r f = f
-core_stays view Pending bit ps here r f = f
-core_stays view (MemoryByte address) bit ps here r f = f
+core_stays : (view : PartitionView) (place : Place) (bit : ℕ) (ps : PartitionState) → is_place view place bit ≡ true → AreWordRegisters ps.core → AreWordRegisters (flip place bit ps).core
+core_stays view (Global n) bit ps here f = record { pc = f.pc; npc = f.npc; y = f.y; icc = f.icc; cwp = f.cwp; globals = words_stay n bit ps.core.globals (in_width view (Global n) bit here) f.globals; windows = f.windows }
+core_stays view (Windowed n) bit ps here f = record { pc = f.pc; npc = f.npc; y = f.y; icc = f.icc; cwp = f.cwp; globals = f.globals; windows = words_stay n bit ps.core.windows (in_width view (Windowed n) bit here) f.windows }
+core_stays view Pc bit ps here f = record { pc = xor_lt 32 ps.core.pc (2 ^ bit) f.pc (pow-lt (in_width view Pc bit here)); npc = f.npc; y = f.y; icc = f.icc; cwp = f.cwp; globals = f.globals; windows = f.windows }
+core_stays view Npc bit ps here f = record { pc = f.pc; npc = xor_lt 32 ps.core.npc (2 ^ bit) f.npc (pow-lt (in_width view Npc bit here)); y = f.y; icc = f.icc; cwp = f.cwp; globals = f.globals; windows = f.windows }
+core_stays view YRegister bit ps here f = record { pc = f.pc; npc = f.npc; y = xor_lt 32 ps.core.y (2 ^ bit) f.y (pow-lt (in_width view YRegister bit here)); icc = f.icc; cwp = f.cwp; globals = f.globals; windows = f.windows }
+core_stays view Conditions bit ps here f = record { pc = f.pc; npc = f.npc; y = f.y; icc = conditions bit ps.core.icc (grind (arith, here)) f.icc; cwp = f.cwp; globals = f.globals; windows = f.windows }
+core_stays view HardwareDeadline bit ps here f = f
+core_stays view ExecutionDeadline bit ps here f = f
+core_stays view TrapBase bit ps here f = f
+core_stays view Mask bit ps here f = f
+core_stays view Pending bit ps here f = f
+core_stays view (MemoryByte address) bit ps here f = f
 
 memory_stays : (view : PartitionView) (place : Place) (bit : ℕ) (ps : PartitionState) → is_place view place bit ≡ true → IsByteMemory ps.memory → IsByteMemory (flip place bit ps).memory
 memory_stays view (Global n) bit ps here f = f
@@ -290,7 +290,11 @@ memory_stays view Mask bit ps here f = f
 memory_stays view Pending bit ps here f = f
 memory_stays view (MemoryByte address) bit ps here f = bytes_stay address bit ps (in_width view (MemoryByte address) bit here) f
 
-table_stays : (view : PartitionView) (place : Place) (bit : ℕ) (ps : PartitionState) → is_place view place bit ≡ true → AreVirtualTraps ps.traps → ps.traps.base + 4096 ≤ 2 ^ 32 → (flip place bit ps).traps.base + 4096 ≤ 2 ^ 32
+-- the table of traps begins at a multiple of its size
+pub flip_on_page : (view : PartitionView) (place : Place) (bit : ℕ) (ps : PartitionState) → is_place view place bit ≡ true → ps.traps.base % 4096 ≡ 0 → (flip place bit ps).traps.base % 4096 ≡ 0
+flip_on_page view place bit ps here t = (flips_keep_traps view place bit ps here (record { aligned = t })).aligned
+
+table_stays : (view : PartitionView) (place : Place) (bit : ℕ) (ps : PartitionState) → is_place view place bit ≡ true → ps.traps.base % 4096 ≡ 0 → ps.traps.base + 4096 ≤ 2 ^ 32 → (flip place bit ps).traps.base + 4096 ≤ 2 ^ 32
 table_stays view (Global n) bit ps here t f = f
 table_stays view (Windowed n) bit ps here t f = f
 table_stays view Pc bit ps here t f = f
@@ -300,7 +304,7 @@ table_stays view Conditions bit ps here t f = f
 table_stays view HardwareDeadline bit ps here t f = f
 table_stays view ExecutionDeadline bit ps here t f = f
 table_stays view TrapBase bit ps here t f =
-    table_ends (flipped bit ps.traps.base) (flips_keep_traps view TrapBase bit ps here t).aligned
+    table_ends (flipped bit ps.traps.base) (flip_on_page view TrapBase bit ps here t)
     (xor_lt 32 ps.traps.base (2 ^ bit) (omega (arith, f)) (pow-lt (in_width view TrapBase bit here)))
 table_stays view Mask bit ps here t f = f
 table_stays view Pending bit ps here t f = f
@@ -320,13 +324,16 @@ same_rest Mask bit ps = (refl, refl)
 same_rest Pending bit ps = (refl, refl)
 same_rest (MemoryByte address) bit ps = (refl, refl)
 
-pub flips_keep_ranges : FlipsKeepRanges
-flips_keep_ranges view place bit ps here r t f =
+pub flip_in_range : (view : PartitionView) (place : Place) (bit : ℕ) (ps : PartitionState) → is_place view place bit ≡ true → ps.traps.base % 4096 ≡ 0 → IsPartitionInRange ps → IsPartitionInRange (flip place bit ps)
+flip_in_range view place bit ps here t f =
     let rest = same_rest place bit ps in
     record {
-      core = core_stays view place bit ps here r f.core;
+      core = core_stays view place bit ps here f.core;
       memory = memory_stays view place bit ps here f.memory;
       table = table_stays view place bit ps here t f.table;
       status = subst (λ value. value < 2 ^ 32) (sym rest.0) f.status;
       traces = subst (λ (kept : Kept TraceEntry). AllByRecursion (λ entry. AreBytes entry.load) kept.entries) (sym rest.1) f.traces;
     }
+
+pub flips_keep_ranges : FlipsKeepRanges
+flips_keep_ranges view place bit ps here r t f = flip_in_range view place bit ps here t.aligned f

@@ -2,3 +2,5 @@ pub mod UpsetLemmas
 pub mod FlipLemmas
 pub mod GroupLemmas
 pub mod ReportLemmas
+pub mod TableLemmas
+pub mod ReplayLemmas

@@ -1,28 +1,27 @@
 -- A partition's own lines of what a run with upsets reports.
-use Rattle.std.proofs.Common.{◌≡◌, ◌≢◌, ℕ, zero, suc, ◌<◌, ◌≤◌, Bool, true, false, cond, List, [], ◌∷◌, ◌++◌, length, map, Option, None, Some, refl, sym, ap, ◌∙◌, arith}
+use Rattle.std.proofs.Common.{◌≡◌, ◌≢◌, ℕ, zero, suc, ◌<◌, ◌≤◌, Bool, true, false, cond, List, [], ◌∷◌, ◌++◌, length, map, Some, refl, sym, ap, ◌∙◌, arith}
 use Rattle.std.specs.Prelude.{slice_get, ◌==◌, if◌then◌else◌}
 use Rattle.std.specs.List.{filter}
 use Rattle.std.proofs.lemmas.Bool.Decides.{nat_tests}
 use Rattle.std.proofs.lemmas.List.{append-nil}
 use Rattle.std.proofs.lemmas.Option.{same_Some}
 use Rattle.xm_report.specs.Report.{EndWhole, ReportLine, SystemLine}
-use Rattle.machine_model.specs.lemmas.TickLemmas.{step_halted}
 use Rattle.machine_model.specs.Alone.{Alone, alone_start, alone_step, alone_step_lines}
 use Rattle.machine_model.specs.CoreFile.{core_file}
-use Rattle.machine_model.specs.Cue.{Cue, cue, script}
+use Rattle.machine_model.specs.Cue.{Cue, cue}
 use Rattle.machine_model.specs.Facts.{KeepsNumbers}
-use Rattle.machine_model.specs.Laws.{BootsAlone, alone_part_at, core_file_of, part}
-use Rattle.machine_model.specs.Lines.{console, end_line, end_lines, lines, own, report, step_console, step_lines, tag_of}
+use Rattle.machine_model.specs.Laws.{BootsAlone, part}
+use Rattle.machine_model.specs.Lines.{end_line, end_lines, lines, own, report, step_console, step_lines, tag_of}
 use Rattle.machine_model.specs.Lists.{all_of, is_number}
-use Rattle.machine_model.specs.Machine.{Machine, run, start, step}
+use Rattle.machine_model.specs.Machine.{Machine, start, step}
 use Rattle.machine_model.specs.Partition.{PartitionState}
 use Rattle.machine_model.specs.View.{PartitionView, System, view_of}
 use Rattle.upset_model.specs.Places.{Timetable, due, lines_for, schedule_of, strike_of, upset_of, upsets_of}
 use Rattle.upset_model.specs.Reports.{after_run, alone_reported, own_due, received_in, reported, struck_line, struck_lines, upset_console, upset_report}
-use Rattle.upset_model.specs.Upsets.{Strike, Upset, alone_struck, alone_upset_from, later, no_upsets, own_strikes, ready, strikes_on, upset_run, upset_script}
+use Rattle.upset_model.specs.Upsets.{Upset, alone_struck, alone_upset_from, later, no_upsets, own_strikes, ready, strikes_on, upset_script}
 use Rattle.upset_model.specs.declared.upset_line.UpsetLine.{UpsetLine}
 use Rattle.upset_model.specs.lemmas.ReportLemmas.{halted_reported}
-use Rattle.upset_laws.specs.ReportLaws.{AreAlikeReported, OwnReports, PlainConsoles, PlainReports, SameUpsetCoreFile, SameUpsetPart, TicksReportAlone, TwoReports, alone_after}
+use Rattle.upset_laws.specs.ReportLaws.{OwnReports, PlainConsoles, PlainReports, SameUpsetCoreFile, SameUpsetPart, TicksReportAlone, TwoReports, alone_after}
 use Rattle.upset_laws.specs.UpsetLaws.{AllUpsetTicks, OneUpsetTick, RunsPlain}
 use Rattle.upset_laws.proofs.UpsetLemmas.{core_file_there, first_cues, more_upset_script, no_upset_script, own_append, own_nil, part_there, ready_none, script_begins, script_short, state_there, step_ready_view, upset_run_system}
 

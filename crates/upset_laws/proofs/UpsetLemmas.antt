@@ -50,7 +50,7 @@ struck_at true strike (Some ps) = refl
 struck_at false strike None = refl
 struck_at false strike (Some ps) = refl
 
-upset_there : (u : Upset) (g : Machine) (q : ℕ) → slice_get (upset u g).parts q ≡ on (struck_if (u.part == q) u.strike) (slice_get g.parts q)
+pub upset_there : (u : Upset) (g : Machine) (q : ℕ) → slice_get (upset u g).parts q ≡ on (struck_if (u.part == q) u.strike) (slice_get g.parts q)
 unfolding upset
 upset_there u g q = get_each (λ p ps. struck_if (u.part == p) u.strike ps) g.parts q
 
@@ -99,7 +99,7 @@ upsets_system : (us : List Upset) (g : Machine) → (upsets us g).system ≡ g.s
 upsets_system [] g = refl
 upsets_system (u ∷ us) g = upsets_system us (upset u g) ∙ upset_system u g
 
-ready_runs : (us : List Upset) (g : Machine) → g.halted ≡ false → ready us g ≡ upsets us g
+pub ready_runs : (us : List Upset) (g : Machine) → g.halted ≡ false → ready us g ≡ upsets us g
 unfolding ready
 ready_runs us g runs = ap (λ b. ready_unless b us g) runs
 
@@ -107,7 +107,7 @@ pub ready_halts : HaltedIsNotStruck
 unfolding ready
 ready_halts us g halts = ap (λ b. ready_unless b us g) halts
 
-ready_halted : (us : List Upset) (g : Machine) → (ready us g).halted ≡ g.halted
+pub ready_halted : (us : List Upset) (g : Machine) → (ready us g).halted ≡ g.halted
 ready_halted us g = by g.halted refl
   where
     by : (b : Bool) → g.halted ≡ b → (ready us g).halted ≡ g.halted

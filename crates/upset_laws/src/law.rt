@@ -3,10 +3,15 @@
 ghost use Rattle.machine_laws.specs.FromEqual.{TwoRunsFrom};
 ghost use Rattle.upset_laws.specs.FlipLaws.{FlipsItsPlace, FlipsKeepFacts, FlipsKeepRanges, FlipsKeepRegisters, FlipsKeepTimers, FlipsKeepTraps, FlipsNothingElse, FlipsStayIn, StrikesByOwnLines, TwoStruckRuns};
 ghost use Rattle.upset_laws.specs.GroupLaws.{ClosedUpsetRunsAlike, UnsteeredUpsetRunsAlike};
+ghost use Rattle.upset_laws.specs.ReplayLaws.{PlainReplays, ReceivesUpsetScripts, UpsetScriptIsTaken};
 ghost use Rattle.upset_laws.specs.ReportLaws.{OwnReports, PlainConsoles, PlainReports, SameUpsetCoreFile, SameUpsetPart, TicksReportAlone, TwoReports};
 ghost use Rattle.upset_laws.specs.UpsetLaws.{AllUpsetTicks, HaltedIsNotStruck, OneUpsetTick, RunsPlain, TwoUpsetRuns, UpsetsAreContained};
 
-use machine_model::{boots_alone, keeps_numbers, one_tick};
+use machine_model::{boots_alone, keeps_facts, keeps_numbers, keeps_shapes, one_tick};
+use range_model::keeps_ranges;
+use recording_model::received_is_a_script;
+use replay_model::received_can_be_taken;
+use upset_files::places_are_spelled;
 use xm_flows::go_together;
 
 /// An upset leaves all but the partition that it strikes; and a run with upsets is, for each partition, a run of that partition
@@ -117,4 +122,28 @@ pub fn reports_upsets()
     boots_alone();
     contains_upsets();
     keeps_numbers();
+}
+
+/// What a partition receives in a run with upsets is a script of the partition, and it can take that script in isolation, with its own
+/// upsets; with no upsets a replay is that of the script alone.
+pub fn replays_with_upsets()
+    // What a partition receives in at most 4000000000 ticks of a run with the upsets of a file, each of which fits the run, is a
+    // script of the partition: under a configuration that meets the rules, and where images begin at words and load bytes.
+    ensures script { ReceivesUpsetScripts }
+    // The partition can take each cue of it, from its boot on, in the state that the cues before it and its own upsets leave,
+    // those before that tick among them; whatever struck the others.
+    ensures taken { UpsetScriptIsTaken }
+    // Where there are no upsets, a replay leaves and prints what the script alone does, and the first cue that cannot be
+    // taken is the same.
+    ensures plain { PlainReplays }
+{
+    boots_alone();
+    contains_upsets();
+    keeps_facts();
+    keeps_numbers();
+    keeps_ranges();
+    keeps_shapes();
+    places_are_spelled();
+    received_can_be_taken();
+    received_is_a_script();
 }
