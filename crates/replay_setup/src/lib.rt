@@ -1,6 +1,6 @@
-//! What a partition is replayed by: a container, a script of the partition, and its input words, made out of the bytes of their files.
-//! The clauses are about the bytes of a container, of a script and of input words. Unless out of memory, each answer is
-//! that of a definition over them.
+//! What a partition is replayed by: a container, a script of the partition, its input words and upsets, made out of the bytes of their files.
+//! The clauses are about the bytes of a container, of a script, of input words and of upsets. Unless out of memory, each
+//! answer is that of a definition over them.
 #![tactic(auto)]
 
 mod inputs;

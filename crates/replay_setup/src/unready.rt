@@ -1,7 +1,7 @@
 //! Why no replay can begin.
 
 ghost use Rattle.std.specs.Prelude.{◌≡◌};
-ghost use Rattle.builders.specs.Ready.{NoContainer, NoScript};
+ghost use Rattle.builders.specs.Ready.{NoContainer, NoScript, NoUpsets};
 ghost use Rattle.replay_setup.specs.lemmas.ReadiedTerms.{unready_for};
 ghost use Rattle.replay_setup.specs.Readied.{unready_of};
 
@@ -18,6 +18,8 @@ pub enum Unready {
     NoScript { text: String },
     /// The input words have this many bytes, no multiple of 4.
     OddInput { found: usize },
+    /// The upsets are none of a run of the system, as this text says.
+    NoUpsets { text: String },
     /// Memory ran out.
     Memory,
 }
@@ -38,6 +40,16 @@ pub(crate) fn bad_script(why: Unmade) -> Unready
 {
     match why {
         Unmade::Refused { text } => Unready::NoScript { text },
+        Unmade::Memory => Unready::Memory,
+    }
+}
+
+/// The upsets are refused so.
+pub(crate) fn bad_upsets(why: Unmade) -> Unready
+    ensures { unready_of result ≡ unready_for NoUpsets why }
+{
+    match why {
+        Unmade::Refused { text } => Unready::NoUpsets { text },
         Unmade::Memory => Unready::Memory,
     }
 }
