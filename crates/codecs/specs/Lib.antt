@@ -1,0 +1,7 @@
+pub mod Codec
+pub mod Files
+pub mod Lawful
+pub mod Laws
+pub mod Steady
+pub mod lemmas
+pub mod rows
