@@ -26,7 +26,7 @@ pub test_of : (n limit : ℕ) → n < limit → nat_lt n limit ≡ true
 test_of n limit below = grind (arith, nat_tests, below)
 
 -- numbers of eight bytes
-wide64 : IsWide w64 (2 ^ 64)
+pub wide64 : IsWide w64 (2 ^ 64)
 wide64 = record {
   size = λ n. refl;
   back = λ bytes eight each. be_bytes_8 bytes _ eight each refl;

@@ -1,0 +1,4 @@
+pub mod FieldLemmas
+pub mod FormatLemmas
+pub mod MadeLemmas
+pub mod PageLemmas

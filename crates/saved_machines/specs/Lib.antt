@@ -1,0 +1,5 @@
+pub mod Laws
+pub mod Saved
+pub mod SavedFields
+pub mod SavedFormat
+pub mod rows

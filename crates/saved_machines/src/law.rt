@@ -1,0 +1,13 @@
+//! Laws on the files of saved machines.
+
+ghost use Rattle.saved_machines.specs.Laws.{SavedFilesAreLawful, SavedFilesArePrefixFree, SavedMachinesHaveOneFile};
+
+/// The files of the machines that run a container, one for each.
+pub fn saved_files_are_lawful()
+    // Law: what is read of a file is what it spells, and what is spelled is read.
+    ensures law { SavedFilesAreLawful }
+    // Law: no file is a proper prefix of another.
+    ensures prefix { SavedFilesArePrefixFree }
+    // Law: a saved machine has one file.
+    ensures one { SavedMachinesHaveOneFile }
+{}
