@@ -172,6 +172,12 @@ abbrev pub SealedLengthIsStated : Type 0 → Type 0 → Type 0
 SealedLengthIsStated F X =
     (faults : HeadFaults F) (name : List ℕ) (c : Codec F X) → length name ≡ 4 → (x : X) → length ((sealed_file faults name c).spell x) ≡ sealed_length (length (c.spell x))
 
+-- a sealed file that is cut is short, at a place in what is left of it
+abbrev pub CutSealedFileIsShort : Type 0 → Type 0 → Type 0
+CutSealedFileIsShort F X =
+    (faults : HeadFaults F) (name : List ℕ) (c : Codec F X) → length name ≡ 4 → (x : X) (left rest : List ℕ) → (sealed_file faults name c).fits x ≡ true
+    → (sealed_file faults name c).spell x ≡ left ++ rest → rest ≢ [] → (at : ℕ) × ((sealed_file faults name c).read left ≡ Err (faults.short at)) × (at ≤ length left)
+
 -- files whose format depends on how many bytes they have
 abbrev pub SizedFilesAreLawful : Type 0 → Type 0 → Type 0
 SizedFilesAreLawful F X =

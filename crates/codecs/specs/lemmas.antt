@@ -1,4 +1,5 @@
 pub mod CodecLemmas
+pub mod CutLemmas
 pub mod FileLemmas
 pub mod HeadedLemmas
 pub mod ItemLemmas

@@ -1,6 +1,6 @@
 //! Laws of formats: each is for all values, and for every type of them.
 
-ghost use Rattle.codecs.specs.Laws.{BytesAreLawful, CodedAreLawful, CountedItemsAreLawful, CountedItemsAreSteady, CutFileIsShort, CutIsShort, EachAreLawful, EachAreSteady, FieldsAreSteady, FixedTextsAreLawful, ItemsAreLawful, ItemsAreSteady, JudgedFilesAreLawful, KeyedAreLawful, ListsAreLawful, ListsAreSteady, NoBytesAreLawful, NoneIsPrefix, NumbersAreLawful, OptionalAreLawful, OptionalAreSteady, OtherFilesAreLawful, OthersAreLawful, OthersAreSteady, PairsAreLawful, PairsAreSteady, SealedFilesAreLawful, SealedFilesArePrefixFree, SealedLengthIsStated, SizedFilesAreLawful, SomeOthersAreLawful, TestedAreLawful, TestedAreSteady, VersionedFilesAreLawful, WholeFilesAreLawful, WholeFilesArePrefixFree};
+ghost use Rattle.codecs.specs.Laws.{BytesAreLawful, CodedAreLawful, CountedItemsAreLawful, CountedItemsAreSteady, CutFileIsShort, CutIsShort, CutSealedFileIsShort, EachAreLawful, EachAreSteady, FieldsAreSteady, FixedTextsAreLawful, ItemsAreLawful, ItemsAreSteady, JudgedFilesAreLawful, KeyedAreLawful, ListsAreLawful, ListsAreSteady, NoBytesAreLawful, NoneIsPrefix, NumbersAreLawful, OptionalAreLawful, OptionalAreSteady, OtherFilesAreLawful, OthersAreLawful, OthersAreSteady, PairsAreLawful, PairsAreSteady, SealedFilesAreLawful, SealedFilesArePrefixFree, SealedLengthIsStated, SizedFilesAreLawful, SomeOthersAreLawful, TestedAreLawful, TestedAreSteady, VersionedFilesAreLawful, WholeFilesAreLawful, WholeFilesArePrefixFree};
 
 /// What is read of a field was spelled there, and what is spelled is read.
 pub fn fields_are_lawful<F>()
@@ -100,6 +100,8 @@ pub fn sealed_files_are_lawful<F, X>()
     ensures prefix { SealedFilesArePrefixFree F X }
     // Law: the length in the head is the file's.
     ensures length { SealedLengthIsStated F X }
+    // Law: a file that is cut is short, at a place in what is left of it.
+    ensures cut { CutSealedFileIsShort F X }
 {}
 
 /// A file that has its length, or its version and its length, at its beginning.

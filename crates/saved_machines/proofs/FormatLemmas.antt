@@ -8,12 +8,13 @@ use Rattle.codecs.specs.Codec.{times}
 use Rattle.codecs.specs.Lawful.{IsLawful, IsLawfulFile, IsPrefixFree}
 use Rattle.codecs.specs.Laws.{HasBytes}
 use Rattle.codecs.specs.lemmas.CodecLemmas.{keyed_lawful, optional_lawful, pair_lawful, raw_bytes_lawful, tested_lawful, through_lawful}
+use Rattle.codecs.specs.lemmas.CutLemmas.{cut_sealed_is_short}
 use Rattle.codecs.specs.lemmas.FileLemmas.{sealed_ends, sealed_lawful}
 use Rattle.codecs.specs.lemmas.ItemLemmas.{counted_items_lawful, each_lawful, length-items, times_lawful}
 use Rattle.codecs.specs.lemmas.ReadLemmas.{both}
 use Rattle.guest_bus.specs.Memory.{Memory}
 use Rattle.machine_model.specs.Structures.{flag}
-use Rattle.saved_machines.specs.Laws.{SavedFilesAreLawful, SavedFilesArePrefixFree, SavedMachinesHaveOneFile}
+use Rattle.saved_machines.specs.Laws.{CutSavedFileIsShort, SavedFilesAreLawful, SavedFilesArePrefixFree, SavedMachinesHaveOneFile}
 use Rattle.saved_machines.specs.Saved.{SavedHead, SavedMachine, SavedStore}
 use Rattle.saved_machines.specs.SavedFields.{any_word, globals_field, health_field, log_field, made_field, saved_faults, trace_field}
 use Rattle.saved_machines.specs.SavedFormat.{clock_format, head_format, machine_format, page_format, pages_format, partition_format, processor_format, saved_format, standing_format, store_format, traps_format}
@@ -127,3 +128,6 @@ pub saved_one_file : SavedMachinesHaveOneFile
 saved_one_file conf loaded container one other saved one_each other_each one_read other_read =
     let law = saved_lawful conf loaded container in
     (law.spelled one saved one_each one_read).text ∙ sym (law.spelled other saved other_each other_read).text
+
+pub saved_cut : CutSavedFileIsShort
+saved_cut conf loaded container = cut_sealed_is_short saved_faults (codes "XMSM") (machine_format conf loaded container) refl

@@ -1,10 +1,11 @@
 -- The laws of the files of saved machines.
-use Rattle.std.specs.Prelude.{◌≡◌, ℕ, List, Ok}
+use Rattle.std.specs.Prelude.{◌≡◌, ◌≢◌, ℕ, ◌≤◌, true, List, [], ◌++◌, length, Ok, Err}
 use Rattle.xm_base.specs.Bytes.{AreBytes}
 use Rattle.codecs.specs.Lawful.{IsLawfulFile, IsPrefixFree}
 use Rattle.guest_bus.specs.Memory.{Memory}
 use Rattle.saved_machines.specs.Saved.{SavedMachine}
 use Rattle.saved_machines.specs.SavedFormat.{saved_format}
+use Rattle.saved_machines.specs.declared.fault.SavedFault.TheVariants as fault
 use Rattle.xm_conf.specs.Configuration.{Conf}
 
 -- what is read of a file is what it spells, and what is spelled is read
@@ -20,3 +21,10 @@ abbrev pub SavedMachinesHaveOneFile : Type 0
 SavedMachinesHaveOneFile =
     (conf : Conf) (loaded : ℕ → Memory) (container one other : List ℕ) (saved : SavedMachine) → AreBytes one → AreBytes other
     → (saved_format conf loaded container).read one ≡ Ok saved → (saved_format conf loaded container).read other ≡ Ok saved → one ≡ other
+
+-- a file that is cut is short, at a place in what is left of it
+abbrev pub CutSavedFileIsShort : Type 0
+CutSavedFileIsShort =
+    (conf : Conf) (loaded : ℕ → Memory) (container : List ℕ) (saved : SavedMachine) (left rest : List ℕ) → (saved_format conf loaded container).fits saved ≡ true
+    → (saved_format conf loaded container).spell saved ≡ left ++ rest → rest ≢ []
+    → (at : ℕ) × ((saved_format conf loaded container).read left ≡ Err (fault.Short at)) × (at ≤ length left)

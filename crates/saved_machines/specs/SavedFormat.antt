@@ -18,21 +18,28 @@ use Rattle.saved_machines.specs.declared.fault.SavedFault.TheVariants as fault
 use Rattle.virt_traps.specs.Virtual.{VirtualTraps}
 use Rattle.xm_conf.specs.Configuration.{Conf}
 
--- plan | 1 | of the configuration; when its frame began | 8 | up to the time, which is in the frame; whether a plan is asked for | 1; that plan | 1 |
--- of the configuration, or 0 for none
+-- whether a plan is asked for | 1; that plan | 1 | one of this many, or 0 for none
+abbrev pub asked_format : ℕ → SavedCodec (Option ℕ)
+asked_format plans = optional flag_field (byte_where (λ asked. nat_lt asked plans)) (zeros 1)
+
+-- plan | 1 | of the configuration; when its frame began | 8 | up to the time, which is in the frame; the plan that is asked for
 abbrev pub clock_format : Conf → ℕ → SavedCodec CyclicClock
 clock_format conf time =
     through (λ t. record { plan = t.0; frame_start = t.1.0; asked = t.1.1 }) (λ clock. (clock.plan, (clock.frame_start, clock.asked)))
     (pair (byte_where (λ plan. nat_lt plan (length conf.plans))) λ plan.
     pair (double_word_where (λ start. nat_le start time && nat_lt time (start + frame_of conf plan))) λ start.
-    optional flag_field (byte_where (λ asked. nat_lt asked (length conf.plans))) (zeros 1))
+    asked_format (length conf.plans))
 
--- digest of the container | 16 | this one; ticks | 8 | up to 4000000000; time | 8 | up to the ticks; resets | 4; whether it has halted | 1; the plan clock
+-- digest of a container | 16 | this one
+abbrev pub container_format : List ℕ → SavedCodec (List ℕ)
+container_format container = tested (λ at stored. fault.Container stored container) (λ stored. bytes_eq stored container) (raw_bytes saved_short 16)
+
+-- digest of the container; ticks | 8 | up to 4000000000; time | 8 | up to the ticks; resets | 4; whether it has halted | 1; the plan clock
 abbrev pub head_format : Conf → List ℕ → SavedCodec SavedHead
 head_format conf container =
     through (λ t. record { container = t.0; ticks = t.1.0; time = t.1.1.0; resets = t.1.1.1.0; halted = t.1.1.1.1.0; clock = t.1.1.1.1.1 })
     (λ head. (head.container, (head.ticks, (head.time, (head.resets, (head.halted, head.clock))))))
-    (pair (tested (λ at stored. fault.Container stored container) (λ stored. bytes_eq stored container) (raw_bytes saved_short 16)) λ stored.
+    (pair (container_format container) λ stored.
     pair (double_word_where (λ ticks. nat_le ticks 4000000000)) λ ticks.
     pair (double_word_where (λ time. nat_le time ticks)) λ time.
     pair any_word λ resets.

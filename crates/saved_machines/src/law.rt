@@ -1,6 +1,6 @@
 //! Laws on the files of saved machines.
 
-ghost use Rattle.saved_machines.specs.Laws.{SavedFilesAreLawful, SavedFilesArePrefixFree, SavedMachinesHaveOneFile};
+ghost use Rattle.saved_machines.specs.Laws.{CutSavedFileIsShort, SavedFilesAreLawful, SavedFilesArePrefixFree, SavedMachinesHaveOneFile};
 
 /// The files of the machines that run a container, one for each.
 pub fn saved_files_are_lawful()
@@ -10,4 +10,6 @@ pub fn saved_files_are_lawful()
     ensures prefix { SavedFilesArePrefixFree }
     // Law: a saved machine has one file.
     ensures one { SavedMachinesHaveOneFile }
+    // Law: a file that is cut is short, at a place in what is left of it.
+    ensures cut { CutSavedFileIsShort }
 {}

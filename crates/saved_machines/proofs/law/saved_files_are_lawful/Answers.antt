@@ -1,4 +1,4 @@
-use Rattle.saved_machines.proofs.FormatLemmas.{saved_lawful, saved_one_file, saved_prefix_free}
+use Rattle.saved_machines.proofs.FormatLemmas.{saved_cut, saved_lawful, saved_one_file, saved_prefix_free}
 use Rattle.saved_machines.proofs.law.saved_files_are_lawful.Goals as goal
 
 pub returns-clause-law : goal.returns-clause-law
@@ -9,3 +9,6 @@ returns-clause-prefix c = saved_prefix_free
 
 pub returns-clause-one : goal.returns-clause-one
 returns-clause-one c = saved_one_file
+
+pub returns-clause-cut : goal.returns-clause-cut
+returns-clause-cut c = saved_cut
