@@ -4,3 +4,4 @@ pub mod PartFileLemmas
 pub mod ReplayLemmas
 pub mod Spelling
 pub mod WordLemmas
+pub mod WordPairLemmas

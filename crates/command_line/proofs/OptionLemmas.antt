@@ -1,19 +1,18 @@
 -- What is to be typed for the options of a run.
-use Rattle.std.proofs.Common.{◌≡◌, ℕ, ◌<◌, ◌≤◌, Bool, true, false, ◌&&◌, nat_eq, nat_le, if◌then◌else◌, subst, List, [], ◌∷◌, ◌++◌, length, codes, decimal, Option, Some, None, is_some, refl, ap, ◌∙◌, arith, String}
+use Rattle.std.proofs.Common.{◌≡◌, ℕ, ◌≤◌, Bool, true, false, ◌&&◌, nat_eq, nat_le, if◌then◌else◌, subst, List, [], ◌∷◌, ◌++◌, length, codes, decimal, Option, Some, None, refl, ap, ◌∙◌}
 use Rattle.std.specs.List.{flat_map}
 use Rattle.std.specs.Prelude.{All}
 use Rattle.std.specs.Str.{bytes_eq}
 use Rattle.std.proofs.lemmas.Bool.{and_parts, and_from, eqb-true, eq-eqb, leb-true, le-leb}
-use Rattle.std.proofs.lemmas.List.Elements.{All-cons, All-head, All-nil, All-tail}
 use Rattle.xm_base.specs.declared.limits.TheConstants.{TICKS}
 use Rattle.command_line.specs.declared.commands.Span.{Span}
 use Rattle.command_line.specs.declared.commands.Span.TheVariants.{Frames, Ticks}
 use Rattle.command_line.specs.declared.run_options.FileKind.{FileKind}
 use Rattle.command_line.specs.declared.run_options.FileKind.TheVariants.{Core, Input, Script}
 use Rattle.command_line.specs.Grammar.{HaveOneFileEach, AreRunOptions, IsFileName, IsRunOption, count_of, file_option_of, option_of, option_words, part_word}
-use Rattle.command_line.specs.Texts.{texts_of}
-use Rattle.command_line.specs.Words.{PartFile, RunOption, Length, Upsets, ForPart, asked, are_apart, are_kinds_apart, are_options, are_run_options, before_others, cores_in, files_in, inputs_in, scripts_in, is_file, kind_of, option_by, option_for, option_or, option_upsets, part_file_of, run_option_of, run_options, span_of, spanned, spans_in, ticks_of, upset_files_in}
+use Rattle.command_line.specs.Words.{PartFile, RunOption, Length, Upsets, ForPart, asked, are_apart, are_kinds_apart, are_options, are_run_options, cores_in, files_in, inputs_in, scripts_in, is_file, kind_of, option_by, option_for, option_or, option_upsets, part_file_of, run_option_of, run_options, span_of, spanned, spans_in, ticks_of, upset_files_in}
 use Rattle.command_line.proofs.PartFileLemmas.{apart_pairs, named_word, pairs_apart, word_named}
+use Rattle.command_line.proofs.WordPairLemmas.{pairs_typed, reads_pairs}
 use Rattle.command_line.proofs.WordLemmas.{file_is, is_of_file, named, text_ticks, ticks_text}
 
 -- words are an option and its number, and that is not above the limit
@@ -105,25 +104,7 @@ option_typed option word made e = at (span_of option word) (option_upsets option
 
 -- words that are options are typed so
 options_typed : (words : List (List ℕ)) → are_options words ≡ true → (words ≡ flat_map option_words (run_options words)) × All IsRunOption (run_options words)
-options_typed [] are = (refl, All-nil IsRunOption)
-options_typed (option ∷ []) are = absurd (let no : ⊥ = cc in no)
-options_typed (option ∷ word ∷ words) are =
-    let tests = and_parts (is_some (run_option_of option word)) (are_options words) are in
-    at (run_option_of option word) refl tests.0 (options_typed words tests.1)
-  where
-    at : (found : Option RunOption) → run_option_of option word ≡ found → is_some (run_option_of option word) ≡ true
-        → (words ≡ flat_map option_words (run_options words)) × All IsRunOption (run_options words)
-        → (option ∷ word ∷ words ≡ flat_map option_words (before_others (run_option_of option word) (run_options words))) × All IsRunOption (before_others (run_option_of option word) (run_options words))
-    at None none test rest = absurd (let no : ⊥ = cc in no)
-    at (Some made) found test rest =
-        let first = option_typed option word made found in
-        rw found (ap (λ front. front ++ words) first.words ∙ ap (λ ws. option_words made ++ ws) rest.0, All-cons IsRunOption made (run_options words) first.right rest.1)
-
--- a single word is no option
-pub few_options : {A : Type 0} (words : List (String A)) → length words < 2 → are_options (texts_of words) ≡ nat_eq (length words) 0
-few_options [] few = refl
-few_options (option ∷ []) few = refl
-few_options (option ∷ word ∷ words) few = absurd (omega arith)
+options_typed words are = pairs_typed run_option_of option_words IsRunOption (λ option word made e. (let typed = option_typed option word made e in (typed.words, typed.right))) words are
 
 -- options whose files are apart, kind by kind
 kinds_apart : (options : List RunOption) → are_kinds_apart options ≡ true → (kind : FileKind) → HaveOneFileEach (files_in kind options)
@@ -185,11 +166,7 @@ reads_option (ForPart kind file) words right = rw (reads_file kind file right) (
 
 -- what is typed for options is so read
 reads_options : (options : List RunOption) → All IsRunOption options → (run_options (flat_map option_words options) ≡ options) × (are_options (flat_map option_words options) ≡ true)
-reads_options [] right = (refl, refl)
-reads_options (option ∷ options) right =
-    let first = reads_option option (flat_map option_words options) (All-head IsRunOption option options right) in
-    let rest = reads_options options (All-tail IsRunOption option options right) in
-    (first.0 ∙ ap (λ others. option ∷ others) rest.0, first.1 ∙ rest.1)
+reads_options options right = reads_pairs run_option_of option_words IsRunOption reads_option options right
 
 -- what is typed for the options of a run is so read
 pub reads_run_options : (options : List RunOption) → AreRunOptions options → (run_options (flat_map option_words options) ≡ options) × (are_run_options (flat_map option_words options) ≡ true)

@@ -1,80 +1,91 @@
--- What is to be typed for the further files of a replay.
-use Rattle.std.proofs.Common.{◌≡◌, ℕ, Bool, true, false, ◌&&◌, if◌then◌else◌, List, [], ◌∷◌, codes, Some, None, refl, subst}
+-- What is to be typed for the options of a replay.
+use Rattle.std.proofs.Common.{◌≡◌, ℕ, ◌≤◌, Bool, true, false, ◌&&◌, nat_le, if◌then◌else◌, List, [], ◌∷◌, ◌++◌, length, codes, Option, Some, None, refl, subst, ap, ◌∙◌}
+use Rattle.std.specs.List.{flat_map}
+use Rattle.std.specs.Prelude.{All}
 use Rattle.std.specs.Str.{bytes_eq}
-use Rattle.std.proofs.lemmas.Bool.{and_parts}
-use Rattle.command_line.specs.Grammar.{AreFurther, further_words}
-use Rattle.command_line.specs.Words.{ReplayFiles, Neither, InputAlone, CoreAlone, InputThenCore, CoreThenInput, asked, both_files, is_file, one_file, replay_files}
+use Rattle.std.proofs.lemmas.Bool.{and_parts, and_from, leb-true, le-leb}
+use Rattle.command_line.specs.declared.replay_options.ReplayKind.{ReplayKind}
+use Rattle.command_line.specs.declared.replay_options.ReplayKind.TheVariants.{Core, Input, Upsets}
+use Rattle.command_line.specs.Grammar.{AreReplayOptions, IsFileName, IsReplayOption, replay_option, replay_words}
+use Rattle.command_line.specs.Words.{ReplayFile, are_few, are_few_each, are_options_by, are_replay_options, asked, is_file, options_by, replay_file_for, replay_files_in, replay_kind_of, replay_option_of, replay_options}
 use Rattle.command_line.proofs.WordLemmas.{file_is, is_of_file, named}
+use Rattle.command_line.proofs.WordPairLemmas.{pairs_typed, reads_pairs}
 
--- words are what is typed for further files, and these are files
-record TypedFurther (words : List (List ℕ)) (further : ReplayFiles) : Type 0 where
-  pub text : words ≡ further_words further
-  pub right : AreFurther further
+-- so it is with a kind that is the same
+kind_as : (option : List ℕ) (made kind : ReplayKind) → option ≡ replay_option made → Some made ≡ Some kind → option ≡ replay_option kind
+kind_as option made kind typed e = (let same : made ≡ kind = cc in subst (λ (k : ReplayKind). option ≡ replay_option k) same typed)
 
--- so it is with files that are the same
-further_as : (words : List (List ℕ)) (made further : ReplayFiles) → TypedFurther words made → Some made ≡ Some further → TypedFurther words further
-further_as words made further typed e = (let same : made ≡ further = cc in subst (TypedFurther words) same typed)
-
--- one option
-one_typed : (option file : List ℕ) (further : ReplayFiles) → one_file option file ≡ Some further → TypedFurther (option ∷ file ∷ []) further
-unfolding one_file
-one_typed option file further e = at (bytes_eq option (codes "--input")) (bytes_eq option (codes "--core")) (is_file file) refl refl refl e
+-- the option in front of a file
+kind_typed : (option : List ℕ) (kind : ReplayKind) → replay_kind_of option ≡ Some kind → option ≡ replay_option kind
+unfolding replay_kind_of
+kind_typed option kind e = at (bytes_eq option (codes "--input")) (bytes_eq option (codes "--core")) (bytes_eq option (codes "--upset")) refl refl refl e
   where
-    at : (input core there : Bool) → bytes_eq option (codes "--input") ≡ input → bytes_eq option (codes "--core") ≡ core → is_file file ≡ there
-        → (if input then asked there (InputAlone file) else if core then asked there (CoreAlone file) else None) ≡ Some further → TypedFurther (option ∷ file ∷ []) further
-    at true core true is other stands e =
-        let option_is : option ≡ codes "--input" = named option (codes "--input") is in
-        further_as _ (InputAlone file) further (record { text = cc; right = file_is file stands }) e
-    at true core false is other stands e = absurd (let no : ⊥ = cc in no)
-    at false true true is other stands e =
-        let option_is : option ≡ codes "--core" = named option (codes "--core") other in
-        further_as _ (CoreAlone file) further (record { text = cc; right = file_is file stands }) e
-    at false true false is other stands e = absurd (let no : ⊥ = cc in no)
-    at false false there is other stands e = absurd (let no : ⊥ = cc in no)
+    at : (input core upset : Bool) → bytes_eq option (codes "--input") ≡ input → bytes_eq option (codes "--core") ≡ core → bytes_eq option (codes "--upset") ≡ upset
+        → (if input then Some Input else if core then Some Core else if upset then Some Upsets else None) ≡ Some kind → option ≡ replay_option kind
+    at true core upset is other last e = kind_as option Input kind (named option (codes "--input") is) e
+    at false true upset is other last e = kind_as option Core kind (named option (codes "--core") other) e
+    at false false true is other last e = kind_as option Upsets kind (named option (codes "--upset") last) e
+    at false false false is other last e = absurd (let no : ⊥ = cc in no)
 
--- two options
-both_typed : (first file second other : List ℕ) (further : ReplayFiles) → both_files first file second other ≡ Some further → TypedFurther (first ∷ file ∷ second ∷ other ∷ []) further
-unfolding both_files
-both_typed first file second other further e =
-    at (bytes_eq first (codes "--input") && bytes_eq second (codes "--core")) (bytes_eq first (codes "--core") && bytes_eq second (codes "--input")) (is_file file && is_file other) refl refl refl e
+-- two words are what is typed for an option, and it names a file
+record TypedFile (option word : List ℕ) (made : ReplayFile) : Type 0 where
+  pub words : (option ∷ word ∷ []) ≡ replay_words made
+  pub right : IsReplayOption made
+
+-- so it is with an option that is the same
+file_as : (option word : List ℕ) (made other : ReplayFile) → TypedFile option word made → Some made ≡ Some other → TypedFile option word other
+file_as option word made other typed e = (let same : made ≡ other = cc in subst (TypedFile option word) same typed)
+
+-- an option of a replay
+file_typed : (option word : List ℕ) (made : ReplayFile) → replay_option_of option word ≡ Some made → TypedFile option word made
+file_typed option word made e = at (replay_kind_of option) (is_file word) refl refl e
   where
-    at : (input core there : Bool) → (bytes_eq first (codes "--input") && bytes_eq second (codes "--core")) ≡ input → (bytes_eq first (codes "--core") && bytes_eq second (codes "--input")) ≡ core
-        → (is_file file && is_file other) ≡ there
-        → (if input then asked there (InputThenCore file other) else if core then asked there (CoreThenInput file other) else None) ≡ Some further
-        → TypedFurther (first ∷ file ∷ second ∷ other ∷ []) further
-    at true core true is otherwise stand e =
-        let tests = and_parts (bytes_eq first (codes "--input")) (bytes_eq second (codes "--core")) is in
-        let files = and_parts (is_file file) (is_file other) stand in
-        let first_is : first ≡ codes "--input" = named first (codes "--input") tests.0 in
-        let second_is : second ≡ codes "--core" = named second (codes "--core") tests.1 in
-        further_as _ (InputThenCore file other) further (record { text = cc; right = (file_is file files.0, file_is other files.1) }) e
-    at true core false is otherwise stand e = absurd (let no : ⊥ = cc in no)
-    at false true true is otherwise stand e =
-        let tests = and_parts (bytes_eq first (codes "--core")) (bytes_eq second (codes "--input")) otherwise in
-        let files = and_parts (is_file file) (is_file other) stand in
-        let first_is : first ≡ codes "--core" = named first (codes "--core") tests.0 in
-        let second_is : second ≡ codes "--input" = named second (codes "--input") tests.1 in
-        further_as _ (CoreThenInput file other) further (record { text = cc; right = (file_is file files.0, file_is other files.1) }) e
-    at false true false is otherwise stand e = absurd (let no : ⊥ = cc in no)
-    at false false there is otherwise stand e = absurd (let no : ⊥ = cc in no)
+    at : (kind : Option ReplayKind) (there : Bool) → replay_kind_of option ≡ kind → is_file word ≡ there
+        → replay_file_for kind there word ≡ Some made → TypedFile option word made
+    at (Some kind) true is stands e =
+        let option_is : option ≡ replay_option kind = kind_typed option kind is in
+        file_as option word (record { kind = kind; file = word }) made (record { words = cc; right = file_is word stands }) e
+    at (Some kind) false is stands e = absurd (let no : ⊥ = cc in no)
+    at None there is stands e = absurd (let no : ⊥ = cc in no)
 
--- words that are options of a replay are typed so
-typed : (words : List (List ℕ)) (further : ReplayFiles) → replay_files words ≡ Some further → TypedFurther words further
-typed [] further e = further_as [] Neither further (record { text = refl; right = tt }) e
-typed (option ∷ []) further e = absurd (let no : ⊥ = cc in no)
-typed (option ∷ file ∷ []) further e = one_typed option file further e
-typed (first ∷ file ∷ second ∷ []) further e = absurd (let no : ⊥ = cc in no)
-typed (first ∷ file ∷ second ∷ other ∷ []) further e = both_typed first file second other further e
-typed (first ∷ file ∷ second ∷ other ∷ word ∷ words) further e = absurd (let no : ⊥ = cc in no)
+-- options that name one file of each kind at most
+few_each : (options : List ReplayFile) → are_few_each options ≡ true → (kind : ReplayKind) → length (replay_files_in kind options) ≤ 1
+few_each options few kind =
+    let all = and_parts (are_few Input options && are_few Core options) (are_few Upsets options) few in
+    let two = and_parts (are_few Input options) (are_few Core options) all.0 in
+    of two.0 two.1 all.1 kind
+  where
+    of : are_few Input options ≡ true → are_few Core options ≡ true → are_few Upsets options ≡ true → (kind : ReplayKind) → length (replay_files_in kind options) ≤ 1
+    of inputs cores upsets Input = leb-true _ 1 inputs
+    of inputs cores upsets Core = leb-true _ 1 cores
+    of inputs cores upsets Upsets = leb-true _ 1 upsets
 
-pub further_typed : (words : List (List ℕ)) (further : ReplayFiles) → replay_files words ≡ Some further → (words ≡ further_words further) × AreFurther further
-further_typed words further e = (let is = typed words further e in (is.text, is.right))
+-- words that are the options of a replay are typed so
+pub replay_options_typed : (words : List (List ℕ)) → are_replay_options words ≡ true → (words ≡ flat_map replay_words (replay_options words)) × AreReplayOptions (replay_options words)
+unfolding are_replay_options
+replay_options_typed words are =
+    let tests = and_parts (are_options_by replay_option_of words) (are_few_each (replay_options words)) are in
+    let each = pairs_typed replay_option_of replay_words IsReplayOption (λ option word made e. (let typed = file_typed option word made e in (typed.words, typed.right))) words tests.0 in
+    (each.0, record { each = each.1; few = few_each (replay_options words) tests.1 })
 
--- what is typed for further files is so read
-pub reads_further : (further : ReplayFiles) → AreFurther further → replay_files (further_words further) ≡ Some further
-unfolding one_file both_files
-reads_further Neither right = refl
-reads_further (InputAlone input) right = rw (is_of_file input right) refl
-reads_further (CoreAlone core) right = rw (is_of_file core right) refl
-reads_further (InputThenCore input core) right = rw (is_of_file input right.0, is_of_file core right.1) refl
-reads_further (CoreThenInput core input) right = rw (is_of_file core right.0, is_of_file input right.1) refl
+-- what is typed for an option is so read, before other words
+reads_option : (made : ReplayFile) (words : List (List ℕ)) → IsReplayOption made → (replay_options (replay_words made ++ words) ≡ made ∷ replay_options words) × (are_options_by replay_option_of (replay_words made ++ words) ≡ are_options_by replay_option_of words)
+unfolding replay_kind_of
+reads_option made words right = by made.kind refl
+  where
+    by : (kind : ReplayKind) → made.kind ≡ kind → (replay_options (replay_words made ++ words) ≡ made ∷ replay_options words) × (are_options_by replay_option_of (replay_words made ++ words) ≡ are_options_by replay_option_of words)
+    by Input is = rw (is, is_of_file made.file right) (refl, refl)
+    by Core is = rw (is, is_of_file made.file right) (refl, refl)
+    by Upsets is = rw (is, is_of_file made.file right) (refl, refl)
+
+-- what is typed for the options of a replay is so read
+pub reads_replay_options : (options : List ReplayFile) → AreReplayOptions options → (replay_options (flat_map replay_words options) ≡ options) × (are_replay_options (flat_map replay_words options) ≡ true)
+unfolding are_replay_options
+reads_replay_options options right =
+    let read = reads_pairs replay_option_of replay_words IsReplayOption reads_option options right.each in (
+      read.0,
+      and_from (are_options_by replay_option_of (flat_map replay_words options)) (are_few_each (replay_options (flat_map replay_words options))) read.1
+          (ap are_few_each read.0 ∙ and_from (are_few Input options && are_few Core options) (are_few Upsets options)
+          (and_from (are_few Input options) (are_few Core options) (le-leb _ 1 (right.few Input)) (le-leb _ 1 (right.few Core)))
+          (le-leb _ 1 (right.few Upsets))),
+    )

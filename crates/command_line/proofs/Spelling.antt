@@ -3,10 +3,10 @@ use Rattle.std.proofs.Common.{◌≡◌, ℕ, Bool, true, false, ◌&&◌, if◌
 use Rattle.std.specs.Str.{bytes_eq}
 use Rattle.std.proofs.lemmas.Bool.{and_parts}
 use Rattle.command_line.specs.Grammar.{CommandsAreSpelled, IsFileName, IsRight, words_of}
-use Rattle.command_line.specs.Words.{Command, PartFile, ReplayFiles, RunOption, Bare, Parse, Upgrade, BuildImage, ReadImage, Pack, ListContainer, CheckContainer, MakePlan, CheckPlan, ListGroups, ListSteerers, Generate, Run, Replay, are_part_files, are_run_options, asked, bare_of, by_verb, command_by_count, command_of, command_of_more, command_of_one, command_of_three, command_of_two, flows_command, format_command, generate_for, is_file, of_file, of_files, pack_command, part_files, part_number, plan_command, replay_by, replay_files, replay_command, run_of, run_options, seed_of, ticks_of}
+use Rattle.command_line.specs.Words.{Command, PartFile, ReplayFile, RunOption, Bare, Parse, Upgrade, BuildImage, ReadImage, Pack, ListContainer, CheckContainer, MakePlan, CheckPlan, ListGroups, ListSteerers, Generate, Run, Replay, are_part_files, are_replay_options, are_run_options, asked, bare_of, by_verb, command_by_count, command_of, command_of_more, command_of_one, command_of_three, command_of_two, flows_command, format_command, generate_for, is_file, of_file, of_files, pack_command, part_files, part_number, plan_command, replay_by, replay_command, replay_options, run_of, run_options, seed_of, ticks_of}
 use Rattle.command_line.proofs.OptionLemmas.{reads_run_options, run_options_typed}
 use Rattle.command_line.proofs.PartFileLemmas.{files_named, files_typed_right}
-use Rattle.command_line.proofs.ReplayLemmas.{further_typed, reads_further}
+use Rattle.command_line.proofs.ReplayLemmas.{reads_replay_options, replay_options_typed}
 use Rattle.command_line.proofs.WordLemmas.{file_is, is_of_file, named, number_text, seed_text, text_number, text_seed, text_ticks, ticks_text}
 
 -- words are what is typed for a command, and what they name is right
@@ -189,21 +189,21 @@ run_typed name container options command is e =
 replay_typed : (name container : List ℕ) (rest : List (List ℕ)) (command : Command) → name ≡ codes "alone" → replay_command container rest ≡ Some command → Typed (name ∷ container ∷ rest) command
 replay_typed name container [] command is e = absurd (let no : ⊥ = cc in no)
 replay_typed name container (word ∷ []) command is e = absurd (let no : ⊥ = cc in no)
-replay_typed name container (word ∷ script ∷ options) command is e = at (is_file container && is_file script) (part_number word) (replay_files options) refl refl refl e
+replay_typed name container (word ∷ script ∷ options) command is e = at (is_file container && is_file script) (part_number word) refl refl e
   where
-    at : (files : Bool) (part : Option ℕ) (further : Option ReplayFiles) → (is_file container && is_file script) ≡ files → part_number word ≡ part → replay_files options ≡ further
-        → replay_by files container part script further ≡ Some command → Typed (name ∷ container ∷ word ∷ script ∷ options) command
-    at true (Some p) (Some further) are found named_files e =
+    at : (files : Bool) (part : Option ℕ) → (is_file container && is_file script) ≡ files → part_number word ≡ part
+        → replay_by files container part script options ≡ Some command → Typed (name ∷ container ∷ word ∷ script ∷ options) command
+    at true (Some p) are found e =
+        let parts = asked_parts (are_replay_options options) (Replay container p script (replay_options options)) command e in
         let files = and_parts (is_file container) (is_file script) are in
         let text = number_text 31 word p (omega arith) found in
-        let typed = further_typed options further named_files in
-        typed_as _ (Replay container p script further) command (record {
+        let typed = replay_options_typed options parts.0 in
+        typed_as _ (Replay container p script (replay_options options)) command (record {
           text = ap (λ front. front ∷ container ∷ word ∷ script ∷ options) is ∙ ap (λ second. codes "alone" ∷ container ∷ second ∷ script ∷ options) text.1 ∙ ap (λ others. codes "alone" ∷ container ∷ decimal p ∷ script ∷ others) typed.0;
           right = (file_is container files.0, text.0, file_is script files.1, typed.1);
-        }) e
-    at true (Some p) None are found named_files e = absurd (let no : ⊥ = cc in no)
-    at true None further are found named_files e = absurd (let no : ⊥ = cc in no)
-    at false part further are found named_files e = absurd (let no : ⊥ = cc in no)
+        }) parts.1
+    at true None are found e = absurd (let no : ⊥ = cc in no)
+    at false part are found e = absurd (let no : ⊥ = cc in no)
 
 -- what a name and three words ask for
 three_typed : (name first second third : List ℕ) (command : Command) → command_of_three name first second third ≡ Some command → Typed (name ∷ first ∷ second ∷ third ∷ []) command
@@ -287,10 +287,11 @@ reads_run container options right =
     rw (is_of_file container right.0, read.0, read.1) refl
 
 -- what is typed for a replay asks for it
-reads_replay : (container : List ℕ) (part : ℕ) (script : List ℕ) (further : ReplayFiles) → IsRight (Replay container part script further) → command_of (words_of (Replay container part script further)) ≡ Some (Replay container part script further)
+reads_replay : (container : List ℕ) (part : ℕ) (script : List ℕ) (options : List ReplayFile) → IsRight (Replay container part script options) → command_of (words_of (Replay container part script options)) ≡ Some (Replay container part script options)
 unfolding command_of
-reads_replay container part script further right =
-    rw (is_of_file container right.0, text_number 31 (decimal part) part (omega arith) right.1 refl, is_of_file script right.2, reads_further further right.3) refl
+reads_replay container part script options right =
+    let read = reads_replay_options options right.3 in
+    rw (is_of_file container right.0, text_number 31 (decimal part) part (omega arith) right.1 refl, is_of_file script right.2, read.0, read.1) refl
 
 -- what is typed for a command asks for it
 reads : (command : Command) → IsRight command → command_of (words_of command) ≡ Some command
@@ -309,7 +310,7 @@ reads (ListGroups description) right = rw (is_of_file description right)
 reads (ListSteerers description) right = rw (is_of_file description right)
 reads (Generate number) right = rw (text_seed (decimal number) number right refl) refl
 reads (Run container options) right = reads_run container options right
-reads (Replay container part script further) right = reads_replay container part script further right
+reads (Replay container part script options) right = reads_replay container part script options right
 
 -- words are a command exactly where they are what is typed for it
 pub commands_spelled : CommandsAreSpelled

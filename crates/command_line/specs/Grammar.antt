@@ -1,12 +1,14 @@
 -- The grammar in the words of its users: what is to be typed for each command.
-use Rattle.std.specs.Prelude.{◌≡◌, ◌≢◌, ℕ, ◌<◌, ◌≤◌, ◌↔◌, ⊤, List, [], ◌∷◌, ◌++◌, length, map, codes, decimal, All, AllPairs, Some}
+use Rattle.std.specs.Prelude.{◌≡◌, ◌≢◌, ℕ, ◌<◌, ◌≤◌, ◌↔◌, List, [], ◌∷◌, ◌++◌, length, map, codes, decimal, All, AllPairs, Some}
 use Rattle.std.specs.List.{flat_map}
 use Rattle.xm_base.specs.declared.limits.TheConstants.{TICKS}
 use Rattle.command_line.specs.declared.commands.Span.{Span}
 use Rattle.command_line.specs.declared.commands.Span.TheVariants.{Frames, Ticks}
+use Rattle.command_line.specs.declared.replay_options.ReplayKind.{ReplayKind}
+use Rattle.command_line.specs.declared.replay_options.ReplayKind.TheVariants as replay
 use Rattle.command_line.specs.declared.run_options.FileKind.{FileKind}
 use Rattle.command_line.specs.declared.run_options.FileKind.TheVariants.{Core, Input, Script}
-use Rattle.command_line.specs.Words.{Command, PartFile, ReplayFiles, RunOption, Bare, Parse, Upgrade, BuildImage, ReadImage, Pack, ListContainer, CheckContainer, MakePlan, CheckPlan, ListGroups, ListSteerers, Generate, Run, Replay, Length, Upsets, ForPart, Neither, InputAlone, CoreAlone, InputThenCore, CoreThenInput, command_of, files_in, spans_in, ticks_of, upset_files_in}
+use Rattle.command_line.specs.Words.{Command, PartFile, ReplayFile, RunOption, Bare, Parse, Upgrade, BuildImage, ReadImage, Pack, ListContainer, CheckContainer, MakePlan, CheckPlan, ListGroups, ListSteerers, Generate, Run, Replay, Length, Upsets, ForPart, command_of, files_in, replay_files_in, spans_in, ticks_of, upset_files_in}
 
 -- a word is this many ticks where it is their number in decimal, and they are not above the limit
 abbrev pub TicksAreDecimal : Type 0
@@ -43,13 +45,15 @@ option_words (Length span) = option_of span ∷ decimal (count_of span) ∷ []
 option_words (Upsets file) = codes "--upset" ∷ file ∷ []
 option_words (ForPart kind file) = file_option_of kind ∷ part_word file ∷ []
 
--- what is typed for the further files of a replay
-abbrev pub further_words : ReplayFiles → List (List ℕ)
-further_words Neither = []
-further_words (InputAlone input) = codes "--input" ∷ input ∷ []
-further_words (CoreAlone core) = codes "--core" ∷ core ∷ []
-further_words (InputThenCore input core) = codes "--input" ∷ input ∷ codes "--core" ∷ core ∷ []
-further_words (CoreThenInput core input) = codes "--core" ∷ core ∷ codes "--input" ∷ input ∷ []
+-- the option that is typed for a file of a replay
+abbrev pub replay_option : ReplayKind → List ℕ
+replay_option replay.Input = codes "--input"
+replay_option replay.Core = codes "--core"
+replay_option replay.Upsets = codes "--upset"
+
+-- what is typed for a file of a replay
+abbrev pub replay_words : ReplayFile → List (List ℕ)
+replay_words named = replay_option named.kind ∷ named.file ∷ []
 
 -- what is typed for each command
 abbrev pub words_of : Command → List (List ℕ)
@@ -67,7 +71,7 @@ words_of (ListGroups description) = codes "flows" ∷ description ∷ []
 words_of (ListSteerers description) = codes "flows" ∷ codes "--steering" ∷ description ∷ []
 words_of (Generate number) = codes "gen" ∷ decimal number ∷ []
 words_of (Run container options) = codes "run" ∷ container ∷ flat_map option_words options
-words_of (Replay container part script further) = codes "alone" ∷ container ∷ decimal part ∷ script ∷ further_words further
+words_of (Replay container part script options) = codes "alone" ∷ container ∷ decimal part ∷ script ∷ flat_map replay_words options
 
 -- a file for a partition: the partition's number is at most 31, and the file is one
 abbrev pub IsPartFile : PartFile → Type 0
@@ -96,13 +100,14 @@ pub record AreRunOptions (options : List RunOption) : Type 0 where
   pub struck : length (upset_files_in options) ≤ 1
   pub apart : (kind : FileKind) → HaveOneFileEach (files_in kind options)
 
--- the further files of a replay are files
-abbrev pub AreFurther : ReplayFiles → Type 0
-AreFurther Neither = ⊤
-AreFurther (InputAlone input) = IsFileName input
-AreFurther (CoreAlone core) = IsFileName core
-AreFurther (InputThenCore input core) = IsFileName input × IsFileName core
-AreFurther (CoreThenInput core input) = IsFileName core × IsFileName input
+-- an option of a replay names a file
+abbrev pub IsReplayOption : ReplayFile → Type 0
+IsReplayOption named = IsFileName named.file
+
+-- options of a replay: each names a file, and they name one of each kind at most
+pub record AreReplayOptions (options : List ReplayFile) : Type 0 where
+  pub each : All IsReplayOption options
+  pub few : (kind : ReplayKind) → length (replay_files_in kind options) ≤ 1
 
 -- what each command names is a file, its partition is at most 31, its ticks are not above the limit, and its options are right
 abbrev pub IsRight : Command → Type 0
@@ -120,7 +125,7 @@ IsRight (ListGroups description) = IsFileName description
 IsRight (ListSteerers description) = IsFileName description
 IsRight (Generate number) = number ≤ 4294967295
 IsRight (Run container options) = IsFileName container × AreRunOptions options
-IsRight (Replay container part script further) = IsFileName container × (part ≤ 31) × IsFileName script × AreFurther further
+IsRight (Replay container part script options) = IsFileName container × (part ≤ 31) × IsFileName script × AreReplayOptions options
 
 -- words are a command exactly where they are what is typed for it, and what they name is right
 abbrev pub CommandsAreSpelled : Type 0

@@ -1,13 +1,13 @@
 -- What the program's commands say.
 use Rattle.std.specs.Prelude.{ℕ, List, Option, Some, None}
 use Rattle.command_line.specs.Texts.{texts_of}
-use Rattle.command_line.specs.Words.{Command, PartFile, ReplayFiles, RunOption, Bare, Parse, Upgrade, BuildImage, ReadImage, Pack, ListContainer, CheckContainer, MakePlan, CheckPlan, ListGroups, ListSteerers, Generate, Run, Replay, Length, Upsets, ForPart, Neither, InputAlone, CoreAlone, InputThenCore, CoreThenInput, files_in, part_files, run_options}
+use Rattle.command_line.specs.Words.{Command, PartFile, ReplayFile, RunOption, Bare, Parse, Upgrade, BuildImage, ReadImage, Pack, ListContainer, CheckContainer, MakePlan, CheckPlan, ListGroups, ListSteerers, Generate, Run, Replay, Length, Upsets, ForPart, files_in, part_files, replay_options, run_options}
 use Rattle.command_line.specs.declared.commands.Command as code
 use Rattle.command_line.specs.declared.commands.Command.TheVariants as variant
 use Rattle.command_line.specs.declared.part_files.PartFile as file
 use Rattle.command_line.specs.declared.part_files.PartFiles as files
-use Rattle.command_line.specs.declared.replay_files.ReplayFiles as further
-use Rattle.command_line.specs.declared.replay_files.ReplayFiles.TheVariants as replay
+use Rattle.command_line.specs.declared.replay_options.ReplayFile as replay
+use Rattle.command_line.specs.declared.replay_options.ReplayOptions as replays
 use Rattle.command_line.specs.declared.run_options.FileKind.{FileKind}
 use Rattle.command_line.specs.declared.run_options.RunOption as option
 use Rattle.command_line.specs.declared.run_options.RunOption.TheVariants as options
@@ -36,13 +36,13 @@ seen_option (options.ForPart kind file) = ForPart kind (seen_file file)
 abbrev pub seen_options : run.RunOptions → List RunOption
 seen_options named = run_options (texts_of named.words.now)
 
--- what the further files of a replay say
-abbrev pub seen_further : further.ReplayFiles → ReplayFiles
-seen_further replay.Neither = Neither
-seen_further (replay.InputAlone input) = InputAlone input.now
-seen_further (replay.CoreAlone core) = CoreAlone core.now
-seen_further (replay.InputThenCore input core) = InputThenCore input.now core.now
-seen_further (replay.CoreThenInput core input) = CoreThenInput core.now input.now
+-- what an option of a replay says
+abbrev pub seen_replay_file : replay.ReplayFile → ReplayFile
+seen_replay_file named = record { kind = named.kind; file = named.file.now }
+
+-- what the options of a replay say
+abbrev pub seen_replay : replays.ReplayOptions → List ReplayFile
+seen_replay named = replay_options (texts_of named.words.now)
 
 -- what a command of the program says
 abbrev pub seen_command : code.Command → Command
@@ -60,7 +60,7 @@ seen_command (variant.ListGroups description) = ListGroups description.now
 seen_command (variant.ListSteerers description) = ListSteerers description.now
 seen_command (variant.Generate number) = Generate number
 seen_command (variant.Run container options) = Run container.now (seen_options options)
-seen_command (variant.Replay container part script further) = Replay container.now part script.now (seen_further further)
+seen_command (variant.Replay container part script options) = Replay container.now part script.now (seen_replay options)
 
 -- what a command of the program says, where there is one
 abbrev pub command_seen : Option code.Command → Option Command

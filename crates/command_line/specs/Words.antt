@@ -6,6 +6,8 @@ use Rattle.std.specs.Str.Parse.{digits_value}
 use Rattle.xm_base.specs.declared.limits.TheConstants.{TICKS}
 use Rattle.command_line.specs.declared.commands.Span.{Span}
 use Rattle.command_line.specs.declared.commands.Span.TheVariants.{Frames, Ticks}
+use Rattle.command_line.specs.declared.replay_options.ReplayKind.{ReplayKind}
+use Rattle.command_line.specs.declared.replay_options.ReplayKind.TheVariants as replay
 use Rattle.command_line.specs.declared.run_options.FileKind.{FileKind}
 use Rattle.command_line.specs.declared.run_options.FileKind.TheVariants.{Core, Input, Script}
 
@@ -20,14 +22,10 @@ pub data RunOption : Type 0 where
   Upsets : (file : List ℕ) → RunOption
   ForPart : (kind : FileKind) (file : PartFile) → RunOption
 
--- the files that options of a replay name, in the order of their words: at most one of the partition's input words, and at most one for its core
--- file
-pub data ReplayFiles : Type 0 where
-  Neither : ReplayFiles
-  InputAlone : (input : List ℕ) → ReplayFiles
-  CoreAlone : (core : List ℕ) → ReplayFiles
-  InputThenCore : (input core : List ℕ) → ReplayFiles
-  CoreThenInput : (core input : List ℕ) → ReplayFiles
+-- a file that an option of a replay names, and what it is there
+pub record ReplayFile : Type 0 where
+  pub kind : ReplayKind
+  pub file : List ℕ
 
 -- a command: a raw image runs for this many ticks; the binary configuration of a system description is made; a binary
 -- configuration is made again in the version that is written now; the image of a program is made; an image is printed; a
@@ -35,7 +33,7 @@ pub data ReplayFiles : Type 0 where
 -- container is printed; a container is checked; a cyclic plan is made from the requirements of a system description; the
 -- plan of a system description is checked against its requirements; the groups of the partitions of a system description are
 -- printed; these groups are printed, and by what each partition may steer others; a system is generated from a number, and runs; a container runs with options; a partition of a container is replayed alone, by a
--- script, with further files
+-- script, with options
 pub data Command : Type 0 where
   Bare : (image : List ℕ) (ticks : ℕ) → Command
   Parse : (description output : List ℕ) → Command
@@ -51,7 +49,7 @@ pub data Command : Type 0 where
   ListSteerers : (description : List ℕ) → Command
   Generate : (number : ℕ) → Command
   Run : (container : List ℕ) (options : List RunOption) → Command
-  Replay : (container : List ℕ) (part : ℕ) (script : List ℕ) (further : ReplayFiles) → Command
+  Replay : (container : List ℕ) (part : ℕ) (script : List ℕ) (options : List ReplayFile) → Command
 
 -- a decimal number: digits without a sign, and without a leading zero unless it is `0`
 abbrev pub is_decimal : List ℕ → Bool
@@ -179,17 +177,25 @@ option_by None other = other
 unfoldable pub run_option_of : List ℕ → List ℕ → Option RunOption
 run_option_of option word = option_by (span_of option word) (option_or (option_upsets option word) (option_for (kind_of option) (part_file_of word)))
 
--- the options of a run that words spell, two words each, up to the first two that spell none
-abbrev pub run_options : List (List ℕ) → List RunOption
-run_options [] = []
-run_options (option ∷ []) = []
-run_options (option ∷ word ∷ words) = before_others (run_option_of option word) (run_options words)
+-- the options that words spell, two words each, up to the first two that spell none
+abbrev pub options_by : {X : Type 0} → (List ℕ → List ℕ → Option X) → List (List ℕ) → List X
+options_by read [] = []
+options_by read (option ∷ []) = []
+options_by read (option ∷ word ∷ words) = before_others (read option word) (options_by read words)
 
--- whether words are options of a run, two words each
+-- whether words are options, two words each
+abbrev pub are_options_by : {X : Type 0} → (List ℕ → List ℕ → Option X) → List (List ℕ) → Bool
+are_options_by read [] = true
+are_options_by read (option ∷ []) = false
+are_options_by read (option ∷ word ∷ words) = is_some (read option word) && are_options_by read words
+
+-- the options of a run that words spell, up to the first two words that spell none
+abbrev pub run_options : List (List ℕ) → List RunOption
+run_options words = options_by run_option_of words
+
+-- whether words are options of a run
 abbrev pub are_options : List (List ℕ) → Bool
-are_options [] = true
-are_options (option ∷ []) = false
-are_options (option ∷ word ∷ words) = is_some (run_option_of option word) && are_options words
+are_options words = are_options_by run_option_of words
 
 -- how long a run is by an option, where it says so
 abbrev pub span_by : RunOption → Option Span
@@ -271,61 +277,80 @@ are_run_options words = are_options words && nat_eq (length (spans_in (run_optio
 abbrev pub run_of : List ℕ → List (List ℕ) → Option Command
 run_of container options = asked (is_file container && are_run_options options) (Run container (run_options options))
 
+-- what a file is to its replay, by its option
+unfoldable pub replay_kind_of : List ℕ → Option ReplayKind
+replay_kind_of option =
+    if bytes_eq option (codes "--input") then Some replay.Input
+    else if bytes_eq option (codes "--core") then Some replay.Core
+    else if bytes_eq option (codes "--upset") then Some replay.Upsets
+    else None
+
+-- a file of a replay, where there is a kind and the word names a file
+abbrev pub replay_file_for : Option ReplayKind → Bool → List ℕ → Option ReplayFile
+replay_file_for None is file = None
+replay_file_for (Some kind) is file = asked is (record { kind = kind; file = file })
+
+-- the option of a replay that two words spell
+abbrev pub replay_option_of : List ℕ → List ℕ → Option ReplayFile
+replay_option_of option word = replay_file_for (replay_kind_of option) (is_file word) word
+
+-- the options of a replay that words spell, up to the first two words that spell none
+abbrev pub replay_options : List (List ℕ) → List ReplayFile
+replay_options words = options_by replay_option_of words
+
+-- the place of a kind among all kinds of files of a replay
+abbrev pub replay_place : ReplayKind → ℕ
+replay_place replay.Input = 0
+replay_place replay.Core = 1
+replay_place replay.Upsets = 2
+
+-- the file of a kind that an option of a replay names
+abbrev pub replay_file_by : ReplayKind → ReplayFile → Option (List ℕ)
+replay_file_by kind option = asked (replay_place option.kind == replay_place kind) option.file
+
+-- all files of a kind that options of a replay name; no replay has two
+abbrev pub replay_files_in : ReplayKind → List ReplayFile → List (List ℕ)
+replay_files_in kind options = filter_map (replay_file_by kind) options
+
 -- the file of input words for a replay, where there is one
-abbrev pub replay_input : ReplayFiles → Option (List ℕ)
-replay_input Neither = None
-replay_input (InputAlone input) = Some input
-replay_input (CoreAlone core) = None
-replay_input (InputThenCore input core) = Some input
-replay_input (CoreThenInput core input) = Some input
+abbrev pub replay_input : List ReplayFile → Option (List ℕ)
+replay_input options = first_file (replay_files_in replay.Input options)
 
 -- where a replay writes the core file, if it does
-abbrev pub replay_core : ReplayFiles → Option (List ℕ)
-replay_core Neither = None
-replay_core (InputAlone input) = None
-replay_core (CoreAlone core) = Some core
-replay_core (InputThenCore input core) = Some core
-replay_core (CoreThenInput core input) = Some core
+abbrev pub replay_core : List ReplayFile → Option (List ℕ)
+replay_core options = first_file (replay_files_in replay.Core options)
 
--- the file that one option of a replay names
-unfoldable pub one_file : List ℕ → List ℕ → Option ReplayFiles
-one_file option file =
-    if bytes_eq option (codes "--input") then asked (is_file file) (InputAlone file)
-    else if bytes_eq option (codes "--core") then asked (is_file file) (CoreAlone file)
-    else None
+-- the file of upsets of a replay, where there is one
+abbrev pub replay_upsets : List ReplayFile → Option (List ℕ)
+replay_upsets options = first_file (replay_files_in replay.Upsets options)
 
--- the files that two options of a replay name, one for each of them
-unfoldable pub both_files : List ℕ → List ℕ → List ℕ → List ℕ → Option ReplayFiles
-both_files first file second other =
-    if bytes_eq first (codes "--input") && bytes_eq second (codes "--core") then asked (is_file file && is_file other) (InputThenCore file other)
-    else if bytes_eq first (codes "--core") && bytes_eq second (codes "--input") then asked (is_file file && is_file other) (CoreThenInput file other)
-    else None
+-- whether options of a replay name one file of a kind at most
+abbrev pub are_few : ReplayKind → List ReplayFile → Bool
+are_few kind options = nat_le (length (replay_files_in kind options)) 1
 
--- the files that options of a replay name, two words each
-abbrev pub replay_files : List (List ℕ) → Option ReplayFiles
-replay_files [] = Some Neither
-replay_files (option ∷ []) = None
-replay_files (option ∷ file ∷ []) = one_file option file
-replay_files (first ∷ file ∷ second ∷ []) = None
-replay_files (first ∷ file ∷ second ∷ other ∷ []) = both_files first file second other
-replay_files (first ∷ file ∷ second ∷ other ∷ word ∷ words) = None
+-- whether options of a replay name one file of each kind at most
+abbrev pub are_few_each : List ReplayFile → Bool
+are_few_each options = are_few replay.Input options && are_few replay.Core options && are_few replay.Upsets options
 
--- a replay of a partition, where it is one and the options are right
-abbrev pub replay_for : List ℕ → Option ℕ → List ℕ → Option ReplayFiles → Option Command
-replay_for container None script further = None
-replay_for container (Some part) script None = None
-replay_for container (Some part) script (Some further) = Some (Replay container part script further)
+-- whether words are options of a replay: each is one, and they name one file of each kind at most
+unfoldable pub are_replay_options : List (List ℕ) → Bool
+are_replay_options words = are_options_by replay_option_of words && are_few_each (replay_options words)
+
+-- a replay of a partition with options, where it is one and the options are right
+abbrev pub replay_for : List ℕ → Option ℕ → List ℕ → List (List ℕ) → Option Command
+replay_for container None script options = None
+replay_for container (Some part) script options = asked (are_replay_options options) (Replay container part script (replay_options options))
 
 -- where the container and the script are files
-abbrev pub replay_by : Bool → List ℕ → Option ℕ → List ℕ → Option ReplayFiles → Option Command
-replay_by true container part script further = replay_for container part script further
-replay_by false container part script further = None
+abbrev pub replay_by : Bool → List ℕ → Option ℕ → List ℕ → List (List ℕ) → Option Command
+replay_by true container part script options = replay_for container part script options
+replay_by false container part script options = None
 
 -- a replay of a container's partition by its script
 abbrev pub replay_command : List ℕ → List (List ℕ) → Option Command
 replay_command container [] = None
 replay_command container (part ∷ []) = None
-replay_command container (part ∷ script ∷ options) = replay_by (is_file container && is_file script) container (part_number part) script (replay_files options)
+replay_command container (part ∷ script ∷ options) = replay_by (is_file container && is_file script) container (part_number part) script options
 
 -- a command of one file, where its word names one
 abbrev pub of_file : (List ℕ → Command) → List ℕ → Option Command

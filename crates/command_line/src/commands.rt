@@ -1,7 +1,7 @@
 //! What the program is asked to do.
 
 use crate::part_files::PartFiles;
-use crate::replay_files::ReplayFiles;
+use crate::replay_options::ReplayOptions;
 use crate::run_options::RunOptions;
 use xm_base::PartId;
 
@@ -80,11 +80,11 @@ pub enum Command<'a> {
         container: &'a str,
         options: RunOptions<'a>,
     },
-    /// Replay this partition of the container in this file alone, by the script in that file, with these further files.
+    /// Replay this partition of the container in this file alone, by the script in that file, with these options.
     Replay {
         container: &'a str,
         part: PartId,
         script: &'a str,
-        further: ReplayFiles<'a>,
+        options: ReplayOptions<'a>,
     },
 }

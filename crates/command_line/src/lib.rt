@@ -6,7 +6,7 @@ mod law;
 mod numbers;
 mod part_files;
 mod reading;
-mod replay_files;
+mod replay_options;
 mod run_options;
 mod words;
 
@@ -14,6 +14,6 @@ pub use commands::{Command, Span};
 pub use law::grammar;
 pub use part_files::{PartFile, PartFiles};
 pub use reading::command;
-pub use replay_files::ReplayFiles;
+pub use replay_options::{ReplayFile, ReplayKind, ReplayOptions};
 pub use run_options::{FileKind, RunOption, RunOptions};
 pub use words::Words;

@@ -3,12 +3,12 @@
 ghost use Rattle.std.specs.Prelude.{◌≡◌, ◌&&◌};
 ghost use Rattle.command_line.specs.Seen.{command_seen, seen_command};
 ghost use Rattle.command_line.specs.Texts.{texts_of};
-ghost use Rattle.command_line.specs.Words.{Pack, Parse, ListGroups, are_part_files, asked, bare_of, by_verb, command_by_count, command_of, command_of_more, command_of_one, command_of_three, command_of_two, flows_command, format_command, generate_for, is_file, of_file, of_files, pack_command, part_files, plan_command, replay_by, replay_command, run_of, seed_of, ticks_of, part_number, replay_files};
+ghost use Rattle.command_line.specs.Words.{Pack, Parse, ListGroups, are_part_files, asked, bare_of, by_verb, command_by_count, command_of, command_of_more, command_of_one, command_of_three, command_of_two, flows_command, format_command, generate_for, is_file, of_file, of_files, pack_command, part_files, plan_command, replay_by, replay_command, run_of, seed_of, ticks_of, part_number};
 
 use crate::commands::Command;
 use crate::numbers::{part, seed, ticks};
 use crate::part_files::PartFiles;
-use crate::replay_files::ReplayFiles;
+use crate::replay_options::ReplayOptions;
 use crate::run_options::RunOptions;
 use crate::words::Words;
 
@@ -189,18 +189,18 @@ fn replay_by<'a>(
     script: &'a str,
     options: &'a [String],
 ) -> Option<Command<'a>>
-    ensures { command_seen result ≡ replay_by (is_file container.now && is_file script.now) container.now (part_number word.now) script.now (replay_files (texts_of options.now)) }
+    ensures { command_seen result ≡ replay_by (is_file container.now && is_file script.now) container.now (part_number word.now) script.now (texts_of options.now) }
 {
     if !is_file(container) || !is_file(script) {
         return None;
     }
     let part = part(word)?;
-    let further = ReplayFiles::new(options)?;
+    let options = ReplayOptions::new(options)?;
     Some(Command::Replay {
         container,
         part,
         script,
-        further,
+        options,
     })
 }
 

@@ -1,10 +1,10 @@
 -- For proofs and private clauses: what the program's commands say.
 use Rattle.std.specs.Prelude.{Option, Some, None}
-use Rattle.command_line.specs.Words.{PartFile, ReplayFiles, RunOption}
+use Rattle.command_line.specs.Words.{PartFile, ReplayFile, RunOption}
 use Rattle.command_line.specs.declared.part_files.PartFile as file
-use Rattle.command_line.specs.declared.replay_files.ReplayFiles as further
+use Rattle.command_line.specs.declared.replay_options.ReplayFile as replay
 use Rattle.command_line.specs.declared.run_options.RunOption as option
-use Rattle.command_line.specs.Seen.{seen_file, seen_option, seen_further}
+use Rattle.command_line.specs.Seen.{seen_file, seen_option, seen_replay_file}
 
 -- what a file for a partition says, where there is one
 abbrev pub seen_part_file : Option file.PartFile → Option PartFile
@@ -16,7 +16,7 @@ abbrev pub seen_run_option : Option option.RunOption → Option RunOption
 seen_run_option None = None
 seen_run_option (Some named) = Some (seen_option named)
 
--- what they say, where there are some
-abbrev pub seen_replay_files : Option further.ReplayFiles → Option ReplayFiles
-seen_replay_files None = None
-seen_replay_files (Some named) = Some (seen_further named)
+-- what an option of a replay says, where there is one
+abbrev pub seen_replay_option : Option replay.ReplayFile → Option ReplayFile
+seen_replay_option None = None
+seen_replay_option (Some named) = Some (seen_replay_file named)

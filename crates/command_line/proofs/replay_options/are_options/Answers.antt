@@ -1,0 +1,7 @@
+use Rattle.std.proofs.Common.{◌∙◌, sym}
+use Rattle.command_line.proofs.WordPairLemmas.{few_options}
+use Rattle.command_line.specs.Words.{replay_option_of}
+use Rattle.command_line.proofs.replay_options.are_options.Goals as goal
+
+pub returns : goal.returns
+returns c = record { value = c.is_empty.ensures ∙ sym (few_options replay_option_of c.loop-rest.rest.now c.in_default.len_below) ∙ c.loop-rest.invariant }
