@@ -68,6 +68,10 @@ more_to_read all later contents parts others named before now is had = subst (λ
 pub none_to_read : (all later contents : List (List ℕ)) (parts : List PartFile) (before now : Outside) → parts ≡ [] → HasRead all (file_names parts ++ later) contents before now → HasRead all later contents before now
 none_to_read all later contents parts before now none had = subst (λ (files : List PartFile). HasRead all (file_names files ++ later) contents before now) none had
 
+-- what is still to be read is that, with nothing after it
+pub rest_named : (all rest contents : List (List ℕ)) (before now : Outside) → HasRead all rest contents before now → HasRead all (rest ++ []) contents before now
+rest_named all rest contents before now had = subst (λ (files : List (List ℕ)). HasRead all files contents before now) (sym (append-nil rest)) had
+
 -- the next file was not read
 pub not_more : (e : Ending) (all rest contents : List (List ℕ)) (file : List ℕ) (before now after : Outside) → HasRead all (file ∷ rest) contents before now → IsNotRead e file now after → AreNotRead e all before after
 not_more Done all rest contents file before now after had not_read = absurd not_read

@@ -1,5 +1,5 @@
 -- The outcome of the contents of the files that a command reads.
-use Rattle.std.specs.Prelude.{ℕ, ◌*◌, ◌==◌, if◌then◌else◌, nat_lt, ◌||◌, List, [], ◌∷◌, ◌++◌, length, drop, codes, map, slice_index_or, Option, Some, None, Result, Ok, Err}
+use Rattle.std.specs.Prelude.{ℕ, ◌+◌, ◌*◌, ◌==◌, if◌then◌else◌, nat_lt, ◌||◌, List, [], ◌∷◌, ◌++◌, length, drop, codes, map, slice_index_or, Option, Some, None, Result, Ok, Err}
 use Rattle.xm_base.specs.declared.limits.TheConstants.{FILE_BYTES, IMAGE_BYTES, TICKS}
 use Rattle.xm_report.specs.Report.{texts}
 use Rattle.xm_conf.specs.Configuration.{Conf}
@@ -24,7 +24,7 @@ use Rattle.loaded_system.specs.System.{System}
 use Rattle.xm_container.specs.Reading.{unpacked}
 use Rattle.fault_messages.specs.Texts.{box_fault_text}
 use Rattle.fault_messages.specs.declared.fault.BoxFault.{BoxFault}
-use Rattle.command_line.specs.Words.{Command, PartFile, RunOption, Bare, Parse, Upgrade, BuildImage, ReadImage, Pack, ListContainer, CheckContainer, MakePlan, CheckPlan, ListGroups, ListSteerers, Generate, Run, Replay, ReplayFiles, cores_in, inputs_in, replay_core, replay_input, span_in, scripts_in, upsets_in}
+use Rattle.command_line.specs.Words.{Command, PartFile, RunOption, Bare, Parse, Upgrade, BuildImage, ReadImage, Pack, ListContainer, CheckContainer, MakePlan, CheckPlan, ListGroups, ListSteerers, Generate, Run, Replay, ReplayFile, cores_in, inputs_in, replay_core, replay_input, replay_upsets, span_in, scripts_in, upsets_in}
 use Rattle.command_line.specs.declared.commands.Span.{Span}
 use Rattle.command_line.specs.declared.commands.Span.TheVariants.{Frames, Ticks}
 use Rattle.file_commands.specs.Denial.{Denial}
@@ -36,7 +36,7 @@ use Rattle.file_commands.specs.Inputs.{inputs_for, no_inputs}
 use Rattle.file_commands.specs.Packing.{container_of, denial, file_names}
 use Rattle.builders.specs.Parsing.{upgraded_of, xmc_of}
 use Rattle.builders.specs.Planning.{plan_lines_of, verdicts_of}
-use Rattle.builders.specs.Ready.{NoContainer, NoPartition, NoScript, OddInput, Replay as Readied, Unready, replay_of}
+use Rattle.builders.specs.Ready.{NoContainer, NoPartition, NoScript, NoUpsets, OddInput, Replay as Readied, Unready, replay_of}
 use Rattle.builders.specs.Success.{ok_text}
 
 -- a file that is written
@@ -45,10 +45,10 @@ pub record Output : Type 0 where
   pub bytes : List ℕ
 
 -- a run: the system, with the input words of its partitions, the upsets that strike it, and its number of ticks; or one partition of the system alone, with
--- all that it receives
+-- the upsets of a file, of which its own strike it, and all that it receives
 pub data Running : Type 0 where
   Together : (system : Booted) (upsets : List UpsetLine) (ticks : ℕ) → Running
-  Apart : (system : Booted) (p : ℕ) (cues : List Cue) → Running
+  Apart : (system : Booted) (p : ℕ) (upsets : List UpsetLine) (cues : List Cue) → Running
 
 -- the outcome of a command: its refusal, if there is one, the file that it writes first, what goes to the report, the files that it writes after
 -- the report, in their order, and the run whose report that is
@@ -76,6 +76,10 @@ name_if_any (Some file) = file ∷ []
 abbrev pub run_inputs : List RunOption → List (List ℕ)
 run_inputs options = file_names (inputs_in options) ++ name_if_any (upsets_in options)
 
+-- the files that a replay reads beside its container and its script: that of input words and that of its upsets, where there are such
+abbrev pub replay_inputs : List ReplayFile → List (List ℕ)
+replay_inputs options = name_if_any (replay_input options) ++ name_if_any (replay_upsets options)
+
 -- the files that a command reads, in their order
 abbrev pub inputs_of : Command → List (List ℕ)
 inputs_of (Bare image ticks) = image ∷ []
@@ -92,7 +96,7 @@ inputs_of (ListGroups description) = description ∷ []
 inputs_of (ListSteerers description) = description ∷ []
 inputs_of (Generate number) = []
 inputs_of (Run container options) = container ∷ run_inputs options
-inputs_of (Replay container part script further) = container ∷ script ∷ name_if_any (replay_input further)
+inputs_of (Replay container part script options) = container ∷ script ∷ replay_inputs options
 
 -- the file that a command writes before its report
 abbrev pub output_of : Command → Option (List ℕ)
@@ -110,7 +114,7 @@ output_of (ListGroups description) = None
 output_of (ListSteerers description) = None
 output_of (Generate number) = None
 output_of (Run container options) = None
-output_of (Replay container part script further) = None
+output_of (Replay container part script options) = None
 
 -- the files that a command writes after its report, in their order
 abbrev pub later_of : Command → List (List ℕ)
@@ -128,7 +132,7 @@ later_of (ListGroups description) = []
 later_of (ListSteerers description) = []
 later_of (Generate number) = []
 later_of (Run container options) = file_names (cores_in options) ++ file_names (scripts_in options)
-later_of (Replay container part script further) = name_if_any (replay_core further)
+later_of (Replay container part script options) = name_if_any (replay_core options)
 
 -- the core file of a partition of a machine, under the name that is given for it
 abbrev pub core_output : Machine → PartFile → Output
@@ -248,43 +252,53 @@ run_outcome file options bytes contents = run_by file options contents (unpacked
 
 -- the core file of a partition that was replayed, under the name that is given for it
 abbrev pub replay_output : Readied → List ℕ → Output
-replay_output replay file = record { file = file; bytes = core_file (view_of replay.system replay.p) (replayed (view_of replay.system replay.p) replay.cues).state }
+replay_output replay file = record { file = file; bytes = core_file (view_of replay.system replay.p) (replayed replay.upsets (view_of replay.system replay.p) replay.cues).state }
 
--- the outcome of a replay that may begin: the partition's lines and that of its end, and its core file after them, where a file is named for it
+-- the outcome of a replay that may begin: the lines of the partition and of its own upsets and that of its end, and its core file after them, where a file is named
+-- for it
 unfoldable pub played : Option (List ℕ) → Readied → Outcome
 played core replay = record {
   denial = None;
   output = None;
-  report = texts (replay_lines (view_of replay.system replay.p) replay.cues);
+  report = texts (replay_lines replay.upsets (view_of replay.system replay.p) replay.cues);
   later = map (replay_output replay) (name_if_any core);
-  run = Some (Apart replay.system replay.p replay.cues);
+  run = Some (Apart replay.system replay.p replay.upsets replay.cues);
 }
 
--- the name of the file of input words, where there is one
-abbrev pub input_name : Option (List ℕ) → List ℕ
-input_name None = []
-input_name (Some file) = file
+-- the name of a file that may be named, where it is
+abbrev pub file_if_any : Option (List ℕ) → List ℕ
+file_if_any None = []
+file_if_any (Some file) = file
 
--- the bytes of input words: none where there is no file of them
-abbrev pub input_bytes : Option (List ℕ) → List ℕ → List ℕ
-input_bytes None bytes = []
-input_bytes (Some file) bytes = bytes
+-- the bytes of a file that may be named: none where it is not
+abbrev pub bytes_if_any : Option (List ℕ) → List ℕ → List ℕ
+bytes_if_any None bytes = []
+bytes_if_any (Some file) bytes = bytes
+
+-- the bytes of the input words of a replay, by the contents of the files that it reads: that of input words is the one after the script
+abbrev pub replay_input_bytes : List ReplayFile → List (List ℕ) → List ℕ
+replay_input_bytes options contents = bytes_if_any (replay_input options) (content 2 contents)
+
+-- the bytes of its upsets, whose file is the last that it reads
+abbrev pub replay_upset_bytes : List ReplayFile → List (List ℕ) → List ℕ
+replay_upset_bytes options contents = bytes_if_any (replay_upsets options) (content (2 + length (name_if_any (replay_input options))) contents)
 
 -- which file a replay is refused for, and why
-abbrev pub unready_denial : List ℕ → ℕ → List ℕ → ReplayFiles → Unready → Denial
-unready_denial container part script further (NoContainer text) = denial container text
-unready_denial container part script further NoPartition = denial container (partition_text part)
-unready_denial container part script further (NoScript text) = denial script text
-unready_denial container part script further (OddInput count) = denial (input_name (replay_input further)) (input_text count)
+abbrev pub unready_denial : List ℕ → ℕ → List ℕ → List ReplayFile → Unready → Denial
+unready_denial container part script options (NoContainer text) = denial container text
+unready_denial container part script options NoPartition = denial container (partition_text part)
+unready_denial container part script options (NoScript text) = denial script text
+unready_denial container part script options (OddInput count) = denial (file_if_any (replay_input options)) (input_text count)
+unready_denial container part script options (NoUpsets text) = denial (file_if_any (replay_upsets options)) text
 
 -- the outcome of a replay, or its refusal
-abbrev pub replay_outcome_by : List ℕ → ℕ → List ℕ → ReplayFiles → Result Readied Unready → Outcome
-replay_outcome_by container part script further (Ok replay) = played (replay_core further) replay
-replay_outcome_by container part script further (Err why) = refused_by (unready_denial container part script further why)
+abbrev pub replay_outcome_by : List ℕ → ℕ → List ℕ → List ReplayFile → Result Readied Unready → Outcome
+replay_outcome_by container part script options (Ok replay) = played (replay_core options) replay
+replay_outcome_by container part script options (Err why) = refused_by (unready_denial container part script options why)
 
--- the outcome of a container, a script and input words with these contents, by which a partition is replayed
-unfoldable pub replay_outcome : List ℕ → ℕ → List ℕ → ReplayFiles → List ℕ → List ℕ → List ℕ → Outcome
-replay_outcome container part script further bytes received input = replay_outcome_by container part script further (replay_of bytes part received input)
+-- the outcome of a container, a script, input words and upsets with these contents, by which a partition is replayed
+unfoldable pub replay_outcome : List ℕ → ℕ → List ℕ → List ReplayFile → List ℕ → List ℕ → List ℕ → List ℕ → Outcome
+replay_outcome container part script options bytes received input struck = replay_outcome_by container part script options (replay_of bytes part received input struck)
 
 -- what is printed of a file that was made
 abbrev pub made_text : ℕ → List ℕ
@@ -324,7 +338,8 @@ outcome_of_contents (ListGroups description) contents = converted description ou
 outcome_of_contents (ListSteerers description) contents = converted description outcome_of_print (steering_of (content 0 contents))
 outcome_of_contents (Generate number) contents = outcome_of_print (generated_text number)
 outcome_of_contents (Run container options) contents = run_outcome container options (content 0 contents) (drop 1 contents)
-outcome_of_contents (Replay container part script further) contents = replay_outcome container part script further (content 0 contents) (content 1 contents) (input_bytes (replay_input further) (content 2 contents))
+outcome_of_contents (Replay container part script options) contents =
+    replay_outcome container part script options (content 0 contents) (content 1 contents) (replay_input_bytes options contents) (replay_upset_bytes options contents)
 
 -- the first of the files that has more bytes than a file may have
 abbrev pub first_long : List (List ℕ) → List (List ℕ) → Option (List ℕ)

@@ -5,4 +5,5 @@ pub mod LaterLemmas
 pub mod OutputLemmas
 pub mod PackingTerms
 pub mod Read
+pub mod UpsetLemmas
 pub mod WorkTerms

@@ -63,7 +63,7 @@ pub fn read_files<'a, S: Store>(
         Ok(()) => {}
         Err(ending) => return Err(ending),
     }
-    match read_last(alloc, last, &mut contents, files) {
+    match read_if_any(alloc, last, &mut contents, files) {
         Ok(()) => Ok(contents),
         Err(ending) => Err(ending),
     }
@@ -91,18 +91,20 @@ fn read_for_parts<'a, S: Store>(
     Ok(())
 }
 
-/// The bytes of two files, and of a third where there is one, read in this order: of each its bytes, or its first ones where it is too
+/// The bytes of two files, and of two more where there are such, read in this order: of each its bytes, or its first ones where it is too
 /// long.
-pub fn read_three<'a, S: Store>(
+pub fn read_four<'a, S: Store>(
     alloc: Global,
     first: &'a str,
     second: &'a str,
     third: Option<&'a str>,
+    last: Option<&'a str>,
     files: &mut S,
 ) -> Result<Vec<Vec<u8>>, Ending<'a>>
     // The bytes of several files in their order; or the call ends at the first that is not read.
     ensures { (got : Option (List ℕ)) (faults : ℕ)
-        → AreFilesRead result (first.now ∷ second.now ∷ name_if_any (option_copied third.entry))
+        → AreFilesRead result
+        (first.now ∷ second.now ∷ name_if_any (option_copied third.entry) ++ name_if_any (option_copied last.entry))
         (outside (S.files files.old) (S.read_faults files.old) (S.write_faults files.old) (S.calls files.old)
         got faults)
         (outside (S.files files.new) (S.read_faults files.new) (S.write_faults files.new) (S.calls files.new)
@@ -117,22 +119,26 @@ pub fn read_three<'a, S: Store>(
         Ok(()) => {}
         Err(ending) => return Err(ending),
     }
-    match read_last(alloc, third, &mut contents, files) {
+    match read_if_any(alloc, third, &mut contents, files) {
+        Ok(()) => {}
+        Err(ending) => return Err(ending),
+    }
+    match read_if_any(alloc, last, &mut contents, files) {
         Ok(()) => Ok(contents),
         Err(ending) => Err(ending),
     }
 }
 
-// The bytes of the last file, where there is one, after those of files before it.
-fn read_last<'a, S: Store>(
+// The bytes of one file more, where there is one, after those of files before it.
+fn read_if_any<'a, S: Store>(
     alloc: Global,
     file: Option<&'a str>,
     contents: &mut Vec<Vec<u8>>,
     files: &mut S,
 ) -> Result<(), Ending<'a>>
-    ensures { (got : Option (List ℕ)) (faults : ℕ) (all : List (List ℕ)) (before : Outside)
-        → HasRead all (name_if_any (option_copied file.entry)) (map vector_bytes contents.old.items) before (outside (S.files files.old) (S.read_faults files.old) (S.write_faults files.old) (S.calls files.old) got faults)
-        → HasReadNext result all [] (map vector_bytes contents.new.items) before (outside (S.files files.new) (S.read_faults files.new) (S.write_faults files.new) (S.calls files.new) got faults) }
+    ensures { (got : Option (List ℕ)) (faults : ℕ) (all rest : List (List ℕ)) (before : Outside)
+        → HasRead all (name_if_any (option_copied file.entry) ++ rest) (map vector_bytes contents.old.items) before (outside (S.files files.old) (S.read_faults files.old) (S.write_faults files.old) (S.calls files.old) got faults)
+        → HasReadNext result all rest (map vector_bytes contents.new.items) before (outside (S.files files.new) (S.read_faults files.new) (S.write_faults files.new) (S.calls files.new) got faults) }
 {
     match file {
         Some(file) => read_next(alloc, file, contents, files),
@@ -161,16 +167,18 @@ fn read_next<'a, S: Store>(
     Ok(())
 }
 
-/// The first of three files with these contents that is too long; there may be no third.
-pub fn first_long_of_three<'a>(
+/// The first of four files with these contents that is too long; there may be no third and no last.
+pub fn first_long_of_four<'a>(
     first: &'a str,
     second: &'a str,
     third: Option<&'a str>,
+    last: Option<&'a str>,
     contents: &[Vec<u8>],
 ) -> Option<&'a str>
     // The first of the files that has more bytes than a file may have.
     ensures value { option_copied result
-        ≡ first_long (first.now ∷ second.now ∷ name_if_any (option_copied third.entry))
+        ≡ first_long
+        (first.now ∷ second.now ∷ name_if_any (option_copied third.entry) ++ name_if_any (option_copied last.entry))
         (map vector_bytes contents.now) }
 {
     let (bytes, others) = contents.split_first()?;
@@ -181,12 +189,28 @@ pub fn first_long_of_three<'a>(
     if bytes.len() > FILE_BYTES {
         return Some(second);
     }
-    let (bytes, _) = more.split_first()?;
+    first_long_of_two(third, last, more)
+}
+
+// The first of two files with these contents that is too long; there may be none.
+fn first_long_of_two<'a>(
+    first: Option<&'a str>,
+    last: Option<&'a str>,
+    contents: &[Vec<u8>],
+) -> Option<&'a str>
+    ensures value { option_copied result
+        ≡ first_long (name_if_any (option_copied first.entry) ++ name_if_any (option_copied last.entry))
+        (map vector_bytes contents.now) }
+{
+    let (bytes, more) = contents.split_first()?;
+    let Some(file) = first else {
+        return if_long(last, bytes);
+    };
     if bytes.len() > FILE_BYTES {
-        third
-    } else {
-        None
+        return Some(file);
     }
+    let (bytes, _) = more.split_first()?;
+    if_long(last, bytes)
 }
 
 /// The first of the files with these contents that is too long: this one, those for partitions, and one more where there is one.

@@ -10,12 +10,12 @@ use Rattle.machine_model.specs.Machine.{Machine}
 use Rattle.machine_model.specs.View.{System as Booted}
 use Rattle.upset_model.specs.declared.upset_line.UpsetLine.{UpsetLine}
 use Rattle.system_state.specs.State.{with_inputs}
-use Rattle.command_line.specs.Words.{Command, PartFile, RunOption, Bare, Parse, Upgrade, BuildImage, ReadImage, Pack, ListContainer, CheckContainer, MakePlan, CheckPlan, ListGroups, ListSteerers, Generate, Run, Replay, ReplayFiles, cores_in, replay_core, replay_input, scripts_in, span_in}
+use Rattle.command_line.specs.Words.{Command, PartFile, RunOption, Bare, Parse, Upgrade, BuildImage, ReadImage, Pack, ListContainer, CheckContainer, MakePlan, CheckPlan, ListGroups, ListSteerers, Generate, Run, Replay, ReplayFile, cores_in, replay_core, scripts_in, span_in}
 use Rattle.builders.specs.Ready.{Replay as Readied, Unready, replay_of}
 use Rattle.file_commands.specs.Denial.{Denial}
 use Rattle.file_commands.specs.Ending.{length_text, ticks_text}
 use Rattle.file_commands.specs.Inputs.{no_inputs}
-use Rattle.file_commands.specs.Outcome.{Outcome, Output, bare_outcome, content, converted, core_outputs, first_long, input_bytes, inputs_of, later_of, name_if_any, outcome_of_file, outcome_of_print, outcome_of, output_of, packed_to, played, outcome_of_run, ran_for, ran_scripted, ran_struck, ran_with, ran_within, command_refused, replay_outcome_by, replay_outcome, replay_output, run_by, run_outcome, script_before, script_denial, script_output, scripts_for, ticks_asked, unless_denied, unless_long, outcome_of_contents, upsets_for}
+use Rattle.file_commands.specs.Outcome.{Outcome, Output, bare_outcome, content, converted, core_outputs, first_long, replay_input_bytes, replay_upset_bytes, inputs_of, later_of, name_if_any, outcome_of_file, outcome_of_print, outcome_of, output_of, packed_to, played, outcome_of_run, ran_for, ran_scripted, ran_struck, ran_with, ran_within, command_refused, replay_outcome_by, replay_outcome, replay_output, run_by, run_outcome, script_before, script_denial, script_output, scripts_for, ticks_asked, unless_denied, unless_long, outcome_of_contents, upsets_for}
 use Rattle.file_commands.specs.Packing.{container_of, file_names}
 use Rattle.file_commands.specs.Work.{file_in}
 use Rattle.file_commands.specs.lemmas.OutputLemmas.{output-named}
@@ -127,12 +127,12 @@ played-later : (core : Option (List ℕ)) (replay : Readied) → AreNamed (name_
 unfolding played
 played-later core replay = inl (replay_output-files replay core)
 
-replay-later : (container : List ℕ) (part : ℕ) (script : List ℕ) (further : ReplayFiles) (bytes received input : List ℕ) → AreNamed (name_if_any (replay_core further)) (replay_outcome container part script further bytes received input).later
+replay-later : (container : List ℕ) (part : ℕ) (script : List ℕ) (options : List ReplayFile) (bytes received input struck : List ℕ) → AreNamed (name_if_any (replay_core options)) (replay_outcome container part script options bytes received input struck).later
 unfolding replay_outcome
-replay-later container part script further bytes received input = at (replay_of bytes part received input)
+replay-later container part script options bytes received input struck = at (replay_of bytes part received input struck)
   where
-    at : (made_of : Result Readied Unready) → AreNamed (name_if_any (replay_core further)) (replay_outcome_by container part script further made_of).later
-    at (Ok replay) = played-later (replay_core further) replay
+    at : (made_of : Result Readied Unready) → AreNamed (name_if_any (replay_core options)) (replay_outcome_by container part script options made_of).later
+    at (Ok replay) = played-later (replay_core options) replay
     at (Err why) = inr refl
 
 -- the files after the report are those that the words name, or none
@@ -156,7 +156,7 @@ later-named command contents = at command (first_long (inputs_of command) conten
     at (ListSteerers description) None = inr (made-later description outcome_of_print _ (λ bytes. refl))
     at (Generate number) None = inr refl
     at (Run container options) None = run-later container options (content 0 contents) (drop 1 contents)
-    at (Replay container part script further) None = replay-later container part script further (content 0 contents) (content 1 contents) (input_bytes (replay_input further) (content 2 contents))
+    at (Replay container part script options) None = replay-later container part script options (content 0 contents) (content 1 contents) (replay_input_bytes options contents) (replay_upset_bytes options contents)
 
 -- a command whose words name none of them has none
 pub no-later : (command : Command) (contents : List (List ℕ)) → later_of command ≡ [] → (outcome_of command contents).later ≡ []

@@ -1,7 +1,7 @@
 -- The calls of the store for files, and the file that a command writes before its report: it is the one that its words name.
 use Rattle.std.proofs.Common.{◌≡◌, ℕ, Bool, true, false, nat_lt, ◌==◌, ◌||◌, if◌then◌else◌, List, [], ◌∷◌, length, drop, Option, Some, None, Result, Ok, Err, refl, ap}
 use Rattle.xm_base.specs.declared.limits.TheConstants.{IMAGE_BYTES, TICKS}
-use Rattle.command_line.specs.Words.{Command, PartFile, RunOption, Bare, Parse, Upgrade, BuildImage, ReadImage, Pack, ListContainer, CheckContainer, MakePlan, CheckPlan, ListGroups, ListSteerers, Generate, Run, Replay, ReplayFiles, cores_in, replay_core, replay_input, scripts_in, span_in}
+use Rattle.command_line.specs.Words.{Command, PartFile, RunOption, Bare, Parse, Upgrade, BuildImage, ReadImage, Pack, ListContainer, CheckContainer, MakePlan, CheckPlan, ListGroups, ListSteerers, Generate, Run, Replay, ReplayFile, cores_in, replay_core, scripts_in, span_in}
 use Rattle.xm_container.specs.Reading.{unpacked}
 use Rattle.fault_messages.specs.declared.fault.BoxFault.{BoxFault}
 use Rattle.loaded_system.specs.Bare.{bare_system}
@@ -13,7 +13,7 @@ use Rattle.file_commands.specs.Inputs.{no_inputs}
 use Rattle.file_commands.specs.Packing.{container_of}
 use Rattle.builders.specs.Ready.{Replay as Readied, Unready, replay_of}
 use Rattle.file_commands.specs.Denial.{Denial}
-use Rattle.file_commands.specs.Outcome.{Output, bare_outcome, content, first_long, input_bytes, converted, outcome_of_file, outcome_of_print, packed_to, played, outcome_of_run, ran_for, ran_scripted, ran_struck, ran_with, ran_within, command_refused, replay_outcome_by, replay_outcome, run_by, run_outcome, inputs_of, outcome_of, output_of, scripts_for, ticks_asked, unless_long, outcome_of_contents, upsets_for}
+use Rattle.file_commands.specs.Outcome.{Output, bare_outcome, content, first_long, replay_input_bytes, replay_upset_bytes, converted, outcome_of_file, outcome_of_print, packed_to, played, outcome_of_run, ran_for, ran_scripted, ran_struck, ran_with, ran_within, command_refused, replay_outcome_by, replay_outcome, run_by, run_outcome, inputs_of, outcome_of, output_of, scripts_for, ticks_asked, unless_long, outcome_of_contents, upsets_for}
 use Rattle.file_commands.specs.Work.{counted_by, Outside, after_store_call, called_for}
 
 -- Calls.
@@ -99,12 +99,12 @@ played-output : (core : Option (List ℕ)) (replay : Readied) (output : Output) 
 unfolding played
 played-output core replay output e = cc
 
-replay-output : (container : List ℕ) (part : ℕ) (script : List ℕ) (further : ReplayFiles) (bytes received input : List ℕ) (output : Output) → (replay_outcome container part script further bytes received input).output ≡ Some output → ⊥
+replay-output : (container : List ℕ) (part : ℕ) (script : List ℕ) (options : List ReplayFile) (bytes received input struck : List ℕ) (output : Output) → (replay_outcome container part script options bytes received input struck).output ≡ Some output → ⊥
 unfolding replay_outcome
-replay-output container part script further bytes received input output e = at (replay_of bytes part received input) e
+replay-output container part script options bytes received input struck output e = at (replay_of bytes part received input struck) e
   where
-    at : (made_of : Result Readied Unready) → (replay_outcome_by container part script further made_of).output ≡ Some output → ⊥
-    at (Ok replay) e = played-output (replay_core further) replay output e
+    at : (made_of : Result Readied Unready) → (replay_outcome_by container part script options made_of).output ≡ Some output → ⊥
+    at (Ok replay) e = played-output (replay_core options) replay output e
     at (Err why) e = cc
 
 -- a command that writes a file writes the one that its words name
@@ -128,7 +128,7 @@ output-named command contents output is = at command (first_long (inputs_of comm
     at (ListSteerers description) None e = absurd (reported-output description _ output e)
     at (Generate number) None e = absurd (cc)
     at (Run container options) None e = absurd (run-output container options (content 0 contents) (drop 1 contents) output e)
-    at (Replay container part script further) None e = absurd (replay-output container part script further (content 0 contents) (content 1 contents) (input_bytes (replay_input further) (content 2 contents)) output e)
+    at (Replay container part script options) None e = absurd (replay-output container part script options (content 0 contents) (content 1 contents) (replay_input_bytes options contents) (replay_upset_bytes options contents) output e)
 
 -- where there is no file, none is written
 pub no_output : (o : Option Output) → ((output : Output) → o ≡ Some output → ⊥) → o ≡ None

@@ -1,7 +1,7 @@
 use Rattle.std.proofs.Common.{ap, map}
 use Rattle.file_commands.specs.EndingValues.{vector_bytes}
-use Rattle.file_commands.proofs.PackingLemmas.{has_all, read_begun}
-use Rattle.file_commands.proofs.reading.read_three.Goals as goal
+use Rattle.file_commands.proofs.PackingLemmas.{has_all, read_begun, rest_named}
+use Rattle.file_commands.proofs.reading.read_four.Goals as goal
 
 pub returns-in-Err : goal.returns-in-Err
 returns-in-Err g c = λ got faults. c.in-Err.ensures got faults _ _ _ (read_begun _ _ _ (ap (map vector_bytes) c.new-contents.ensures.items))
@@ -9,8 +9,16 @@ returns-in-Err g c = λ got faults. c.in-Err.ensures got faults _ _ _ (read_begu
 pub returns-in-Err-read_next : goal.returns-in-Err-read_next
 returns-in-Err-read_next g c = λ got faults. c.in-Err-read_next.ensures got faults _ _ _ (c.in-Ok.ensures got faults _ _ _ (read_begun _ _ _ (ap (map vector_bytes) c.new-contents.ensures.items)))
 
-pub returns : goal.returns
-returns g c = λ got faults. c.in-Err-read_last.ensures got faults _ _ (c.in-Ok-read_next.ensures got faults _ _ _ (c.in-Ok.ensures got faults _ _ _ (read_begun _ _ _ (ap (map vector_bytes) c.new-contents.ensures.items))))
+pub returns-in-Err-read_if_any : goal.returns-in-Err-read_if_any
+returns-in-Err-read_if_any g c = λ got faults.
+    c.in-Err-read_if_any.ensures got faults _ _ _ (c.in-Ok-read_next.ensures got faults _ _ _ (c.in-Ok.ensures got faults _ _ _ (read_begun _ _ _ (ap (map vector_bytes) c.new-contents.ensures.items))))
 
-pub returns-in-Ok-read_last : goal.returns-in-Ok-read_last
-returns-in-Ok-read_last g c = λ got faults. has_all _ _ _ _ (c.in-Ok-read_last.ensures got faults _ _ (c.in-Ok-read_next.ensures got faults _ _ _ (c.in-Ok.ensures got faults _ _ _ (read_begun _ _ _ (ap (map vector_bytes) c.new-contents.ensures.items)))))
+pub returns : goal.returns
+returns g c = λ got faults.
+    c.in-Err-read_if_any-2.ensures got faults _ _ _ (rest_named _ _ _ _ _
+    (c.in-Ok-read_if_any.ensures got faults _ _ _ (c.in-Ok-read_next.ensures got faults _ _ _ (c.in-Ok.ensures got faults _ _ _ (read_begun _ _ _ (ap (map vector_bytes) c.new-contents.ensures.items))))))
+
+pub returns-in-Ok-read_if_any-2 : goal.returns-in-Ok-read_if_any-2
+returns-in-Ok-read_if_any-2 g c = λ got faults.
+    has_all _ _ _ _ (c.in-Ok-read_if_any-2.ensures got faults _ _ _ (rest_named _ _ _ _ _
+    (c.in-Ok-read_if_any.ensures got faults _ _ _ (c.in-Ok-read_next.ensures got faults _ _ _ (c.in-Ok.ensures got faults _ _ _ (read_begun _ _ _ (ap (map vector_bytes) c.new-contents.ensures.items)))))))
