@@ -18,7 +18,7 @@ use Rattle.machine_model.specs.View.{PartitionView, System, view_of}
 use Rattle.machine_model.specs.lemmas.ListLemmas.{each_counted}
 use Rattle.cue_scripts.specs.Script.{HaltsLast, IsCue}
 use Rattle.range_model.specs.Laws.{BootsInRange, IsInRange, KeepsRanges}
-use Rattle.range_model.specs.Ranges.{HasRanges, IsPartitionInRange}
+use Rattle.range_model.specs.Ranges.{IsPartitionInRange}
 use Rattle.replay_model.specs.Passes.{part_in}
 use Rattle.replay_model.specs.ReceivingLaws.{IsSound, ReceivedIsTaken}
 use Rattle.replay_model.specs.Taking.{first_untaken, takes_cue}
@@ -227,13 +227,9 @@ record IsRanged (g : Machine) : Type 0 where
   ranges : IsInRange g
   tables : HaveTables g
 
-upset_images : (u : Upset) (g : Machine) → HasRanges g.system → HasRanges (upset u g).system
+upset_in_range : (line : UpsetLine) (g : Machine) → MayStrike g.system line → IsRanged g → IsInRange (upset (upset_of line) g)
 unfolding upset
-upset_images u g images = images
-
-upset_channels : (line : UpsetLine) (g : Machine) → MayStrike g.system line → IsRanged g → IsInRange (upset (upset_of line) g)
-unfolding upset
-upset_channels line g here is = record {
+upset_in_range line g here is = record {
   fits = is.ranges.fits;
   complete = upset_complete (upset_of line) g is.ranges.complete;
   images = is.ranges.images;
@@ -255,7 +251,7 @@ upset_tables line g here tables p ps there =
 upset_ranged : (line : UpsetLine) (g : Machine) → MayStrike g.system line → IsRanged g → IsRanged (upset (upset_of line) g)
 upset_ranged line g here is = record {
   sound = upset_sound line g is.sound;
-  ranges = upset_channels line g here is;
+  ranges = upset_in_range line g here is;
   tables = upset_tables line g here is.tables;
 }
 
