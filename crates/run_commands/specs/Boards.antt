@@ -27,17 +27,17 @@ pub record IsLowestMark (place : ℕ) (board : BoardView) : Type 0 where
 -- how many ticks a run has
 abbrev pub ticks_of_run : Running → ℕ
 ticks_of_run (Together system upsets ticks) = ticks
-ticks_of_run (Apart system p cues) = length cues
+ticks_of_run (Apart system p upsets cues) = length cues
 
 -- the console bytes of this many ticks of a run that each UART gets
 abbrev pub said_in_run : Running → ℕ → ℕ → List ℕ
 said_in_run (Together system upsets ticks) done = upset_console (schedule_of upsets) (start system) done
-said_in_run (Apart system p cues) done = replay_said (booted_alone system p) (take done cues)
+said_in_run (Apart system p upsets cues) done = replay_said upsets (booted_alone system p) (take done cues)
 
 -- the whole report of a run
 abbrev pub lines_in : Running → List ReportLine
 lines_in (Together system upsets ticks) = upset_report upsets system ticks
-lines_in (Apart system p cues) = replay_lines (view_of system p) cues
+lines_in (Apart system p upsets cues) = replay_lines upsets (view_of system p) cues
 
 -- from a board without marks on, each UART got the console bytes of this many ticks of the run
 abbrev pub IsRunTo : ℕ → Running → BoardView → BoardView → Type 0
@@ -59,9 +59,9 @@ abbrev pub IsCutAt : Running → ℕ → ℕ → Type 0
 IsCutAt (Together system upsets ticks) done count =
     ((earlier : ℕ) → earlier < done → length (texts (struck_report_to upsets (start system) ticks earlier)) ≤ count)
     × (done < ticks → count < length (texts (struck_report_to upsets (start system) ticks done)))
-IsCutAt (Apart system p cues) done count =
-    ((earlier : ℕ) → earlier < done → length (texts (cue_lines (view_of system p) (take earlier cues))) ≤ count)
-    × (done < length cues → count < length (texts (cue_lines (view_of system p) (take done cues))))
+IsCutAt (Apart system p upsets cues) done count =
+    ((earlier : ℕ) → earlier < done → length (texts (cue_lines upsets (view_of system p) (take earlier cues))) ≤ count)
+    × (done < length cues → count < length (texts (cue_lines upsets (view_of system p) (take done cues))))
 
 -- those of its ticks up to the one in which the report was cut
 pub record IsRunCut (run : Running) (had got : Option (List ℕ)) (before after : BoardView) : Type 0 where

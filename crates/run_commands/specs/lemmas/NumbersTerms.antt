@@ -26,7 +26,7 @@ CommandReceives (ListGroups description) known = Unit {0}
 CommandReceives (ListSteerers description) known = Unit {0}
 CommandReceives (Generate number) known = Unit {0}
 CommandReceives (Run container options) known = ReceivesOf container options known
-CommandReceives (Replay container part script further) known = Unit {0}
+CommandReceives (Replay container part script options) known = Unit {0}
 
 -- and of words
 abbrev pub WordsReceive : Option Command → Option Files → Type 0
