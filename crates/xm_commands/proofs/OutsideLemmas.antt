@@ -12,7 +12,7 @@ use Rattle.xm_base.specs.declared.limits.TheConstants.{FILE_BYTES, IMAGE_BYTES, 
 use Rattle.xm_outside.specs.Causes.{counted}
 use Rattle.xm_outside.specs.Files.{Files, OthersStay, stored}
 use Rattle.upset_model.specs.declared.upset_line.UpsetLine.{UpsetLine}
-use Rattle.command_line.specs.Words.{Command, PartFile, RunOption, Bare, Parse, Upgrade, BuildImage, ReadImage, Pack, ListContainer, CheckContainer, MakePlan, CheckPlan, ListGroups, ListSteerers, Generate, Run, Replay, ReplayFiles, cores_in, replay_core, replay_input, scripts_in, span_in}
+use Rattle.command_line.specs.Words.{Command, PartFile, RunOption, Bare, Parse, Upgrade, BuildImage, ReadImage, Pack, ListContainer, CheckContainer, MakePlan, CheckPlan, ListGroups, ListSteerers, Generate, Run, Replay, ReplayFile, cores_in, replay_core, scripts_in, span_in}
 use Rattle.xm_container.specs.Reading.{unpacked}
 use Rattle.fault_messages.specs.declared.fault.BoxFault.{BoxFault}
 use Rattle.xm_commands.specs.Answer.{files_saved}
@@ -25,7 +25,7 @@ use Rattle.file_commands.specs.Inputs.{no_inputs}
 use Rattle.file_commands.specs.Packing.{container_of}
 use Rattle.builders.specs.Ready.{Replay as Readied, Unready, replay_of}
 use Rattle.file_commands.specs.Denial.{Denial}
-use Rattle.file_commands.specs.Outcome.{Outcome, Output, bare_outcome, content, converted, first_long, input_bytes, outcome_of_file, outcome_of_print, packed_to, played, outcome_of_run, ran_for, ran_scripted, ran_struck, ran_with, ran_within, command_refused, refused_by, replay_outcome_by, replay_outcome, run_by, run_outcome, inputs_of, outcome_of, scripts_for, ticks_asked, unless_long, upsets_for, outcome_of_contents}
+use Rattle.file_commands.specs.Outcome.{Outcome, Output, bare_outcome, content, converted, first_long, outcome_of_file, outcome_of_print, packed_to, played, outcome_of_run, ran_for, ran_scripted, ran_struck, ran_with, ran_within, command_refused, refused_by, replay_input_bytes, replay_outcome_by, replay_outcome, replay_upset_bytes, run_by, run_outcome, inputs_of, outcome_of, scripts_for, ticks_asked, unless_long, upsets_for, outcome_of_contents}
 use Rattle.xm_commands.specs.Top.{AreContents}
 use Rattle.file_commands.specs.Work.{counted_by, Outside, ReadsFiles, wrote}
 use Rattle.file_commands.specs.lemmas.CommandLemmas.{outcome-long}
@@ -156,13 +156,13 @@ played-denied : (core : Option (List ℕ)) (replay : Readied) (denial : Denial) 
 unfolding played
 played-denied core replay denial e = cc
 
-replay-denied : (container : List ℕ) (part : ℕ) (script : List ℕ) (further : ReplayFiles) (bytes received input : List ℕ) (denial : Denial) → (replay_outcome container part script further bytes received input).denial ≡ Some denial
-    → replay_outcome container part script further bytes received input ≡ refused_by denial
+replay-denied : (container : List ℕ) (part : ℕ) (script : List ℕ) (options : List ReplayFile) (bytes received input struck : List ℕ) (denial : Denial) → (replay_outcome container part script options bytes received input struck).denial ≡ Some denial
+    → replay_outcome container part script options bytes received input struck ≡ refused_by denial
 unfolding replay_outcome
-replay-denied container part script further bytes received input denial e = at (replay_of bytes part received input) e
+replay-denied container part script options bytes received input struck denial e = at (replay_of bytes part received input struck) e
   where
-    at : (made_of : Result Readied Unready) → (replay_outcome_by container part script further made_of).denial ≡ Some denial → replay_outcome_by container part script further made_of ≡ refused_by denial
-    at (Ok replay) e = absurd (played-denied (replay_core further) replay denial e)
+    at : (made_of : Result Readied Unready) → (replay_outcome_by container part script options made_of).denial ≡ Some denial → replay_outcome_by container part script options made_of ≡ refused_by denial
+    at (Ok replay) e = absurd (played-denied (replay_core options) replay denial e)
     at (Err why) e = same_refusal _ denial e
 
 -- the outcome of a command that is refused is the refusal, and nothing else
@@ -186,7 +186,7 @@ outcome-denied command contents denial is = at command (first_long (inputs_of co
     at (ListSteerers description) None e = made-denied description outcome_of_print _ denial (λ bytes. refl) e
     at (Generate number) None e = absurd (cc)
     at (Run container options) None e = run-denied container options (content 0 contents) (drop 1 contents) denial e
-    at (Replay container part script further) None e = replay-denied container part script further (content 0 contents) (content 1 contents) (input_bytes (replay_input further) (content 2 contents)) denial e
+    at (Replay container part script options) None e = replay-denied container part script options (content 0 contents) (content 1 contents) (replay_input_bytes options contents) (replay_upset_bytes options contents) denial e
 
 -- What is read.
 

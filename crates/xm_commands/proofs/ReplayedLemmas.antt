@@ -11,18 +11,19 @@ use Rattle.builders.specs.Ready.{Replay as Readied, replay_of}
 use Rattle.machine_model.specs.CoreFile.{core_file}
 use Rattle.machine_model.specs.Cue.{Cue}
 use Rattle.machine_model.specs.Laws.{core_file_of}
-use Rattle.machine_model.specs.Lines.{own, report}
-use Rattle.machine_model.specs.Machine.{run, start}
+use Rattle.machine_model.specs.Lines.{own}
+use Rattle.upset_model.specs.Reports.{after_run, upset_report}
+use Rattle.upset_model.specs.declared.upset_line.UpsetLine.{UpsetLine}
 use Rattle.machine_model.specs.View.{System, view_of}
 use Rattle.system_state.specs.State.{with_inputs}
 use Rattle.recording_model.specs.Lone.{booted_alone, replay_said}
 use Rattle.recording_model.specs.Replayed.{replay_lines, replayed}
-use Rattle.command_line.specs.Words.{Command, ReplayFiles, Bare, Parse, Upgrade, BuildImage, ReadImage, Pack, ListContainer, CheckContainer, MakePlan, CheckPlan, ListGroups, ListSteerers, Generate, Run, Replay, replay_core, replay_input}
+use Rattle.command_line.specs.Words.{Command, ReplayFile, Bare, Parse, Upgrade, BuildImage, ReadImage, Pack, ListContainer, CheckContainer, MakePlan, CheckPlan, ListGroups, ListSteerers, Generate, Run, Replay, replay_core}
 use Rattle.run_commands.specs.Boards.{IsRunTo, LeavesBoard, Plays, said_in_run, ticks_of_run}
 use Rattle.run_commands.specs.Contents.{read_all}
 use Rattle.file_commands.specs.Denial.{Denial}
 use Rattle.file_commands.specs.Ending.{Ending, Done, Usage, ReadFault, Refused, WriteFaultReport, WriteFaultFile, UartFault, NoMemory, status_of}
-use Rattle.file_commands.specs.Outcome.{Apart, Output, Outcome, Running, content, core_output, first_long, input_bytes, inputs_of, name_if_any, outcome_of, played, replay_outcome_by, replay_outcome, replay_output, unless_long, outcome_of_contents}
+use Rattle.file_commands.specs.Outcome.{Apart, Output, Outcome, Running, content, core_output, first_long, inputs_of, name_if_any, outcome_of, played, replay_input_bytes, replay_inputs, replay_outcome_by, replay_outcome, replay_output, replay_upset_bytes, unless_long, outcome_of_contents}
 use Rattle.xm_commands.specs.Separation.{ReplaysAlone, ShowsOwn}
 use Rattle.xm_commands.specs.Top.{AreContents, IsCompleteStatus, IsRefusedIn}
 use Rattle.file_commands.specs.Work.{Outside, IsCarriedOut, Works, called_for, did, reported_all, wrote_all}
@@ -34,14 +35,14 @@ use Rattle.xm_commands.proofs.TopLemmas.{done_is_finished, has_causes, unheard_f
 use Rattle.xm_commands.proofs.WrittenLemmas.{did-got, wrote_all-from}
 
 -- the outcome of a replay that may begin
-pub begun_outcome : (container : List ℕ) (part : ℕ) (script : List ℕ) (further : ReplayFiles) (contents : List (List ℕ)) (replay : Readied)
-    → first_long (container ∷ script ∷ name_if_any (replay_input further)) contents ≡ None
-    → replay_of (content 0 contents) part (content 1 contents) (input_bytes (replay_input further) (content 2 contents)) ≡ Ok replay
-    → outcome_of (Replay container part script further) contents ≡ played (replay_core further) replay
+pub begun_outcome : (container : List ℕ) (part : ℕ) (script : List ℕ) (options : List ReplayFile) (contents : List (List ℕ)) (replay : Readied)
+    → first_long (container ∷ script ∷ replay_inputs options) contents ≡ None
+    → replay_of (content 0 contents) part (content 1 contents) (replay_input_bytes options contents) (replay_upset_bytes options contents) ≡ Ok replay
+    → outcome_of (Replay container part script options) contents ≡ played (replay_core options) replay
 unfolding outcome_of replay_outcome
-begun_outcome container part script further contents replay short begins =
-    ap (λ (long : Option (List ℕ)). unless_long long (outcome_of_contents (Replay container part script further) contents)) short
-    ∙ ap (replay_outcome_by container part script further) begins
+begun_outcome container part script options contents replay short begins =
+    ap (λ (long : Option (List ℕ)). unless_long long (outcome_of_contents (Replay container part script options) contents)) short
+    ∙ ap (replay_outcome_by container part script options) begins
 
 -- it is not refused
 never_refused : (core : Option (List ℕ)) (replay : Readied) → IsSome (played core replay).denial → ⊥
@@ -53,26 +54,26 @@ abbrev one_output : List ℕ → List ℕ → List Output
 one_output file bytes = record { file = file; bytes = bytes } ∷ []
 
 -- the core file that it writes is that after the run
-pub own_cores : (system : System) (ticks part : ℕ) (replay : Readied) (core : Option (List ℕ))
-    → core_file_of (run (start system) ticks) part ≡ Some (core_file (view_of replay.system replay.p) (replayed (view_of replay.system replay.p) replay.cues).state)
-    → map (replay_output replay) (name_if_any core) ≡ map (λ (file : List ℕ). core_output (run (start system) ticks) (record { part = part; file = file })) (name_if_any core)
-own_cores system ticks part replay None is = refl
-own_cores system ticks part replay (Some file) is =
-    ap (one_output file) (sym (core_there (run (start system) ticks) part _ is))
+pub own_cores : (upsets : List UpsetLine) (system : System) (ticks part : ℕ) (replay : Readied) (core : Option (List ℕ))
+    → core_file_of (after_run upsets system ticks) part ≡ Some (core_file (view_of replay.system replay.p) (replayed replay.upsets (view_of replay.system replay.p) replay.cues).state)
+    → map (replay_output replay) (name_if_any core) ≡ map (λ (file : List ℕ). core_output (after_run upsets system ticks) (record { part = part; file = file })) (name_if_any core)
+own_cores upsets system ticks part replay None is = refl
+own_cores upsets system ticks part replay (Some file) is =
+    ap (one_output file) (sym (core_there (after_run upsets system ticks) part _ is))
 
 -- what is carried out of it shows the partition's part of the run
-shows_own : (system : System) (ticks part : ℕ) (replay : Readied) (core : Option (List ℕ)) (before : World) (read_from : Outside) (after : World)
-    → replay_lines (view_of replay.system replay.p) replay.cues ≡ own part (report system ticks)
-    → core_file_of (run (start system) ticks) part ≡ Some (core_file (view_of replay.system replay.p) (replayed (view_of replay.system replay.p) replay.cues).state)
-    → read_from.files ≡ before.disk.files → read_from.got ≡ before.disk.got → after.disk ≡ did (played core replay) read_from → IsHeard (own_console system ticks part) (without_marks before.board) after.board → ShowsOwn system ticks part core before after
+shows_own : (upsets : List UpsetLine) (system : System) (ticks part : ℕ) (replay : Readied) (core : Option (List ℕ)) (before : World) (read_from : Outside) (after : World)
+    → replay_lines replay.upsets (view_of replay.system replay.p) replay.cues ≡ own part (upset_report upsets system ticks)
+    → core_file_of (after_run upsets system ticks) part ≡ Some (core_file (view_of replay.system replay.p) (replayed replay.upsets (view_of replay.system replay.p) replay.cues).state)
+    → read_from.files ≡ before.disk.files → read_from.got ≡ before.disk.got → after.disk ≡ did (played core replay) read_from → IsHeard (own_console upsets system ticks part) (without_marks before.board) after.board → ShowsOwn upsets system ticks part core before after
 unfolding played
-shows_own system ticks part replay core before read_from after lines file files got is heard = record {
+shows_own upsets system ticks part replay core before read_from after lines file files got is heard = record {
   printed = ap (λ (x : Outside). x.got) is ∙ did-got (played core replay) read_from
-      ∙ ap (λ (g : Option (List ℕ)). grown g (texts (replay_lines (view_of replay.system replay.p) replay.cues))) got
+      ∙ ap (λ (g : Option (List ℕ)). grown g (texts (replay_lines replay.upsets (view_of replay.system replay.p) replay.cues))) got
       ∙ ap (λ (ls : List ReportLine). grown before.disk.got (texts ls)) lines;
   written = ap (λ (x : Outside). x.files) is
-      ∙ ap (λ (os : List Output). (wrote_all os (reported_all (played core replay) read_from)).files) (own_cores system ticks part replay core file)
-      ∙ wrote_all-from (map (λ (f : List ℕ). core_output (run (start system) ticks) (record { part = part; file = f })) (name_if_any core)) (reported_all (played core replay) read_from) before.disk files;
+      ∙ ap (λ (os : List Output). (wrote_all os (reported_all (played core replay) read_from)).files) (own_cores upsets system ticks part replay core file)
+      ∙ wrote_all-from (map (λ (f : List ℕ). core_output (after_run upsets system ticks) (record { part = part; file = f })) (name_if_any core)) (reported_all (played core replay) read_from) before.disk files;
   said = heard;
 }
 
@@ -91,7 +92,7 @@ refused_never command before after files contents core replay known all comes re
     never_refused core replay (subst (λ (o : Outcome). IsSome o.denial) (ap (outcome_of command) same ∙ comes) refused.refused)
 
 -- what it runs
-played_run : (core : Option (List ℕ)) (replay : Readied) → (played core replay).run ≡ Some (Apart replay.system replay.p replay.cues)
+played_run : (core : Option (List ℕ)) (replay : Readied) → (played core replay).run ≡ Some (Apart replay.system replay.p replay.upsets replay.cues)
 unfolding played
 played_run core replay = refl
 
@@ -101,55 +102,55 @@ all_cues [] = refl
 all_cues (cue ∷ cues) = ap (λ more. cue ∷ more) (all_cues cues)
 
 -- a replay all of whose cues are done has said what the partition said in the run
-run_heard : (system : System) (ticks part : ℕ) (replay : Readied) (board left : BoardView) → ((uart : ℕ) → replay_said (booted_alone replay.system replay.p) replay.cues uart ≡ own_console system ticks part uart)
-    → IsRunTo (ticks_of_run (Apart replay.system replay.p replay.cues)) (Apart replay.system replay.p replay.cues) board left → IsHeard (own_console system ticks part) (without_marks board) left
-run_heard system ticks part replay board left said heard =
-    let same : said_in_run (Apart replay.system replay.p replay.cues) (length replay.cues) ≡ own_console system ticks part = λ i uart.
-    (ap (λ cues. replay_said (booted_alone replay.system replay.p) cues uart) (all_cues replay.cues) ∙ said uart) i in
+run_heard : (upsets : List UpsetLine) (system : System) (ticks part : ℕ) (replay : Readied) (board left : BoardView) → ((uart : ℕ) → replay_said replay.upsets (booted_alone replay.system replay.p) replay.cues uart ≡ own_console upsets system ticks part uart)
+    → IsRunTo (ticks_of_run (Apart replay.system replay.p replay.upsets replay.cues)) (Apart replay.system replay.p replay.upsets replay.cues) board left → IsHeard (own_console upsets system ticks part) (without_marks board) left
+run_heard upsets system ticks part replay board left said heard =
+    let same : said_in_run (Apart replay.system replay.p replay.upsets replay.cues) (length replay.cues) ≡ own_console upsets system ticks part = λ i uart.
+    (ap (λ cues. replay_said replay.upsets (booted_alone replay.system replay.p) cues uart) (all_cues replay.cues) ∙ said uart) i in
     subst (λ (f : ℕ → List ℕ). IsHeard f (without_marks board) left) same heard
 
 -- so it is where it was carried out
-replay_heard : (e : Ending) (run : Option Running) (system : System) (ticks part : ℕ) (replay : Readied) (had got : Option (List ℕ)) (board left : BoardView) → ((uart : ℕ) → replay_said (booted_alone replay.system replay.p) replay.cues uart ≡ own_console system ticks part uart)
-    → IsCompleteStatus (status_of e) → LeavesBoard e run had got board left → run ≡ Some (Apart replay.system replay.p replay.cues) → IsHeard (own_console system ticks part) (without_marks board) left
-replay_heard e run system ticks part replay had got board left said complete leaves runs =
+replay_heard : (e : Ending) (run : Option Running) (upsets : List UpsetLine) (system : System) (ticks part : ℕ) (replay : Readied) (had got : Option (List ℕ)) (board left : BoardView) → ((uart : ℕ) → replay_said replay.upsets (booted_alone replay.system replay.p) replay.cues uart ≡ own_console upsets system ticks part uart)
+    → IsCompleteStatus (status_of e) → LeavesBoard e run had got board left → run ≡ Some (Apart replay.system replay.p replay.upsets replay.cues) → IsHeard (own_console upsets system ticks part) (without_marks board) left
+replay_heard e run upsets system ticks part replay had got board left said complete leaves runs =
     by e complete (subst (λ (r : Option Running). LeavesBoard e r had got board left) runs leaves)
   where
-    by : (e : Ending) → IsCompleteStatus (status_of e) → LeavesBoard e (Some (Apart replay.system replay.p replay.cues)) had got board left → IsHeard (own_console system ticks part) (without_marks board) left
-    by Done complete leaves = run_heard system ticks part replay board left said leaves.heard
+    by : (e : Ending) → IsCompleteStatus (status_of e) → LeavesBoard e (Some (Apart replay.system replay.p replay.upsets replay.cues)) had got board left → IsHeard (own_console upsets system ticks part) (without_marks board) left
+    by Done complete leaves = run_heard upsets system ticks part replay board left said leaves.heard
     by Usage complete leaves = absurd (⊎_elim (λ h. cc) (λ h. cc) complete)
     by (ReadFault file) complete leaves = absurd (⊎_elim (λ h. cc) (λ h. cc) complete)
     by (Refused file text) complete leaves = absurd (⊎_elim (λ h. cc) (λ h. cc) complete)
     by WriteFaultReport complete leaves = absurd (⊎_elim (λ h. cc) (λ h. cc) complete)
     by (WriteFaultFile file) complete leaves = absurd (⊎_elim (λ h. cc) (λ h. cc) complete)
-    by (UartFault place) complete leaves = run_heard system ticks part replay board left said leaves.heard
+    by (UartFault place) complete leaves = run_heard upsets system ticks part replay board left said leaves.heard
     by NoMemory complete leaves = absurd (⊎_elim (λ h. cc) (λ h. cc) complete)
 
 -- one that was carried out shows the partition's part
-carried_own : (command : Command) (read : List (List ℕ)) (before after : World) (files : Files) (contents : List (List ℕ)) (system : System) (ticks part : ℕ) (core : Option (List ℕ)) (replay : Readied) → before.disk.files ≡ Some files
+carried_own : (command : Command) (read : List (List ℕ)) (before after : World) (files : Files) (contents : List (List ℕ)) (upsets : List UpsetLine) (system : System) (ticks part : ℕ) (core : Option (List ℕ)) (replay : Readied) → before.disk.files ≡ Some files
     → read_all files (inputs_of command) ≡ Ok contents → outcome_of command contents ≡ played core replay
-    → replay_lines (view_of replay.system replay.p) replay.cues ≡ own part (report system ticks)
-    → core_file_of (run (start system) ticks) part ≡ Some (core_file (view_of replay.system replay.p) (replayed (view_of replay.system replay.p) replay.cues).state)
-    → IsCarriedOut None read command before.disk after.disk → ((outcome_of command read).run ≡ Some (Apart replay.system replay.p replay.cues) → IsHeard (own_console system ticks part) (without_marks before.board) after.board)
-    → ShowsOwn system ticks part core before after
-carried_own command read before after files contents system ticks part core replay known all comes lines file w heard =
+    → replay_lines replay.upsets (view_of replay.system replay.p) replay.cues ≡ own part (upset_report upsets system ticks)
+    → core_file_of (after_run upsets system ticks) part ≡ Some (core_file (view_of replay.system replay.p) (replayed replay.upsets (view_of replay.system replay.p) replay.cues).state)
+    → IsCarriedOut None read command before.disk after.disk → ((outcome_of command read).run ≡ Some (Apart replay.system replay.p replay.upsets replay.cues) → IsHeard (own_console upsets system ticks part) (without_marks before.board) after.board)
+    → ShowsOwn upsets system ticks part core before after
+carried_own command read before after files contents upsets system ticks part core replay known all comes lines file w heard =
     let held = known_outcome before.disk.files command read w.read in
     let same : held.contents ≡ contents = same_contents files before.disk.files command contents held.contents known all held.are in
-    shows_own system ticks part replay core before (called_for (inputs_of command) before.disk) after lines file
+    shows_own upsets system ticks part replay core before (called_for (inputs_of command) before.disk) after lines file
     (ap (λ (x : Outside). x.files) (called_for-is (inputs_of command) before.disk)) (ap (λ (x : Outside). x.got) (called_for-is (inputs_of command) before.disk))
     (w.outside ∙ ap (λ (o : Outcome). did o (called_for (inputs_of command) before.disk)) (held.outcome ∙ ap (outcome_of command) same ∙ comes))
     (heard (ap (λ (o : Outcome). o.run) (held.outcome ∙ ap (outcome_of command) same ∙ comes) ∙ played_run core replay))
 
 -- a replay by the script of a run
-replayed_so : RunIsReplayed → (e : Ending) (read : List (List ℕ)) (container : List ℕ) (part : ℕ) (script : List ℕ) (further : ReplayFiles) (before after : World) → Works e read (Some (Replay container part script further)) before.disk after.disk
-    → Plays e read (Some (Replay container part script further)) before.disk.got after.disk.got before.board after.board → ReplaysAlone (status_of e) (Some (Replay container part script further)) before after
-replayed_so law e read container part script further before after w plays = λ files known contents all short system inputs ticks is.
-    let command = Replay container part script further in
-    let shows = law (content 0 contents) part (content 1 contents) (input_bytes (replay_input further) (content 2 contents)) system inputs ticks is in
-    let comes : outcome_of command contents ≡ played (replay_core further) shows.replay = begun_outcome container part script further contents shows.replay short shows.begins in (
-      λ refused. refused_never command before.disk after.disk files contents (replay_core further) shows.replay known all comes ((has_causes e read (Some command) before.disk after.disk w).refused refused),
-      λ complete. carried_own command read before after files contents (with_inputs system inputs) ticks part (replay_core further) shows.replay known all comes shows.lines shows.core
+replayed_so : RunIsReplayed → (e : Ending) (read : List (List ℕ)) (container : List ℕ) (part : ℕ) (script : List ℕ) (options : List ReplayFile) (before after : World) → Works e read (Some (Replay container part script options)) before.disk after.disk
+    → Plays e read (Some (Replay container part script options)) before.disk.got after.disk.got before.board after.board → ReplaysAlone (status_of e) (Some (Replay container part script options)) before after
+replayed_so law e read container part script options before after w plays = λ files known contents all short system inputs upsets ticks is.
+    let command = Replay container part script options in
+    let shows = law (content 0 contents) part (content 1 contents) (replay_input_bytes options contents) (replay_upset_bytes options contents) system inputs upsets ticks is in
+    let comes : outcome_of command contents ≡ played (replay_core options) shows.replay = begun_outcome container part script options contents shows.replay short shows.begins in (
+      λ refused. refused_never command before.disk after.disk files contents (replay_core options) shows.replay known all comes ((has_causes e read (Some command) before.disk after.disk w).refused refused),
+      λ complete. carried_own command read before after files contents upsets (with_inputs system inputs) ticks part (replay_core options) shows.replay known all comes shows.lines shows.core
           (⊎_elim (λ done. subst (λ (e : Ending). Works e read (Some command) before.disk after.disk) (done_is_finished e done) w) (λ fault. unheard_finished e read command before.disk after.disk fault w) complete)
-          (replay_heard e (outcome_of command read).run (with_inputs system inputs) ticks part shows.replay before.disk.got after.disk.got before.board after.board shows.said complete plays),
+          (replay_heard e (outcome_of command read).run upsets (with_inputs system inputs) ticks part shows.replay before.disk.got after.disk.got before.board after.board shows.said complete plays),
     )
 
 pub are_replayed : RunIsReplayed → (e : Ending) (read : List (List ℕ)) (command : Option Command) (before after : World) → Works e read command before.disk after.disk → Plays e read command before.disk.got after.disk.got before.board after.board → ReplaysAlone (status_of e) command before after
@@ -168,4 +169,4 @@ are_replayed law e read (Some (ListGroups description)) before after w plays = t
 are_replayed law e read (Some (ListSteerers description)) before after w plays = tt
 are_replayed law e read (Some (Generate number)) before after w plays = tt
 are_replayed law e read (Some (Run container options)) before after w plays = tt
-are_replayed law e read (Some (Replay container part script further)) before after w plays = replayed_so law e read container part script further before after w plays
+are_replayed law e read (Some (Replay container part script options)) before after w plays = replayed_so law e read container part script options before after w plays

@@ -1,10 +1,10 @@
 -- What a run and the replay after it answer.
-use Rattle.std.proofs.Common.{◌≡◌, ◌≢◌, ℕ, zero, suc, ◌%◌, ◌<◌, ◌≤◌, ◌==◌, Bool, true, false, nat_eq, nat_lt, if◌then◌else◌, List, [], ◌∷◌, ◌++◌, length, map, drop, Option, Some, None, Result, Ok, Err, refl, sym, ap, ◌∙◌, subst, arith}
+use Rattle.std.proofs.Common.{◌≡◌, ◌≢◌, ℕ, zero, suc, ◌+◌, ◌%◌, ◌<◌, ◌≤◌, ◌==◌, Bool, true, false, nat_eq, nat_lt, if◌then◌else◌, List, [], ◌∷◌, ◌++◌, length, map, drop, Option, Some, None, Result, Ok, Err, refl, sym, ap, ◌∙◌, subst, arith}
 use Rattle.std.specs.Prelude.{slice_index_or, slice_set}
 use Rattle.std.specs.FinMap.{get, insert}
 use Rattle.std.proofs.lemmas.Bool.{eqb-true}
 use Rattle.std.proofs.lemmas.Bool.Decides.{nat_tests}
-use Rattle.std.proofs.lemmas.List.{append-nil, append_assoc, get_or-set_other, get_or-set_same, length-replicate, length-set, map-append}
+use Rattle.std.proofs.lemmas.List.{append_assoc, get_or-set_other, get_or-set_same, length-replicate, length-set, map-append}
 use Rattle.xm_base.specs.declared.limits.TheConstants.{FILE_BYTES, TICKS}
 use Rattle.xm_outside.specs.Files.{Files}
 use Rattle.xm_report.specs.Report.{texts}
@@ -12,23 +12,22 @@ use Rattle.replay_setup.specs.OfRun.{IsOfRun, RunIsReplayed}
 use Rattle.fault_messages.specs.declared.fault.BoxFault.{BoxFault}
 use Rattle.loaded_system.specs.System.{System as Loaded}
 use Rattle.machine_model.specs.Machine.{Machine}
-use Rattle.cue_scripts.specs.Spelling.{script_text}
 use Rattle.upset_model.specs.Reports.{after_run, upset_report}
 use Rattle.upset_model.specs.declared.upset_line.UpsetLine.{UpsetLine}
-use Rattle.upset_laws.specs.ReportLaws.{PlainReports}
 use Rattle.machine_model.specs.View.{System, view_of}
 use Rattle.recording_model.specs.Replayed.{replay_lines}
-use Rattle.builders.specs.Ready.{Replay as Readied}
+use Rattle.builders.specs.Ready.{Replay as Readied, replay_of}
 use Rattle.system_state.specs.Inputs.{words_in}
 use Rattle.system_state.specs.State.{with_inputs}
 use Rattle.xm_container.specs.Reading.{unpacked}
-use Rattle.command_line.specs.Words.{Command, PartFile, ReplayFiles, RunOption, Run, Replay, command_of, cores_in, inputs_in, replay_core, replay_input, scripts_in, span_in, upsets_in}
+use Rattle.command_line.specs.Words.{Command, PartFile, ReplayFile, RunOption, Run, Replay, command_of, cores_in, inputs_in, replay_core, replay_input, replay_upsets, scripts_in, span_in, upsets_in}
 use Rattle.file_commands.specs.lemmas.CommandLemmas.{outcome-long, outcome-short}
 use Rattle.file_commands.specs.Denial.{Denial}
 use Rattle.file_commands.specs.Ending.{input_text, status_of, ticks_text}
 use Rattle.file_commands.specs.Inputs.{first_beyond, inputs_for, inputs_with, no_inputs, unless_beyond}
 use Rattle.file_commands.specs.lemmas.LaterLemmas.{output_names}
-use Rattle.file_commands.specs.Outcome.{Output, Outcome, command_refused, content, core_output, core_outputs, first_long, input_bytes, inputs_of, name_if_any, outcome_of, outcome_of_run, played, ran_scripted, ran_struck, replay_output, ran_with, ran_within, refused_by, run_by, run_inputs, run_outcome, script_bytes, script_denial, script_before, script_output, scripts_for, ticks_asked, unless_denied, upsets_for, upsets_named}
+use Rattle.file_commands.specs.lemmas.UpsetLemmas.{upsets_are_read}
+use Rattle.file_commands.specs.Outcome.{Output, Outcome, bytes_if_any, command_refused, content, core_output, core_outputs, first_long, inputs_of, name_if_any, outcome_of, outcome_of_run, played, ran_scripted, ran_struck, replay_input_bytes, replay_inputs, replay_output, replay_upset_bytes, ran_with, ran_within, refused_by, run_by, run_inputs, run_outcome, script_bytes, script_denial, script_before, script_output, scripts_for, ticks_asked, unless_denied, upsets_for}
 use Rattle.file_commands.specs.Packing.{denial, file_names}
 use Rattle.file_commands.specs.declared.status.Status.TheVariants.{Done, ReadFault}
 use Rattle.run_commands.specs.Contents.{read_all, read_before}
@@ -39,6 +38,7 @@ use Rattle.xm_commands.specs.Answer.{Answer, answer, answer_to_read, command_ans
 use Rattle.xm_commands.specs.RunThenAlone.{AnswersAsRun, BelongsTo, HoldsBytes, IsUntouched, RunsThenAlone, input_of, input_or}
 use Rattle.xm_commands.specs.Top.{IsNoneOf, writes_of}
 use Rattle.xm_commands.proofs.OutsideLemmas.{stored-others, stored-same}
+use Rattle.xm_commands.proofs.ReplayLemmas.{content_next, head_short}
 use Rattle.xm_commands.proofs.ReplayedLemmas.{begun_outcome, own_cores}
 use Rattle.xm_commands.proofs.SeparationLemmas.{scripts_are}
 
@@ -70,98 +70,103 @@ none_apart (name ∷ names) more other none = (let rest = none_apart names more 
 
 -- A run that was not refused.
 
--- its files are short, its container is unpacked, its inputs are given, its ticks are within the limit, and its scripts are made
+-- its files are short, its container is unpacked, its inputs are given, its ticks are within the limit, its upsets are read, and its scripts are made
 record WasRan (container : List ℕ) (options : List RunOption) (contents : List (List ℕ)) : Type 0 where
-  short : first_long (container ∷ file_names (inputs_in options)) contents ≡ None
+  short : first_long (container ∷ run_inputs options) contents ≡ None
   system : Loaded
   unpacks : unpacked (content 0 contents) ≡ Ok system
   inputs : List (List ℕ)
   given : inputs_for (length system.conf.parts) options (drop 1 contents) ≡ Ok inputs
   most : ticks_asked (span_in options) system.conf ≤ TICKS
+  upsets : List UpsetLine
+  strikes : upsets_for system.conf (ticks_asked (span_in options) system.conf) options (drop 1 contents) ≡ Ok upsets
   outputs : List Output
-  made : scripts_for [] (with_inputs system inputs) (ticks_asked (span_in options) system.conf) (scripts_in options) ≡ Ok outputs
-  is : outcome_of (Run container options) contents ≡ outcome_of_run [] (ticks_asked (span_in options) system.conf) (cores_in options) outputs system inputs
+  made : scripts_for upsets (with_inputs system inputs) (ticks_asked (span_in options) system.conf) (scripts_in options) ≡ Ok outputs
+  is : outcome_of (Run container options) contents ≡ outcome_of_run upsets (ticks_asked (span_in options) system.conf) (cores_in options) outputs system inputs
 
--- a run without a file of upsets reads its inputs beside its container
-inputs_alone : (options : List RunOption) → upsets_in options ≡ None → run_inputs options ≡ file_names (inputs_in options)
-inputs_alone options unstruck = ap (λ (o : Option (List ℕ)). file_names (inputs_in options) ++ name_if_any o) unstruck ∙ append-nil (file_names (inputs_in options))
+-- an outcome that is granted is no refusal
+granted_never : (outcome : Outcome) (denial : Denial) → outcome.denial ≡ None → outcome ≡ refused_by denial → ⊥
+granted_never outcome denial granted same = (let wrong : None ≡ Some denial = sym granted ∙ ap (λ (o : Outcome). o.denial) same in cc)
 
--- and has no upsets
-none_given : (options : List RunOption) (contents : List (List ℕ)) (system : Loaded) → upsets_in options ≡ None → upsets_for system.conf (ticks_asked (span_in options) system.conf) options contents ≡ Ok []
-unfolding upsets_for
-none_given options contents system unstruck =
-    ap (λ (o : Option (List ℕ)). upsets_named o system.conf (ticks_asked (span_in options) system.conf) (content (length (inputs_in options)) contents)) unstruck
-
-module _ (container : List ℕ) (options : List RunOption) (contents : List (List ℕ)) (unstruck : upsets_in options ≡ None) (granted : (outcome_of (Run container options) contents).denial ≡ None) where
+module _ (container : List ℕ) (options : List RunOption) (contents : List (List ℕ)) (granted : (outcome_of (Run container options) contents).denial ≡ None) (short : first_long (container ∷ run_inputs options) contents ≡ None) where
   -- its outcome is no refusal
   never : (denial : Denial) → outcome_of (Run container options) contents ≡ refused_by denial → ⊥
-  never denial same = (let wrong : None ≡ Some denial = sym granted ∙ ap (λ (o : Outcome). o.denial) same in cc)
+  never denial same = granted_never (outcome_of (Run container options) contents) denial granted same
 
-  by_scripts : first_long (container ∷ file_names (inputs_in options)) contents ≡ None → (system : Loaded) → unpacked (content 0 contents) ≡ Ok system
+  by_scripts : (system : Loaded) → unpacked (content 0 contents) ≡ Ok system
       → (inputs : List (List ℕ)) → inputs_for (length system.conf.parts) options (drop 1 contents) ≡ Ok inputs → ticks_asked (span_in options) system.conf ≤ TICKS
-      → (made : Result (List Output) Denial) → scripts_for [] (with_inputs system inputs) (ticks_asked (span_in options) system.conf) (scripts_in options) ≡ made
-      → outcome_of (Run container options) contents ≡ ran_scripted [] (ticks_asked (span_in options) system.conf) (cores_in options) system inputs made → WasRan container options contents
-  by_scripts short system unpacks inputs given most (Ok outputs) made same = record {
+      → (upsets : List UpsetLine) → upsets_for system.conf (ticks_asked (span_in options) system.conf) options (drop 1 contents) ≡ Ok upsets
+      → (made : Result (List Output) Denial) → scripts_for upsets (with_inputs system inputs) (ticks_asked (span_in options) system.conf) (scripts_in options) ≡ made
+      → outcome_of (Run container options) contents ≡ ran_scripted upsets (ticks_asked (span_in options) system.conf) (cores_in options) system inputs made → WasRan container options contents
+  by_scripts system unpacks inputs given most upsets strikes (Ok outputs) made same = record {
     short = short;
     system = system;
     unpacks = unpacks;
     inputs = inputs;
     given = given;
     most = most;
+    upsets = upsets;
+    strikes = strikes;
     outputs = outputs;
     made = made;
     is = same;
   }
-  by_scripts short system unpacks inputs given most (Err refusal) made same = absurd (never refusal same)
+  by_scripts system unpacks inputs given most upsets strikes (Err refusal) made same = absurd (never refusal same)
 
-  by_ticks : first_long (container ∷ file_names (inputs_in options)) contents ≡ None → (system : Loaded) → unpacked (content 0 contents) ≡ Ok system
+  by_upsets : (system : Loaded) → unpacked (content 0 contents) ≡ Ok system
+      → (inputs : List (List ℕ)) → inputs_for (length system.conf.parts) options (drop 1 contents) ≡ Ok inputs → ticks_asked (span_in options) system.conf ≤ TICKS
+      → (read : Result (List UpsetLine) Denial) → upsets_for system.conf (ticks_asked (span_in options) system.conf) options (drop 1 contents) ≡ read
+      → outcome_of (Run container options) contents ≡ ran_struck (ticks_asked (span_in options) system.conf) options system inputs read → WasRan container options contents
+  by_upsets system unpacks inputs given most (Ok upsets) strikes same =
+      by_scripts system unpacks inputs given most upsets strikes (scripts_for upsets (with_inputs system inputs) (ticks_asked (span_in options) system.conf) (scripts_in options)) refl same
+  by_upsets system unpacks inputs given most (Err refusal) strikes same = absurd (never refusal same)
+
+  by_ticks : (system : Loaded) → unpacked (content 0 contents) ≡ Ok system
       → (inputs : List (List ℕ)) → inputs_for (length system.conf.parts) options (drop 1 contents) ≡ Ok inputs
       → (t : Bool) → nat_lt TICKS (ticks_asked (span_in options) system.conf) ≡ t
       → outcome_of (Run container options) contents
       ≡ (if t then command_refused container (ticks_text (ticks_asked (span_in options) system.conf))
       else ran_struck (ticks_asked (span_in options) system.conf) options system inputs (upsets_for system.conf (ticks_asked (span_in options) system.conf) options (drop 1 contents))) → WasRan container options contents
-  by_ticks short system unpacks inputs given true over same = absurd (never _ same)
-  by_ticks short system unpacks inputs given false within same =
-      by_scripts short system unpacks inputs given (grind (arith, nat_tests)) (scripts_for [] (with_inputs system inputs) (ticks_asked (span_in options) system.conf) (scripts_in options)) refl
-      (same ∙ ap (ran_struck (ticks_asked (span_in options) system.conf) options system inputs) (none_given options (drop 1 contents) system unstruck))
+  by_ticks system unpacks inputs given true over same = absurd (never _ same)
+  by_ticks system unpacks inputs given false within same =
+      by_upsets system unpacks inputs given (grind (arith, nat_tests)) (upsets_for system.conf (ticks_asked (span_in options) system.conf) options (drop 1 contents)) refl same
 
-  by_inputs : first_long (container ∷ file_names (inputs_in options)) contents ≡ None → (system : Loaded) → unpacked (content 0 contents) ≡ Ok system
+  by_inputs : (system : Loaded) → unpacked (content 0 contents) ≡ Ok system
       → (read : Result (List (List ℕ)) Denial) → inputs_for (length system.conf.parts) options (drop 1 contents) ≡ read
       → outcome_of (Run container options) contents ≡ ran_with container options (drop 1 contents) system read → WasRan container options contents
   unfolding ran_within
-  by_inputs short system unpacks (Ok inputs) given same = by_ticks short system unpacks inputs given (nat_lt TICKS (ticks_asked (span_in options) system.conf)) refl same
-  by_inputs short system unpacks (Err refusal) given same = absurd (never refusal same)
+  by_inputs system unpacks (Ok inputs) given same = by_ticks system unpacks inputs given (nat_lt TICKS (ticks_asked (span_in options) system.conf)) refl same
+  by_inputs system unpacks (Err refusal) given same = absurd (never refusal same)
 
-  by_container : first_long (container ∷ file_names (inputs_in options)) contents ≡ None → (read : Result Loaded BoxFault) → unpacked (content 0 contents) ≡ read
+  by_container : (read : Result Loaded BoxFault) → unpacked (content 0 contents) ≡ read
       → outcome_of (Run container options) contents ≡ run_by container options (drop 1 contents) read → WasRan container options contents
-  by_container short (Ok system) unpacks same = by_inputs short system unpacks (inputs_for (length system.conf.parts) options (drop 1 contents)) refl same
-  by_container short (Err fault) unpacks same = absurd (never _ same)
+  by_container (Ok system) unpacks same = by_inputs system unpacks (inputs_for (length system.conf.parts) options (drop 1 contents)) refl same
+  by_container (Err fault) unpacks same = absurd (never _ same)
 
-  by_length : (long : Option (List ℕ)) → first_long (container ∷ run_inputs options) contents ≡ long → WasRan container options contents
-  unfolding run_outcome
-  by_length None short =
-      by_container (subst (λ (names : List (List ℕ)). first_long (container ∷ names) contents ≡ None) (inputs_alone options unstruck) short) (unpacked (content 0 contents)) refl
-      (outcome-short (Run container options) contents short)
-  by_length (Some file) long = absurd (never _ (outcome-long (Run container options) contents file long))
-
-  was_ran : WasRan container options contents
-  was_ran = by_length (first_long (container ∷ run_inputs options) contents) refl
+-- a run that is granted was done so
+was_ran : (container : List ℕ) (options : List RunOption) (contents : List (List ℕ)) → (outcome_of (Run container options) contents).denial ≡ None → WasRan container options contents
+unfolding run_outcome
+was_ran container options contents granted = at (first_long (container ∷ run_inputs options) contents) refl
+  where
+    at : (long : Option (List ℕ)) → first_long (container ∷ run_inputs options) contents ≡ long → WasRan container options contents
+    at None short = by_container container options contents granted short (unpacked (content 0 contents)) refl (outcome-short (Run container options) contents short)
+    at (Some file) long = absurd (granted_never (outcome_of (Run container options) contents) _ granted (outcome-long (Run container options) contents file long))
 
 -- a script that was made is short enough for a file
-script_short : (system : System) (ticks : ℕ) (earlier : List PartFile) (named : PartFile) (later : List PartFile) (outputs : List Output) → scripts_for [] system ticks (earlier ++ named ∷ later) ≡ Ok outputs
-    → length (script_bytes [] system ticks named.part) ≤ FILE_BYTES
-script_short system ticks [] named later outputs made = at _ (nat_lt FILE_BYTES (length (script_bytes [] system ticks named.part))) refl made
+script_short : (upsets : List UpsetLine) (system : System) (ticks : ℕ) (earlier : List PartFile) (named : PartFile) (later : List PartFile) (outputs : List Output) → scripts_for upsets system ticks (earlier ++ named ∷ later) ≡ Ok outputs
+    → length (script_bytes upsets system ticks named.part) ≤ FILE_BYTES
+script_short upsets system ticks [] named later outputs made = at _ (nat_lt FILE_BYTES (length (script_bytes upsets system ticks named.part))) refl made
   where
-    at : (r : Denial) (t : Bool) → nat_lt FILE_BYTES (length (script_bytes [] system ticks named.part)) ≡ t
-        → unless_denied (if t then Some r else None) (script_before (script_output [] system ticks named) (scripts_for [] system ticks later)) ≡ Ok outputs → length (script_bytes [] system ticks named.part) ≤ FILE_BYTES
+    at : (r : Denial) (t : Bool) → nat_lt FILE_BYTES (length (script_bytes upsets system ticks named.part)) ≡ t
+        → unless_denied (if t then Some r else None) (script_before (script_output upsets system ticks named) (scripts_for upsets system ticks later)) ≡ Ok outputs → length (script_bytes upsets system ticks named.part) ≤ FILE_BYTES
     at r true over e = absurd (cc)
     at r false within e = grind (arith, nat_tests)
-script_short system ticks (one ∷ earlier) named later outputs made =
-    at (script_denial [] system ticks one) (scripts_for [] system ticks (earlier ++ named ∷ later)) refl (λ others rest. script_short system ticks earlier named later others rest) made
+script_short upsets system ticks (one ∷ earlier) named later outputs made =
+    at (script_denial upsets system ticks one) (scripts_for upsets system ticks (earlier ++ named ∷ later)) refl (λ others rest. script_short upsets system ticks earlier named later others rest) made
   where
-    at : (refusal : Option Denial) (others : Result (List Output) Denial) → scripts_for [] system ticks (earlier ++ named ∷ later) ≡ others
-        → ((outs : List Output) → scripts_for [] system ticks (earlier ++ named ∷ later) ≡ Ok outs → length (script_bytes [] system ticks named.part) ≤ FILE_BYTES)
-        → unless_denied refusal (script_before (script_output [] system ticks one) others) ≡ Ok outputs → length (script_bytes [] system ticks named.part) ≤ FILE_BYTES
+    at : (refusal : Option Denial) (others : Result (List Output) Denial) → scripts_for upsets system ticks (earlier ++ named ∷ later) ≡ others
+        → ((outs : List Output) → scripts_for upsets system ticks (earlier ++ named ∷ later) ≡ Ok outs → length (script_bytes upsets system ticks named.part) ≤ FILE_BYTES)
+        → unless_denied refusal (script_before (script_output upsets system ticks one) others) ≡ Ok outputs → length (script_bytes upsets system ticks named.part) ≤ FILE_BYTES
     at (Some refusal) others is rest e = absurd (cc)
     at None (Err refusal) is rest e = absurd (cc)
     at None (Ok outs) is rest e = rest outs is
@@ -200,18 +205,18 @@ given_more files part named bytes inputs words None there short whole below give
         }
     at false other = (let differs : part ≢ named.part = grind (arith, nat_tests) in given ∙ get_or-set_other inputs named.part part (words_in bytes) [] differs)
 
--- the words after all files
-given_for : (files : Files) (part : ℕ) (named : List PartFile) (contents inputs result : List (List ℕ)) → read_all files (file_names named) ≡ Ok contents → first_long (file_names named) contents ≡ None
+-- the words after all files, before more files
+given_for : (files : Files) (part : ℕ) (named : List PartFile) (more contents inputs result : List (List ℕ)) → read_all files (file_names named ++ more) ≡ Ok contents → first_long (file_names named ++ more) contents ≡ None
     → inputs_with inputs named contents ≡ Ok result → part < length inputs → GivenBy files (input_of part named) (slice_index_or inputs part []) (slice_index_or result part [])
-given_for files part [] contents inputs result read short gives below = (let same : inputs ≡ result = cc in ap (λ (i : List (List ℕ)). slice_index_or i part []) (sym same))
-given_for files part (one ∷ others) contents inputs result read short gives below =
-    found (get files one.file) refl (read_all files (file_names others)) refl read
-    (λ rest given reads_rest short_rest gives_rest below_rest. given_for files part others rest given result reads_rest short_rest gives_rest below_rest)
+given_for files part [] more contents inputs result read short gives below = (let same : inputs ≡ result = cc in ap (λ (i : List (List ℕ)). slice_index_or i part []) (sym same))
+given_for files part (one ∷ others) more contents inputs result read short gives below =
+    found (get files one.file) refl (read_all files (file_names others ++ more)) refl read
+    (λ rest given reads_rest short_rest gives_rest below_rest. given_for files part others more rest given result reads_rest short_rest gives_rest below_rest)
   where
-    fits : (bytes : List ℕ) (rest : List (List ℕ)) → get files one.file ≡ Some bytes → read_all files (file_names others) ≡ Ok rest
-        → (t : Bool) → nat_lt FILE_BYTES (length bytes) ≡ t → (if t then Some one.file else first_long (file_names others) rest) ≡ None
+    fits : (bytes : List ℕ) (rest : List (List ℕ)) → get files one.file ≡ Some bytes → read_all files (file_names others ++ more) ≡ Ok rest
+        → (t : Bool) → nat_lt FILE_BYTES (length bytes) ≡ t → (if t then Some one.file else first_long (file_names others ++ more) rest) ≡ None
         → (u : Bool) → nat_eq (length bytes % 4) 0 ≡ u → (if u then inputs_with (slice_set inputs one.part (words_in bytes)) others rest else Err (denial one.file (input_text (length bytes)))) ≡ Ok result
-        → ((rest given : List (List ℕ)) → read_all files (file_names others) ≡ Ok rest → first_long (file_names others) rest ≡ None → inputs_with given others rest ≡ Ok result → part < length given
+        → ((rest given : List (List ℕ)) → read_all files (file_names others ++ more) ≡ Ok rest → first_long (file_names others ++ more) rest ≡ None → inputs_with given others rest ≡ Ok result → part < length given
         → GivenBy files (input_of part others) (slice_index_or given part []) (slice_index_or result part []))
         → GivenBy files (input_of part (one ∷ others)) (slice_index_or inputs part []) (slice_index_or result part [])
     fits bytes rest there reads true over e u whole g rec = absurd (cc)
@@ -221,16 +226,40 @@ given_for files part (one ∷ others) contents inputs result read short gives be
         given_more files part one bytes inputs (slice_index_or result part []) (input_of part others) there (grind (arith, nat_tests)) (grind (arith, nat_tests)) below
         (rec rest (slice_set inputs one.part (words_in bytes)) reads e g (omega (arith, long, below)))
 
-    found : (o : Option (List ℕ)) → get files one.file ≡ o → (r : Result (List (List ℕ)) (List ℕ)) → read_all files (file_names others) ≡ r → read_before one.file o r ≡ Ok contents
-        → ((rest given : List (List ℕ)) → read_all files (file_names others) ≡ Ok rest → first_long (file_names others) rest ≡ None → inputs_with given others rest ≡ Ok result → part < length given
+    found : (o : Option (List ℕ)) → get files one.file ≡ o → (r : Result (List (List ℕ)) (List ℕ)) → read_all files (file_names others ++ more) ≡ r → read_before one.file o r ≡ Ok contents
+        → ((rest given : List (List ℕ)) → read_all files (file_names others ++ more) ≡ Ok rest → first_long (file_names others ++ more) rest ≡ None → inputs_with given others rest ≡ Ok result → part < length given
         → GivenBy files (input_of part others) (slice_index_or given part []) (slice_index_or result part []))
         → GivenBy files (input_of part (one ∷ others)) (slice_index_or inputs part []) (slice_index_or result part [])
     found None there r reads e rec = absurd (cc)
     found (Some bytes) there (Err absent) reads e rec = absurd (cc)
     found (Some bytes) there (Ok rest) reads e rec =
         let all : bytes ∷ rest ≡ contents = cc in
-        fits bytes rest there reads (nat_lt FILE_BYTES (length bytes)) refl (subst (λ (c : List (List ℕ)). first_long (file_names (one ∷ others)) c ≡ None) (sym all) short)
+        fits bytes rest there reads (nat_lt FILE_BYTES (length bytes)) refl (subst (λ (c : List (List ℕ)). first_long (file_names (one ∷ others) ++ more) c ≡ None) (sym all) short)
         (nat_eq (length bytes % 4) 0) refl (subst (λ (c : List (List ℕ)). inputs_with inputs (one ∷ others) c ≡ Ok result) (sym all) gives) rec
+
+-- The upsets of a run.
+
+-- the content of the file after some, where all of them were read
+last_there : (files : Files) (others : List PartFile) (file : List ℕ) (contents : List (List ℕ)) → read_all files (file_names others ++ file ∷ []) ≡ Ok contents → get files file ≡ Some (content (length others) contents)
+last_there files [] file contents read = at (get files file) refl read
+  where
+    at : (o : Option (List ℕ)) → get files file ≡ o → read_before file o (Ok []) ≡ Ok contents → get files file ≡ Some (content 0 contents)
+    at None there e = absurd (cc)
+    at (Some bytes) there e = (let all : bytes ∷ [] ≡ contents = cc in there ∙ ap (λ (c : List (List ℕ)). Some (content 0 c)) all)
+last_there files (one ∷ others) file contents read =
+    at (get files one.file) (read_all files (file_names others ++ file ∷ [])) read (λ rest reads. last_there files others file rest reads)
+  where
+    at : (o : Option (List ℕ)) (r : Result (List (List ℕ)) (List ℕ)) → read_before one.file o r ≡ Ok contents
+        → ((rest : List (List ℕ)) → r ≡ Ok rest → get files file ≡ Some (content (length others) rest)) → get files file ≡ Some (content (suc (length others)) contents)
+    at None r e rec = absurd (cc)
+    at (Some bytes) (Err absent) e rec = absurd (cc)
+    at (Some bytes) (Ok rest) e rec = (let all : bytes ∷ rest ≡ contents = cc in rec rest refl ∙ ap (λ (c : List (List ℕ)). Some (content (suc (length others)) c)) all)
+
+-- and it is short, where all of them are
+last_short : (others : List PartFile) (file : List ℕ) (contents : List (List ℕ)) → first_long (file_names others ++ file ∷ []) contents ≡ None → length (content (length others) contents) ≤ FILE_BYTES
+last_short [] file contents short = head_short file [] contents short
+last_short (one ∷ others) file contents short =
+    rw (content_next (length others) contents) (last_short others file (drop 1 contents) (rest_short one.file (file_names others ++ file ∷ []) contents short))
 
 -- Partitions and inputs of a run.
 
@@ -284,15 +313,16 @@ done_granted None done = refl
 done_granted (Some denial) done = absurd (cc)
 
 -- the outcome of a run that was not refused
-ran_report : (ticks : ℕ) (cores : List PartFile) (outputs : List Output) (system : Loaded) (inputs : List (List ℕ)) → (outcome_of_run [] ticks cores outputs system inputs).report ≡ texts (upset_report [] (with_inputs system inputs) ticks)
+ran_report : (upsets : List UpsetLine) (ticks : ℕ) (cores : List PartFile) (outputs : List Output) (system : Loaded) (inputs : List (List ℕ))
+    → (outcome_of_run upsets ticks cores outputs system inputs).report ≡ texts (upset_report upsets (with_inputs system inputs) ticks)
 unfolding outcome_of_run
-ran_report ticks cores outputs system inputs = refl
+ran_report upsets ticks cores outputs system inputs = refl
 
-ran_files : (ticks : ℕ) (cores : List PartFile) (outputs : List Output) (system : Loaded) (inputs : List (List ℕ)) (files : Files)
-    → saved_all (outcome_of_run [] ticks cores outputs system inputs).later (files_saved (outcome_of_run [] ticks cores outputs system inputs).output files)
-    ≡ saved_all (core_outputs (after_run [] (with_inputs system inputs) ticks) cores ++ outputs) files
+ran_files : (upsets : List UpsetLine) (ticks : ℕ) (cores : List PartFile) (outputs : List Output) (system : Loaded) (inputs : List (List ℕ)) (files : Files)
+    → saved_all (outcome_of_run upsets ticks cores outputs system inputs).later (files_saved (outcome_of_run upsets ticks cores outputs system inputs).output files)
+    ≡ saved_all (core_outputs (after_run upsets (with_inputs system inputs) ticks) cores ++ outputs) files
 unfolding outcome_of_run
-ran_files ticks cores outputs system inputs files = refl
+ran_files upsets ticks cores outputs system inputs files = refl
 
 core_names : (g : Machine) (cores : List PartFile) (other : List ℕ) → IsNoneOf (file_names cores) other → IsNoneOf (output_names (core_outputs g cores)) other
 unfolding core_outputs
@@ -313,7 +343,7 @@ played_done : (core : Option (List ℕ)) (replay : Readied) (files : Files) → 
 unfolding played
 played_done core replay files = refl
 
-played_out : (core : Option (List ℕ)) (replay : Readied) (files : Files) → (outcome_answer (played core replay) files).out ≡ texts (replay_lines (view_of replay.system replay.p) replay.cues)
+played_out : (core : Option (List ℕ)) (replay : Readied) (files : Files) → (outcome_answer (played core replay) files).out ≡ texts (replay_lines replay.upsets (view_of replay.system replay.p) replay.cues)
 unfolding played
 played_out core replay files = refl
 
@@ -321,26 +351,53 @@ played_files : (core : Option (List ℕ)) (replay : Readied) (files : Files) →
 unfolding played
 played_files core replay files = refl
 
+-- a file that may be named has these bytes, no more than a file may have; where it is not named there are none
+abbrev HasFile : Files → Option (List ℕ) → List ℕ → Type 0
+HasFile files None bytes = bytes ≡ []
+HasFile files (Some file) bytes = (get files file ≡ Some bytes) × (length bytes ≤ FILE_BYTES)
+
+-- so it is in other files that have the same of this name
+has_kept : (before after : Files) (named : Option (List ℕ)) (bytes : List ℕ) → ((file : List ℕ) → named ≡ Some file → get after file ≡ get before file) → HasFile before named bytes → HasFile after named bytes
+has_kept before after None bytes kept has = has
+has_kept before after (Some file) bytes kept has = (kept file refl ∙ has.0, has.1)
+
+-- the file of the upsets of a run
+struck_there : (files : Files) (inputs : List PartFile) (named : Option (List ℕ)) (contents : List (List ℕ)) → read_all files (file_names inputs ++ name_if_any named) ≡ Ok contents
+    → first_long (file_names inputs ++ name_if_any named) contents ≡ None → HasFile files named (bytes_if_any named (content (length inputs) contents))
+struck_there files inputs None contents read short = refl
+struck_there files inputs (Some file) contents read short = (last_there files inputs file contents read, last_short inputs file contents short)
+
 -- the bytes of the input words and what the partition has of them
 record HasInput (files : Files) (input : Option (List ℕ)) (words : List ℕ) : Type 0 where
-  contents : List (List ℕ)
-  read : read_all files (name_if_any input) ≡ Ok contents
-  short : first_long (name_if_any input) contents ≡ None
-  whole : length (input_bytes input (content 0 contents)) % 4 ≡ 0
-  given : words ≡ words_in (input_bytes input (content 0 contents))
+  bytes : List ℕ
+  file : HasFile files input bytes
+  whole : length bytes % 4 ≡ 0
+  given : words ≡ words_in bytes
 
-has_input : (before after : Files) (input : Option (List ℕ)) (words : List ℕ) → ((file : List ℕ) → input ≡ Some file → get after file ≡ get before file) → GivenBy before input [] words → HasInput after input words
-has_input before after None words kept given = record { contents = []; read = refl; short = refl; whole = refl; given = given }
-has_input before after (Some file) words kept given =
-    let there : get after file ≡ Some given.bytes = kept file refl ∙ given.there in
-    let test : nat_lt FILE_BYTES (length given.bytes) ≡ false = (let few = given.short in grind (arith, nat_tests)) in
-    record {
-      contents = given.bytes ∷ [];
-      read = rw there refl;
-      short = rw test refl;
-      whole = given.whole;
-      given = given.words_are;
-    }
+has_input : (files : Files) (input : Option (List ℕ)) (words : List ℕ) → GivenBy files input [] words → HasInput files input words
+has_input files None words given = record { bytes = []; file = refl; whole = refl; given = given }
+has_input files (Some file) words given = record { bytes = given.bytes; file = (given.there, given.short); whole = given.whole; given = given.words_are }
+
+-- the contents of two files that a replay may name, after those of its container and of its script
+record HasBoth (files : Files) (input upsets : Option (List ℕ)) (box bytes words struck : List ℕ) : Type 0 where
+  contents : List (List ℕ)
+  read : read_all files (name_if_any input ++ name_if_any upsets) ≡ Ok contents
+  short : first_long (name_if_any input ++ name_if_any upsets) contents ≡ None
+  words_are : bytes_if_any input (content 2 (box ∷ bytes ∷ contents)) ≡ words
+  struck_are : bytes_if_any upsets (content (2 + length (name_if_any input)) (box ∷ bytes ∷ contents)) ≡ struck
+
+has_both : (files : Files) (input upsets : Option (List ℕ)) (box bytes words struck : List ℕ) → HasFile files input words → HasFile files upsets struck → HasBoth files input upsets box bytes words struck
+has_both files None None box bytes words struck one other = record { contents = []; read = refl; short = refl; words_are = sym one; struck_are = sym other }
+has_both files None (Some file) box bytes words struck one other =
+    let test : nat_lt FILE_BYTES (length struck) ≡ false = (let few = other.1 in grind (arith, nat_tests)) in
+    record { contents = struck ∷ []; read = rw other.0 refl; short = rw test refl; words_are = sym one; struck_are = refl }
+has_both files (Some file) None box bytes words struck one other =
+    let test : nat_lt FILE_BYTES (length words) ≡ false = (let few = one.1 in grind (arith, nat_tests)) in
+    record { contents = words ∷ []; read = rw one.0 refl; short = rw test refl; words_are = refl; struck_are = sym other }
+has_both files (Some file) (Some more) box bytes words struck one other =
+    let test : nat_lt FILE_BYTES (length words) ≡ false = (let few = one.1 in grind (arith, nat_tests)) in
+    let last : nat_lt FILE_BYTES (length struck) ≡ false = (let few = other.1 in grind (arith, nat_tests)) in
+    record { contents = words ∷ struck ∷ []; read = rw (one.0, other.0) refl; short = rw (test, last) refl; words_are = refl; struck_are = refl }
 
 -- partitions have no words before any are given
 no_words : (parts part : ℕ) → slice_index_or (no_inputs parts) part [] ≡ []
@@ -348,7 +405,7 @@ no_words zero part = refl
 no_words (suc parts) zero = refl
 no_words (suc parts) (suc part) = no_words parts part
 
-module _ (law : RunIsReplayed) (plain : PlainReports) (words others : List (List ℕ)) (files : Files) (container : List ℕ) (options : List RunOption) (part : ℕ) (script_name : List ℕ) (further : ReplayFiles)
+module _ (law : RunIsReplayed) (words others : List (List ℕ)) (files : Files) (container : List ℕ) (options : List RunOption) (part : ℕ) (script_name : List ℕ) (further : List ReplayFile)
     (is_run : command_of words ≡ Some (Run container options)) (is_replay : command_of others ≡ Some (Replay container part script_name further)) (belongs : BelongsTo container options part script_name further)
     (holds : HoldsBytes files container) (contents : List (List ℕ)) (reads : read_all files (container ∷ run_inputs options) ≡ Ok contents) (ran : WasRan container options contents) where
   abbrev system : System
@@ -360,48 +417,44 @@ module _ (law : RunIsReplayed) (plain : PlainReports) (words others : List (List
   abbrev named : PartFile
   named = record { part = part; file = script_name }
 
-  -- what it reads beside its container is its inputs
-  read : read_all files (container ∷ file_names (inputs_in options)) ≡ Ok contents
-  read = subst (λ (names : List (List ℕ)). read_all files (container ∷ names) ≡ Ok contents) (inputs_alone options belongs.unstruck) reads
-
   -- the outputs of the run
-  outputs_are : ran.outputs ≡ map (script_output [] system ticks) belongs.earlier ++ script_output [] system ticks named ∷ map (script_output [] system ticks) belongs.later
-  outputs_are = scripts_are [] system ticks (scripts_in options) ran.outputs ran.made ∙ ap (map (script_output [] system ticks)) belongs.named ∙ map-append (script_output [] system ticks) belongs.earlier (named ∷ belongs.later)
+  outputs_are : ran.outputs ≡ map (script_output ran.upsets system ticks) belongs.earlier ++ script_output ran.upsets system ticks named ∷ map (script_output ran.upsets system ticks) belongs.later
+  outputs_are = scripts_are ran.upsets system ticks (scripts_in options) ran.outputs ran.made ∙ ap (map (script_output ran.upsets system ticks)) belongs.named ∙ map-append (script_output ran.upsets system ticks) belongs.earlier (named ∷ belongs.later)
 
   -- the answer of the run
-  ran_answer : answer words files ≡ outcome_answer (outcome_of_run [] ticks (cores_in options) ran.outputs ran.system ran.inputs) files
+  ran_answer : answer words files ≡ outcome_answer (outcome_of_run ran.upsets ticks (cores_in options) ran.outputs ran.system ran.inputs) files
   ran_answer = answer_by words (Run container options) files contents is_run reads ∙ ap (λ (o : Outcome). outcome_answer o files) ran.is
 
   abbrev after : Files
   after = (answer words files).files
 
-  after_is : after ≡ saved_all (core_outputs (after_run [] system ticks) (cores_in options) ++ ran.outputs) files
-  after_is = ap (λ (a : Answer). a.files) ran_answer ∙ ran_files ticks (cores_in options) ran.outputs ran.system ran.inputs files
+  after_is : after ≡ saved_all (core_outputs (after_run ran.upsets system ticks) (cores_in options) ++ ran.outputs) files
+  after_is = ap (λ (a : Answer). a.files) ran_answer ∙ ran_files ran.upsets ticks (cores_in options) ran.outputs ran.system ran.inputs files
 
   -- a file that the run does not write
   kept : (other : List ℕ) → IsNoneOf (writes_of (Run container options)) other → get after other ≡ get files other
   kept other none =
       let apart = none_apart (file_names (cores_in options)) (file_names (scripts_in options)) other none in
       let scripts : IsNoneOf (output_names ran.outputs) other =
-      subst (λ (os : List Output). IsNoneOf (output_names os) other) (sym (scripts_are [] system ticks (scripts_in options) ran.outputs ran.made)) (made_names (script_output [] system ticks) (λ n. refl) (scripts_in options) other apart.1) in
-      let cores = core_names (after_run [] system ticks) (cores_in options) other apart.0 in
-      let all : IsNoneOf (output_names (core_outputs (after_run [] system ticks) (cores_in options) ++ ran.outputs)) other =
-      subst (λ (names : List (List ℕ)). IsNoneOf names other) (sym (map-append (λ (o : Output). o.file) (core_outputs (after_run [] system ticks) (cores_in options)) ran.outputs))
-      (none_both (output_names (core_outputs (after_run [] system ticks) (cores_in options))) (output_names ran.outputs) other cores scripts) in
-      ap (λ (f : Files). get f other) after_is ∙ saved_keeps (core_outputs (after_run [] system ticks) (cores_in options) ++ ran.outputs) files other all
+      subst (λ (os : List Output). IsNoneOf (output_names os) other) (sym (scripts_are ran.upsets system ticks (scripts_in options) ran.outputs ran.made)) (made_names (script_output ran.upsets system ticks) (λ n. refl) (scripts_in options) other apart.1) in
+      let cores = core_names (after_run ran.upsets system ticks) (cores_in options) other apart.0 in
+      let all : IsNoneOf (output_names (core_outputs (after_run ran.upsets system ticks) (cores_in options) ++ ran.outputs)) other =
+      subst (λ (names : List (List ℕ)). IsNoneOf names other) (sym (map-append (λ (o : Output). o.file) (core_outputs (after_run ran.upsets system ticks) (cores_in options)) ran.outputs))
+      (none_both (output_names (core_outputs (after_run ran.upsets system ticks) (cores_in options))) (output_names ran.outputs) other cores scripts) in
+      ap (λ (f : Files). get f other) after_is ∙ saved_keeps (core_outputs (after_run ran.upsets system ticks) (cores_in options) ++ ran.outputs) files other all
 
   -- the script that the run wrote
-  script_there : get after script_name ≡ Some (script_bytes [] system ticks part)
+  script_there : get after script_name ≡ Some (script_bytes ran.upsets system ticks part)
   script_there =
       ap (λ (f : Files). get f script_name) (after_is ∙ ap (λ (os : List Output). saved_all os files)
-      (ap (λ (os : List Output). core_outputs (after_run [] system ticks) (cores_in options) ++ os) outputs_are
-      ∙ sym (append_assoc (core_outputs (after_run [] system ticks) (cores_in options)) (map (script_output [] system ticks) belongs.earlier) (script_output [] system ticks named ∷ map (script_output [] system ticks) belongs.later))))
-      ∙ saved_has (core_outputs (after_run [] system ticks) (cores_in options) ++ map (script_output [] system ticks) belongs.earlier) (script_output [] system ticks named) (map (script_output [] system ticks) belongs.later) files
-      (made_names (script_output [] system ticks) (λ n. refl) belongs.later script_name belongs.last)
+      (ap (λ (os : List Output). core_outputs (after_run ran.upsets system ticks) (cores_in options) ++ os) outputs_are
+      ∙ sym (append_assoc (core_outputs (after_run ran.upsets system ticks) (cores_in options)) (map (script_output ran.upsets system ticks) belongs.earlier) (script_output ran.upsets system ticks named ∷ map (script_output ran.upsets system ticks) belongs.later))))
+      ∙ saved_has (core_outputs (after_run ran.upsets system ticks) (cores_in options) ++ map (script_output ran.upsets system ticks) belongs.earlier) (script_output ran.upsets system ticks named) (map (script_output ran.upsets system ticks) belongs.later) files
+      (made_names (script_output ran.upsets system ticks) (λ n. refl) belongs.later script_name belongs.last)
 
-  -- the container's content, and those of the inputs
-  box : IsReadFirst files container (file_names (inputs_in options)) contents
-  box = read_first files container (file_names (inputs_in options)) contents read
+  -- the container's content, and those of the other files
+  box : IsReadFirst files container (run_inputs options) contents
+  box = read_first files container (run_inputs options) contents reads
 
   parts : (first_beyond (length ran.system.conf.parts) options ≡ None) × (inputs_with (no_inputs (length ran.system.conf.parts)) (inputs_in options) (drop 1 contents) ≡ Ok ran.inputs)
   parts = given_parts (length ran.system.conf.parts) options (drop 1 contents) ran.inputs ran.given
@@ -412,35 +465,57 @@ module _ (law : RunIsReplayed) (plain : PlainReports) (words others : List (List
       inside_one (length ran.system.conf.parts) belongs.earlier named belongs.later
       (subst (AreForPartitions (length ran.system.conf.parts)) belongs.named (scripts_inside (length ran.system.conf.parts) options parts.0))
 
+  -- the contents of the files beside the container
+  read_rest : read_all files (run_inputs options) ≡ Ok (drop 1 contents)
+  read_rest = box.read ∙ ap Ok (sym (ap (drop 1) box.all))
+
+  short_rest : first_long (run_inputs options) (drop 1 contents) ≡ None
+  short_rest = rest_short container (run_inputs options) contents ran.short
+
   -- its input words
   given_words : GivenBy files (replay_input further) [] (slice_index_or ran.inputs part [])
   given_words =
-      let read_rest : read_all files (file_names (inputs_in options)) ≡ Ok (drop 1 contents) = box.read ∙ ap Ok (sym (ap (drop 1) box.all)) in
-      let short_rest = rest_short container (file_names (inputs_in options)) contents ran.short in
       let long : length (no_inputs (length ran.system.conf.parts)) ≡ length ran.system.conf.parts = length-replicate (length ran.system.conf.parts) [] in
       let room : part < length (no_inputs (length ran.system.conf.parts)) = (let inside = below in omega (arith, inside, long)) in
-      let all = given_for files part (inputs_in options) (drop 1 contents) (no_inputs (length ran.system.conf.parts)) ran.inputs read_rest short_rest parts.1 room in
+      let all = given_for files part (inputs_in options) (name_if_any (upsets_in options)) (drop 1 contents) (no_inputs (length ran.system.conf.parts)) ran.inputs read_rest short_rest parts.1 room in
       subst (λ (o : Option (List ℕ)). GivenBy files o [] (slice_index_or ran.inputs part [])) (sym belongs.input)
       (subst (λ (had : List ℕ). GivenBy files (input_of part (inputs_in options)) had (slice_index_or ran.inputs part [])) (no_words (length ran.system.conf.parts) part) all)
 
-  input : HasInput after (replay_input further) (slice_index_or ran.inputs part [])
-  input = has_input files after (replay_input further) (slice_index_or ran.inputs part []) (λ file is. kept file (subst (IsUntouched (writes_of (Run container options))) is belongs.given)) given_words
+  input : HasInput files (replay_input further) (slice_index_or ran.inputs part [])
+  input = has_input files (replay_input further) (slice_index_or ran.inputs part []) given_words
+
+  -- its file after the run
+  input_kept : HasFile after (replay_input further) input.bytes
+  input_kept = has_kept files after (replay_input further) input.bytes (λ file is. kept file (subst (IsUntouched (writes_of (Run container options))) is belongs.given)) input.file
+
+  -- the bytes of the upsets
+  abbrev struck : List ℕ
+  struck = bytes_if_any (upsets_in options) (content (length (inputs_in options)) (drop 1 contents))
+
+  -- their file after the run
+  struck_kept : HasFile after (replay_upsets further) struck
+  struck_kept =
+      has_kept files after (replay_upsets further) struck (λ file is. kept file (subst (IsUntouched (writes_of (Run container options))) is belongs.kept))
+      (subst (λ (named : Option (List ℕ)). HasFile files named struck) (sym belongs.struck) (struck_there files (inputs_in options) (upsets_in options) (drop 1 contents) read_rest short_rest))
 
   -- what the replay reads
+  both : HasBoth after (replay_input further) (replay_upsets further) box.bytes (script_bytes ran.upsets system ticks part) input.bytes struck
+  both = has_both after (replay_input further) (replay_upsets further) box.bytes (script_bytes ran.upsets system ticks part) input.bytes struck input_kept struck_kept
+
   abbrev after_contents : List (List ℕ)
-  after_contents = box.bytes ∷ script_bytes [] system ticks part ∷ input.contents
+  after_contents = box.bytes ∷ script_bytes ran.upsets system ticks part ∷ both.contents
 
-  read_after : read_all after (container ∷ script_name ∷ name_if_any (replay_input further)) ≡ Ok after_contents
-  read_after = (let there = kept container belongs.unwritten ∙ box.there in rw (there, script_there, input.read) refl)
+  read_after : read_all after (container ∷ script_name ∷ replay_inputs further) ≡ Ok after_contents
+  read_after = (let there = kept container belongs.unwritten ∙ box.there in rw (there, script_there, both.read) refl)
 
-  short_after : first_long (container ∷ script_name ∷ name_if_any (replay_input further)) after_contents ≡ None
+  short_after : first_long (container ∷ script_name ∷ replay_inputs further) after_contents ≡ None
   short_after =
-      let few = script_short system ticks belongs.earlier named belongs.later ran.outputs (ap (scripts_for [] system ticks) (sym belongs.named) ∙ ran.made) in
-      let script_test : nat_lt FILE_BYTES (length (script_bytes [] system ticks part)) ≡ false = grind (arith, nat_tests) in
-      let box_test = first_short container (file_names (inputs_in options)) box.bytes box.others (subst (λ (c : List (List ℕ)). first_long (container ∷ file_names (inputs_in options)) c ≡ None) box.all ran.short) in
-      rw (box_test, script_test) input.short
+      let few = script_short ran.upsets system ticks belongs.earlier named belongs.later ran.outputs (ap (scripts_for ran.upsets system ticks) (sym belongs.named) ∙ ran.made) in
+      let script_test : nat_lt FILE_BYTES (length (script_bytes ran.upsets system ticks part)) ≡ false = grind (arith, nat_tests) in
+      let box_test = first_short container (run_inputs options) box.bytes box.others (subst (λ (c : List (List ℕ)). first_long (container ∷ run_inputs options) c ≡ None) box.all ran.short) in
+      rw (box_test, script_test) both.short
 
-  of_run : IsOfRun box.bytes part (script_bytes [] system ticks part) (input_bytes (replay_input further) (content 0 input.contents)) ran.system ran.inputs ticks
+  of_run : IsOfRun box.bytes part (script_bytes ran.upsets system ticks part) input.bytes struck ran.system ran.inputs ran.upsets ticks
   of_run = record {
     contained = holds box.bytes box.there;
     unpacks = ap unpacked (sym (ap (content 0) box.all)) ∙ ran.unpacks;
@@ -448,33 +523,37 @@ module _ (law : RunIsReplayed) (plain : PlainReports) (words others : List (List
     words = input.whole;
     given = input.given;
     most = ran.most;
-    received = ap (script_text part) (plain.received system part ticks);
+    strikes = upsets_are_read options ran.system.conf ticks (drop 1 contents) ran.upsets ran.strikes;
+    received = refl;
   }
 
   -- the answer of the replay
   answers_so : AnswersAsRun (answer words files) (answer others after) part (replay_core further)
   answers_so =
-      let shows = law box.bytes part (script_bytes [] system ticks part) (input_bytes (replay_input further) (content 0 input.contents)) ran.system ran.inputs ticks of_run in
-      let comes = begun_outcome container part script_name further after_contents shows.replay short_after shows.begins in
+      let shows = law box.bytes part (script_bytes ran.upsets system ticks part) input.bytes struck ran.system ran.inputs ran.upsets ticks of_run in
+      let begins : replay_of box.bytes part (script_bytes ran.upsets system ticks part) (replay_input_bytes further after_contents) (replay_upset_bytes further after_contents) ≡ Ok shows.replay =
+      rw (both.words_are, both.struck_are) shows.begins in
+      let comes = begun_outcome container part script_name further after_contents shows.replay short_after begins in
       let replay_answer : answer others after ≡ outcome_answer (played (replay_core further) shows.replay) after =
       answer_by others (Replay container part script_name further) after after_contents is_replay read_after ∙ ap (λ (o : Outcome). outcome_answer o after) comes in
       record {
         system = system;
+        upsets = ran.upsets;
         ticks = ticks;
-        printed = ap (λ (a : Answer). a.out) ran_answer ∙ ran_report ticks (cores_in options) ran.outputs ran.system ran.inputs ∙ ap texts (plain.report system ticks);
+        printed = ap (λ (a : Answer). a.out) ran_answer ∙ ran_report ran.upsets ticks (cores_in options) ran.outputs ran.system ran.inputs;
         done = ap (λ (a : Answer). a.status) replay_answer ∙ played_done (replay_core further) shows.replay after;
         lines = ap (λ (a : Answer). a.out) replay_answer ∙ played_out (replay_core further) shows.replay after ∙ ap texts shows.lines;
         core_file = ap (λ (a : Answer). a.files) replay_answer ∙ played_files (replay_core further) shows.replay after
-            ∙ ap (λ (os : List Output). saved_all os after) (own_cores system ticks part shows.replay (replay_core further) shows.core);
+            ∙ ap (λ (os : List Output). saved_all os after) (own_cores ran.upsets system ticks part shows.replay (replay_core further) shows.core);
       }
 
-pub run_then_alone : RunIsReplayed → PlainReports → RunsThenAlone
-run_then_alone law plain words others files container options part script_name further is_run is_replay done belongs holds = at (read_all files (container ∷ run_inputs options)) refl
+pub run_then_alone : RunIsReplayed → RunsThenAlone
+run_then_alone law words others files container options part script_name further is_run is_replay done belongs holds = at (read_all files (container ∷ run_inputs options)) refl
   where
     at : (r : Result (List (List ℕ)) (List ℕ)) → read_all files (container ∷ run_inputs options) ≡ r → AnswersAsRun (answer words files) (answer others (answer words files).files) part (replay_core further)
     at (Ok contents) read =
         let granted = done_granted (outcome_of (Run container options) contents).denial (sym (ap (λ (a : Answer). a.status) (answer_by words (Run container options) files contents is_run read)) ∙ done) in
-        answers_so law plain words others files container options part script_name further is_run is_replay belongs holds contents read (was_ran container options contents belongs.unstruck granted)
+        answers_so law words others files container options part script_name further is_run is_replay belongs holds contents read (was_ran container options contents granted)
     at (Err absent) read =
         let unread = answer_read words (Run container options) files is_run ∙ ap (λ (r : Result (List (List ℕ)) (List ℕ)). answer_to_read (Run container options) r files) read in
         let wrong : ReadFault ≡ Done = sym (ap (λ (a : Answer). a.status) unread) ∙ done in

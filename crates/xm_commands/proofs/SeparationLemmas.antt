@@ -344,7 +344,7 @@ command_by Did Shows (CheckPlan description) contents before after are receives 
 command_by Did Shows (ListGroups description) contents before after are receives never shows is = tt
 command_by Did Shows (ListSteerers description) contents before after are receives never shows is = tt
 command_by Did Shows (Generate number) contents before after are receives never shows is = tt
-command_by Did Shows (Replay container part script further) contents before after are receives never shows is = tt
+command_by Did Shows (Replay container part script options) contents before after are receives never shows is = tt
 command_by Did Shows (Run container options) contents before after are receives never shows is = container_by Did Shows container options contents before after are receives never shows is
 
 outcome_by : (Did : Outcome → Type 0) (Shows : Shown) (command : Command) (contents : List (List ℕ)) (before after : Outside)
@@ -402,7 +402,7 @@ lost_alone (CheckPlan description) contents before after w = tt
 lost_alone (ListGroups description) contents before after w = tt
 lost_alone (ListSteerers description) contents before after w = tt
 lost_alone (Generate number) contents before after w = tt
-lost_alone (Replay container part script further) contents before after w = tt
+lost_alone (Replay container part script options) contents before after w = tt
 lost_alone (Run container options) contents before after w = absurd (let some : IsSome {T = List ℕ} None = w.output in cc)
 
 unsaved_alone : OwnReports → SameUpsetCoreFile → (file : List ℕ) (command : Command) (contents : List (List ℕ)) (before after : Outside) → CommandReceives command before.files → IsUnsaved file contents command before after

@@ -23,5 +23,5 @@ has_ticks (variant.CheckPlan description) words law e = tt
 has_ticks (variant.ListGroups description) words law e = tt
 has_ticks (variant.ListSteerers description) words law e = tt
 has_ticks (variant.Generate number) words law e = tt
-has_ticks (variant.Replay container part script further) words law e = tt
+has_ticks (variant.Replay container part script options) words law e = tt
 has_ticks (variant.Run container options) words law e = span_within (seen_options options) ((law words (Run container.now (seen_options options))).0 (sym e)).1.1.each

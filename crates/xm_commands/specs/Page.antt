@@ -41,7 +41,7 @@ pub record IsAnswer (status : Status) (words : List (List ℕ)) (before after : 
   pub usage : (status ≡ Usage) ↔ (command_of words ≡ None)
   -- A command against which nothing stands is done, or memory ran out.
   pub complete : Completes status (command_of words) before after
-  -- A replay by the script of a run is not refused, and shows the partition's part of that run.
+  -- A replay by the script of a run, with the upsets of that run, is not refused, and shows the partition's part of that run.
   pub replayed : ReplaysAlone status (command_of words) before after
   -- After UartFault a place of the board is marked.
   pub marked : status ≡ UartFault → IsMarked after.board

@@ -11,16 +11,15 @@ use Rattle.uart_board.specs.Heard.{IsHeard}
 use Rattle.uart_board.specs.Views.{without_marks}
 use Rattle.machine_model.specs.Alone.{alone_start}
 use Rattle.machine_model.specs.CoreFile.{core_file}
-use Rattle.machine_model.specs.Lines.{end_line, own, report}
-use Rattle.machine_model.specs.Machine.{run, start}
+use Rattle.machine_model.specs.Lines.{end_line, own}
 use Rattle.machine_model.specs.View.{System, view_of}
-use Rattle.upset_model.specs.Reports.{alone_reported, own_due, received_in, upset_report}
+use Rattle.upset_model.specs.Reports.{after_run, alone_reported, own_due, received_in, upset_report}
 use Rattle.upset_laws.specs.ReportLaws.{alone_after}
 use Rattle.upset_model.specs.declared.upset_line.UpsetLine.{UpsetLine}
 use Rattle.system_state.specs.State.{with_inputs}
-use Rattle.command_line.specs.Words.{Command, PartFile, RunOption, Bare, Parse, Upgrade, BuildImage, ReadImage, Pack, ListContainer, CheckContainer, MakePlan, CheckPlan, ListGroups, ListSteerers, Generate, Run, Replay, cores_in, replay_core, replay_input, span_in, scripts_in}
+use Rattle.command_line.specs.Words.{Command, PartFile, RunOption, Bare, Parse, Upgrade, BuildImage, ReadImage, Pack, ListContainer, CheckContainer, MakePlan, CheckPlan, ListGroups, ListSteerers, Generate, Run, Replay, cores_in, replay_core, span_in, scripts_in}
 use Rattle.file_commands.specs.Inputs.{inputs_for, no_inputs}
-use Rattle.file_commands.specs.Outcome.{Output, content, core_output, first_long, input_bytes, name_if_any, script_output, ticks_asked, upsets_for}
+use Rattle.file_commands.specs.Outcome.{Output, content, core_output, first_long, name_if_any, replay_input_bytes, replay_inputs, replay_upset_bytes, script_output, ticks_asked, upsets_for}
 use Rattle.run_commands.specs.Contents.{read_all}
 use Rattle.run_commands.specs.Numbers.{AllReceiveNumbers}
 use Rattle.xm_commands.specs.Top.{AreContents, IsCompleteStatus}
@@ -120,7 +119,7 @@ CommandAlone Shows contents (ListGroups description) before after = Unit {0}
 CommandAlone Shows contents (ListSteerers description) before after = Unit {0}
 CommandAlone Shows contents (Generate number) before after = Unit {0}
 CommandAlone Shows contents (Run container options) before after = ContainerAlone Shows contents container options before after
-CommandAlone Shows contents (Replay container part script further) before after = Unit {0}
+CommandAlone Shows contents (Replay container part script options) before after = Unit {0}
 
 -- what words show that are a command
 abbrev pub AreShownAlone : Shown → List (List ℕ) → Option Command → Outside → Outside → Type 0
@@ -129,14 +128,15 @@ AreShownAlone Shows contents (Some command) before after = CommandAlone Shows co
 
 -- What a replay shows of a run.
 
--- the partition's own lines of the report of that run and the line of its end went out, its core file is that after the run, and its UART got the console
--- bytes that the partition wrote to it in that run
-pub record ShowsOwn (system : System) (ticks part : ℕ) (core : Option (List ℕ)) (before after : World) : Type 0 where
-  pub printed : after.disk.got ≡ grown before.disk.got (texts (own part (report system ticks)))
-  pub written : after.disk.files ≡ (wrote_all (map (λ file. core_output (run (start system) ticks) (record { part = part; file = file })) (name_if_any core)) before.disk).files
-  pub said : IsHeard (own_console system ticks part) (without_marks before.board) after.board
+-- the partition's own lines of the report of that run with upsets and the line of its end went out, its core file is that after the run, and its UART got the
+-- console bytes that the partition wrote to it in that run
+pub record ShowsOwn (upsets : List UpsetLine) (system : System) (ticks part : ℕ) (core : Option (List ℕ)) (before after : World) : Type 0 where
+  pub printed : after.disk.got ≡ grown before.disk.got (texts (own part (upset_report upsets system ticks)))
+  pub written : after.disk.files
+      ≡ (wrote_all (map (λ file. core_output (after_run upsets system ticks) (record { part = part; file = file })) (name_if_any core)) before.disk).files
+  pub said : IsHeard (own_console upsets system ticks part) (without_marks before.board) after.board
 
--- a replay by the script of a run is not refused, and shows the partition's part of that run
+-- a replay by the script of a run, with the upsets of that run, is not refused, and shows the partition's part of that run
 abbrev pub ReplaysRun : Status → Command → World → World → Type 0
 ReplaysRun status (Bare image ticks) before after = Unit {0}
 ReplaysRun status (Parse description output) before after = Unit {0}
@@ -152,11 +152,12 @@ ReplaysRun status (ListGroups description) before after = Unit {0}
 ReplaysRun status (ListSteerers description) before after = Unit {0}
 ReplaysRun status (Generate number) before after = Unit {0}
 ReplaysRun status (Run container options) before after = Unit {0}
-ReplaysRun status (Replay container part script further) before after =
-    (files : Files) → before.disk.files ≡ Some files → (contents : List (List ℕ)) → read_all files (container ∷ script ∷ name_if_any (replay_input further)) ≡ Ok contents
-    → first_long (container ∷ script ∷ name_if_any (replay_input further)) contents ≡ None
-    → (system : loaded.System) (inputs : List (List ℕ)) (ticks : ℕ) → IsOfRun (content 0 contents) part (content 1 contents) (input_bytes (replay_input further) (content 2 contents)) system inputs ticks
-    → (status ≢ Refused) × (IsCompleteStatus status → ShowsOwn (with_inputs system inputs) ticks part (replay_core further) before after)
+ReplaysRun status (Replay container part script options) before after =
+    (files : Files) → before.disk.files ≡ Some files → (contents : List (List ℕ)) → read_all files (container ∷ script ∷ replay_inputs options) ≡ Ok contents
+    → first_long (container ∷ script ∷ replay_inputs options) contents ≡ None
+    → (system : loaded.System) (inputs : List (List ℕ)) (upsets : List UpsetLine) (ticks : ℕ)
+    → IsOfRun (content 0 contents) part (content 1 contents) (replay_input_bytes options contents) (replay_upset_bytes options contents) system inputs upsets ticks
+    → (status ≢ Refused) × (IsCompleteStatus status → ShowsOwn upsets (with_inputs system inputs) ticks part (replay_core options) before after)
 
 -- words that are no command replay nothing
 abbrev pub ReplaysAlone : Status → Option Command → World → World → Type 0

@@ -105,7 +105,7 @@ fn do_command<'a, S: Store, O: Sink>(
             container,
             part,
             script,
-            further,
-        } => replay_container(alloc, container, part, script, further, files, out, board),
+            options,
+        } => replay_container(alloc, container, part, script, options, files, out, board),
     }
 }

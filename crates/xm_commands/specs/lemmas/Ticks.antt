@@ -23,4 +23,4 @@ HasTicks (words.ListGroups description) = ⊤
 HasTicks (words.ListSteerers description) = ⊤
 HasTicks (words.Generate number) = ⊤
 HasTicks (words.Run container options) = count_of (span_in (seen_options options)) ≤ TICKS
-HasTicks (words.Replay container part script further) = ⊤
+HasTicks (words.Replay container part script options) = ⊤
