@@ -6,6 +6,7 @@ usage: book.py FOLDER
 FOLDER is crates/case_suite/data. The files are those of BOOKS, and upsets.toml, which has the cases with upsets.
 """
 import hashlib
+import itertools
 import re
 import struct
 import sys
@@ -13,12 +14,16 @@ import tempfile
 import textwrap
 from pathlib import Path
 
-from box import ACTIONS, EVENTS, Part, container, image_file
+from box import ACTIONS, EVENTS, Part, container, image_file, read_container
 from cases import (
-    CASES, CORES, MOST_UPSETS, REFUSED_TICKS, REFUSED_UPSETS, RESETS, UPSETS, all_cases, many_upsets, two_that_loop,
+    CASES, CORES, FIRST, MOST_UPSETS, REFUSED_TICKS, REFUSED_UPSETS, RESETS, UPSETS, all_cases, bit_of, many_upsets, two_that_loop,
 )
-from model import CALLS, RESET_NAMES, Refusal, run_words
-from shown import BOOKS, UPSET_BOOK
+from model import CALLS, MOST_TICKS, RESET_NAMES, Refusal, run_words
+from replay import MOST_BYTES, Lone, read_script, recorded
+from replay import run_words as replay_words
+from scripts import spelled
+from shown import BOOKS, REFUSED_REPLAYS, REPLAYED, REPLAYED_PLACES, UPSET_BOOK, WRONG_REPLAYS
+from upsets import read_upsets
 
 LEGEND = """\
 The containers and the reports are those of examples/model, a second simulator in Python that was written from the
@@ -48,6 +53,8 @@ MOST_CHANGES = 8
 MOST_REPORT = 8000  # of a longer one a row has the digest
 CORE = "c"  # the name of a case's core file
 UPSET_FILE = "u"  # that of its upsets
+SCRIPT_FILE = "s"  # and the script of a replay
+ODD_FILES = {"odd": bytes(5)}  # input words whose length is wrong
 
 
 class Fronts:
@@ -260,6 +267,11 @@ def book(title, groups):
 # Upsets.
 
 
+def out_entry(report):
+    long = len(report) > MOST_REPORT
+    return f'out_md5 = "{hashlib.md5(report.encode()).hexdigest()}"' if long else f"out = {text_value(report)}"
+
+
 def upsets_value(text):
     """How the file of upsets is made; of many lines the last one, with others that are alike before it."""
     first, last = text.partition("\n")[0] + "\n", text[text.rstrip("\n").rfind("\n") + 1 :]
@@ -316,8 +328,7 @@ class Boxes:
         box, words = self.names[container(system)], self.words(name)
         files = ", ".join(f'"{file}"' for file in [box, *(input_name(name, number) for number in inputs)])
         report = outcome(name, words)[0]
-        long = len(report) > MOST_REPORT
-        out = f'out_md5 = "{hashlib.md5(report.encode()).hexdigest()}"' if long else f"out = {text_value(report)}"
+        out = out_entry(report)
         core = f', same = {{ {CORE} = "{core_name(name)}" }}' if name in CORES else ""
         call = " ".join(["run", box, "--upset", UPSET_FILE, *words])
         made = upsets_value(UPSETS[name])
@@ -362,12 +373,142 @@ def refused_groups():
     yield "]"
 
 
+# Replays.
+
+
+class Replays:
+    """Replays of partitions of cases with upsets, by the scripts of their runs: what the program has to print is the part of the partition
+    in the run, and the replay of the second simulator has to give the same."""
+
+    def __init__(self, boxes):
+        self.boxes, self.scripts = boxes, {}
+
+    def replay(self, name, p, with_upsets=True):
+        """The name of the script, and the partition's own lines."""
+        system, words, inputs = CASES[name]
+        system = read_container(container(system))
+        ticks = int(words[1]) * (system.plans[0].frame if words[0] == "--frames" else 1)
+        upsets = read_upsets(UPSETS[name].encode(), system.parts, ticks) if with_upsets else []
+        cues, lines, core = recorded(system, inputs, p, upsets, ticks)
+        lone, content = Lone(system, p, inputs.get(p, [])), spelled(p, cues)
+        if (lone.replay(read_script(content, p), upsets), lone.core_file(p)) != (lines, core):
+            sys.exit(f"{name}, partition {p}: the replay differs from the run")
+        script = f"script {p} of {name}" + ("" if with_upsets else " without its upsets")
+        return self.scripts.setdefault(content, script), lines
+
+    def box(self, name):
+        return self.boxes.names[container(CASES[name][0])]
+
+    def row(self, name, p, shows):
+        script, lines = self.replay(name, p)
+        inputs = CASES[name][2]
+        files = [self.box(name), f"{SCRIPT_FILE}={script}", *([input_name(name, p)] if p in inputs else [])]
+        words = ["alone", self.box(name), str(p), SCRIPT_FILE, "--upset", UPSET_FILE]
+        words += ["--input", input_name(name, p)] if p in inputs else []
+        same = ""
+        if CORES.get(name) == p:
+            words += ["--core", CORE]
+            same = f', same = {{ {CORE} = "{core_name(name)}" }}'
+        listed_files = ", ".join(f'"{file}"' for file in files)
+        made = upsets_value(UPSETS[name])
+        return f'  {{ shows = "{shows}", call = "{" ".join(words)}", file = [{listed_files}], make = {made}, {out_entry(lines)}{same} }},'
+
+    def refused(self, name, p, words, text, with_upsets=True):
+        """How the model refuses a replay by a script of a case: the file, and the text."""
+        script, _ = self.replay(name, p, with_upsets)
+        box = self.box(name)
+        with tempfile.TemporaryDirectory() as folder:
+            content = next(content for content, known in self.scripts.items() if known == script)
+            for file, known in {box: container(CASES[name][0]), SCRIPT_FILE: content, UPSET_FILE: text.encode(), **ODD_FILES}.items():
+                (Path(folder) / file).write_bytes(known)
+            try:
+                replay_words([box, str(p), SCRIPT_FILE, *words.split()], Path(folder))
+            except Refusal as refusal:
+                return script, *str(refusal).split(": ", 1)
+        return sys.exit(f"{name}: {words} is not refused")
+
+    def refused_row(self, name, p, shows, words, text, with_upsets=True):
+        script, file, fault = self.refused(name, p, words, text, with_upsets)
+        odd = "".join(f', "{file}=odd words"' for file in ODD_FILES if file in words.split())
+        files = f'"{self.box(name)}", "{SCRIPT_FILE}={script}"{odd}'
+        call = f"alone {self.box(name)} {p} {SCRIPT_FILE} {words}"
+        return f'  {{ shows = "{shows}", call = "{call}", file = [{files}], make = {upsets_value(text)}, refused = "{fault}", of_file = "{file}", absent = ["{CORE}"] }},'
+
+    def groups(self):
+        """The groups, after the scripts that they use."""
+        lines = ["", *self.group("replays with upsets of each place", [self.row(f"upset_{name}", 1, shows) for name, shows in REPLAYED_PLACES.items()])]
+        lines += self.group("replays with upsets", [self.row(f"upset_{name}", p, shows) for name, p, shows in REPLAYED])
+        lines += self.group("orders of the options of a replay", list(self.order_rows()))
+        lines += self.group("replays with upsets that are refused", list(self.refused_rows()))
+        lines += self.group("words of replays with upsets", list(self.word_rows()))
+        odd = [line for content in ODD_FILES.values() for line in file_entry("odd words", [content.hex()])]
+        return [*odd, *(line for content, name in self.scripts.items() for line in file_entry(name, pieces(content.hex()))), *lines]
+
+    def group(self, name, rows):
+        return ["[[group]]", f'name = "{name}"', "case = [", *rows, "]", ""]
+
+    def order_rows(self):
+        """The options in each order, a replay by a script that a run wrote, and upsets past the end of the script."""
+        name, p = "upset_around_a_warm_reset_of_all", 0
+        script, lines = self.replay(name, p)
+        box, words_of_it = self.box(name), input_name(name, p)
+        front = f'file = ["{box}", "{SCRIPT_FILE}={script}", "{words_of_it}"], make = {upsets_value(UPSETS[name])}, out = {text_value(lines)}'
+        options = {"--upset": UPSET_FILE, "--input": words_of_it, "--core": CORE}
+        for order in itertools.permutations(options):
+            words = " ".join(f"{option} {options[option]}" for option in order)
+            yield f'  {{ shows = "{", ".join(order)}", call = "alone {box} {p} {SCRIPT_FILE} {words}", {front} }},'
+        name, p = "upset_add_to_sub", 0
+        script, lines = self.replay(name, p)
+        box, out = self.box(name), f"out = {text_value(lines)}"
+        run = f"run {box} --ticks 60 --script {p}={SCRIPT_FILE} --upset {UPSET_FILE}"
+        replay = f"alone {box} {p} {SCRIPT_FILE} --upset {UPSET_FILE}"
+        yield f'  {{ shows = "by the script that a run wrote", calls = ["{run}", "{replay}"], file = ["{box}"], make = {upsets_value(UPSETS[name])}, {out} }},'
+        made = f'make = {upsets_value(UPSETS[name])}, {out}, same = {{ {UPSET_FILE} = "{core_name(name)}" }}'
+        yield f'  {{ shows = "the core file over the upsets", call = "{replay} --core {UPSET_FILE}", file = ["{box}", "{SCRIPT_FILE}={script}"], {made} }},'
+        late = UPSETS[name] + f"60 {p} y 0\n61 1 y 0\n{MOST_TICKS - 1} {p} pc 31\n"
+        yield f'  {{ shows = "upsets after the end of the script", call = "{replay}", file = ["{box}", "{SCRIPT_FILE}={script}"], make = {upsets_value(late)}, {out} }},'
+        plain, lines = self.replay(name, p, with_upsets=False)
+        files = f'file = ["{box}", "{SCRIPT_FILE}={plain}"]'
+        yield f'  {{ shows = "no line", call = "{replay}", {files}, make = {upsets_value("")}, out = {text_value(lines)} }},'
+
+    def refused_rows(self):
+        name = "upset_add_to_sub"
+        for shows, text in REFUSED_REPLAYS.items():
+            yield self.refused_row(name, 0, shows, f"--upset {UPSET_FILE} --core {CORE}", text)
+        many = "".join(f"{line}\n" for line in many_upsets(MOST_UPSETS + 1))
+        yield self.refused_row(name, 0, f"{MOST_UPSETS + 1} lines", f"--upset {UPSET_FILE} --core {CORE}", many)
+        yield self.refused_row(name, 0, "an input whose length is wrong, before the upsets", f"--upset {UPSET_FILE} --input odd", "y\n")
+        name = "upset_causes_a_halt"
+        yield self.refused_row(name, 0, "a script of a run with upsets, without them", f"--core {CORE}", "")
+        yield self.refused_row(name, 0, "a script of a run without upsets, with them", f"--upset {UPSET_FILE} --core {CORE}", UPSETS[name], with_upsets=False)
+        yield self.refused_row(name, 0, "upsets that are malformed, before a cue that cannot be taken", f"--upset {UPSET_FILE} --core {CORE}", "31 0 y 0\n30 0 y 0\n", with_upsets=True)
+        name = "upset_around_another_plan"
+        yield self.refused_row(name, 0, "a call that is no longer made", f"--upset {UPSET_FILE}", f"0 0 {bit_of(FIRST, 31)}\n")
+
+    def word_rows(self):
+        name, p = "upset_add_to_sub", 0
+        script, _ = self.replay(name, p)
+        box, files = self.box(name), f'file = ["{self.box(name)}", "{SCRIPT_FILE}={script}"]'
+        made = f"make = {upsets_value(UPSETS[name])}"
+        for shows, words in WRONG_REPLAYS.items():
+            yield f'  {{ shows = "{shows}", call = "alone {box} {p} {SCRIPT_FILE} {words}", {files}, {made}, usage = true }},'
+        call = f'call = "alone {box} {p} {SCRIPT_FILE} --core {CORE} --upset'
+        err = text_value("xm_run: none: cannot read\n")
+        yield f'  {{ shows = "a file that is not there", {call} none", {files}, status = "ReadFault", err = {err}, absent = ["{CORE}"] }},'
+        long = f'make = {{ name = "{UPSET_FILE}", hex = "", length = {MOST_BYTES + 1} }}'
+        yield f'  {{ shows = "a file that is too long", {call} {UPSET_FILE}", {files}, {long}, refused = "too-long", of_file = "{UPSET_FILE}", absent = ["{CORE}"] }},'
+
+
+def pieces(digits, size=96):
+    return [digits[at : at + size] for at in range(0, len(digits), size)]
+
+
 def upset_book(title, groups):
     lines, boxes = comment([title, *LEGEND.splitlines(), *UPSET_LEGEND.splitlines()]), Boxes()
     for name, rows in groups.items():
         lines += ["", *(line for case in rows for line in boxes.files(case)), "[[group]]", f'name = "{name}"', "case = ["]
         lines += [*(boxes.row(case, shows) for case, shows in rows.items()), "]"]
-    return "".join(f"{line}\n" for line in [*lines, "", *refused_groups()])
+    return "".join(f"{line}\n" for line in [*lines, "", *refused_groups(), "", *Replays(boxes).groups()][:-1])
 
 
 def main():

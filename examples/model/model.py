@@ -816,6 +816,10 @@ def bytes_of(folder, name):
         raise DeviceFault(3, f"{name}: cannot read") from None
 
 
+def words_of(content):
+    return struct.unpack(f">{len(content) // 4}I", content)
+
+
 def write(folder, name, content):
     try:
         (folder / name).write_bytes(content)
@@ -838,7 +842,7 @@ def prepared(words, folder):
         content = bytes_of(folder, name)
         if len(content) % 4:
             raise Refusal(f"{name}: input length={len(content)}")
-        inputs[number] = struct.unpack(f">{len(content) // 4}I", content)
+        inputs[number] = words_of(content)
     ticks = count * system.plans[0].frame if unit == "--frames" else count
     if ticks > MOST_TICKS:
         raise Refusal(f"{box}: ticks asked={ticks}")

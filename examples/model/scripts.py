@@ -115,8 +115,12 @@ def cue_bytes(slot, told):
 
 def script(p, slots, told, ticks):
     """The script of a partition: the slots of all partitions, and what they receive in a number of ticks."""
-    cues = [(mine(slots[p], tick), told.get((tick, p), {})) for tick in range(ticks)]
-    text = b"XMSC" + (1).to_bytes(2, "big") + bytes([p]) + ticks.to_bytes(8, "big")
+    return spelled(p, [(mine(slots[p], tick), told.get((tick, p), {})) for tick in range(ticks)])
+
+
+def spelled(p, cues):
+    """The script of a partition that has these cues."""
+    text = b"XMSC" + (1).to_bytes(2, "big") + bytes([p]) + len(cues).to_bytes(8, "big")
     for plain, run in itertools.groupby(cues, lambda cue: cue[0] if not cue[1] and cue[0] != "mine first" else None):
         run = list(run)
         if plain is None:

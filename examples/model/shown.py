@@ -489,3 +489,42 @@ BOOKS = {
 }
 # The cases with upsets: their file, its title and its groups.
 UPSET_BOOK = ("upsets.toml", "Upsets: a bit of a partition flips before a tick.", UPSETS)
+
+# Replays of partition 1 of these cases by the scripts of their runs, and of others: the case, the partition, and what that shows.
+REPLAYED_PLACES = {
+    "place_g1_0": "a global register", "place_w127_31": "a windowed register", "place_pc_2": "the program counter",
+    "place_npc_31": "the next one", "place_y_31": "Y", "place_icc_3": "the condition codes", "place_hw_62": "the hardware timer",
+    "place_exec_0": "the execution timer", "place_tbr_12": "the table of traps", "place_mask_31": "the masked interrupts",
+    "place_pending_0": "the pending ones", "place_40110000_7": "a byte", "place_40114fff_0": "a byte of a read-only area",
+}  # fmt: skip
+REPLAYED = [
+    ("places_in_slot", 1, "each place, in its own slot"),
+    ("add_to_sub", 0, "an instruction that becomes another"),
+    ("add_to_sub", 1, "lines for the other partition alone"),
+    ("of_both_in_one_tick", 1, "its own lines among those of the other"),
+    ("halted_in_own_slot", 1, "a partition that is halted"),
+    ("suspended_in_other_slot", 1, "one that is suspended, in the other's slot"),
+    ("idle_in_gap", 1, "one that is idle, in a gap"),
+    ("suspended_and_resumed", 1, "one that finds it when it is resumed"),
+    ("halted_before_a_warm_reset", 1, "before a warm reset by the other: its memory stays struck"),
+    ("recovered_by_the_health_table", 0, "one that a warm reset by the health table makes good"),
+    ("around_a_warm_reset_of_all", 1, "before and after a warm reset of all: the ticks go on"),
+    ("around_a_halt_of_all", 1, "up to the halt of the hypervisor, with which the script ends, and none after it"),
+    ("around_another_plan", 0, "one that asks for a plan"),
+    ("byte_of_a_message", 0, "a message, of the one that sends it"),
+    ("byte_of_a_message", 1, "a message, of the one that receives it and is not struck"),
+]  # fmt: skip
+# Files of upsets that a replay by the script of `add_to_sub` refuses, and words that are none: what each shows.
+MOST_TICKS = 4_000_000_000
+REFUSED_REPLAYS = {
+    "a line that is malformed": "5 0 y\n",
+    "a line for another partition that is malformed": "5 1 yy 0\n",
+    "a line for a partition that is not there": "5 2 y 0\n",
+    "a place that the other partition does not have": "5 1 40100000 0\n",
+    "falling ticks, of two partitions": "9 0 y 0\n8 1 y 0\n",
+    "a tick that no run has": f"5 0 y 0\n{MOST_TICKS} 0 y 0\n",
+}
+WRONG_REPLAYS = {
+    "two files of upsets": "--upset u --upset u", "no file": "--upset", "an option instead of the file": "--upset --core c",
+    "an empty name": "--upset ", "an option of a run": "--upset u --ticks 5", "a partition's upsets": "--upsets 0=u",
+}  # fmt: skip
