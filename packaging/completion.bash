@@ -27,7 +27,7 @@ _xm_run_after_option() {
         run:--input | run:--core) _xm_run_part_file ;;
         run:--script) _xm_run_part_file scr ;;
         run:--upset) _xm_run_files ;;
-        alone:--input | alone:--core) _xm_run_files ;;
+        alone:--input | alone:--core | alone:--upset) _xm_run_files ;;
         *) return 1 ;;
     esac
 }
@@ -53,7 +53,7 @@ _xm_run_alone() {
         2) _xm_run_files scr ;;
         *)
             _xm_run_after_option && return
-            for option in --input --core; do
+            for option in --input --core --upset; do
                 [[ " ${words[*]} " == *" $option "* ]] || options+=" $option"
             done
             _xm_run_words "$options"

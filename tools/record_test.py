@@ -215,11 +215,12 @@ def test_uart_of_a_command_without_one_is_not_looked_at(place: Place) -> None:
 
 
 def test_replay_names_its_partition_once(place: Place) -> None:
-    place.put(box="abc", cues="abc", words="abc")
+    place.put(box="abc", cues="abc", words="abc", flips="abc")
     place.does("printf abc >core")
-    assert place.tool("--", "alone", "box", "3", "cues", "--core", "core", "--input", "words").returncode == 0
+    words = "alone box 3 cues --core core --upset flips --input words".split()
+    assert place.tool("--", *words).returncode == 0
     assert [file[:2] for file in place.files()] == [
-        ("container", "box"), ("input", "cues"), ("input", "words"), ("report", "report.txt"), ("core 3", "core"),
+        ("container", "box"), ("input", "cues"), ("input", "flips"), ("input", "words"), ("report", "report.txt"), ("core 3", "core"),
     ]  # fmt: skip
 
 

@@ -46,7 +46,7 @@ xm_run gen NUM
     Generate a system from the seed NUM, at most 4294967295, pack it, unpack the container, run the system.
 xm_run run BOX --frames NUM | --ticks TICKS [--input P=FILE ...] [--core P=FILE ...] [--script P=FILE ...] [--upset FILE]
     Run the system of the container BOX, and print the report.
-xm_run alone BOX P SCRIPT [--input FILE] [--core FILE]
+xm_run alone BOX P SCRIPT [--input FILE] [--core FILE] [--upset FILE]
     Replay partition P of the container BOX.
 END
 }
