@@ -1,13 +1,12 @@
 -- What is to be typed for the options of a replay.
-use Rattle.std.proofs.Common.{◌≡◌, ℕ, ◌≤◌, Bool, true, false, ◌&&◌, nat_le, if◌then◌else◌, List, [], ◌∷◌, ◌++◌, length, codes, Option, Some, None, refl, subst, ap, ◌∙◌}
+use Rattle.std.proofs.Common.{◌≡◌, ℕ, ◌≤◌, Bool, true, false, ◌&&◌, if◌then◌else◌, List, [], ◌∷◌, ◌++◌, length, codes, Option, Some, None, refl, subst, ap, ◌∙◌}
 use Rattle.std.specs.List.{flat_map}
-use Rattle.std.specs.Prelude.{All}
 use Rattle.std.specs.Str.{bytes_eq}
 use Rattle.std.proofs.lemmas.Bool.{and_parts, and_from, leb-true, le-leb}
 use Rattle.command_line.specs.declared.replay_options.ReplayKind.{ReplayKind}
 use Rattle.command_line.specs.declared.replay_options.ReplayKind.TheVariants.{Core, Input, Upsets}
-use Rattle.command_line.specs.Grammar.{AreReplayOptions, IsFileName, IsReplayOption, replay_option, replay_words}
-use Rattle.command_line.specs.Words.{ReplayFile, are_few, are_few_each, are_options_by, are_replay_options, asked, is_file, options_by, replay_file_for, replay_files_in, replay_kind_of, replay_option_of, replay_options}
+use Rattle.command_line.specs.Grammar.{AreReplayOptions, IsReplayOption, replay_option, replay_words}
+use Rattle.command_line.specs.Words.{ReplayFile, are_few, are_few_each, are_options_by, are_replay_options, is_file, replay_file_for, replay_files_in, replay_kind_of, replay_option_of, replay_options}
 use Rattle.command_line.proofs.WordLemmas.{file_is, is_of_file, named}
 use Rattle.command_line.proofs.WordPairLemmas.{pairs_typed, reads_pairs}
 

@@ -1,6 +1,6 @@
 //! The options of a replay, as words name them.
 
-ghost use Rattle.std.specs.Prelude.{◌≡◌, ◌∷◌, [], MatchOption, false, length, nat_le, option_copied, true};
+ghost use Rattle.std.specs.Prelude.{◌≡◌, ◌∷◌, [], MatchOption, false, option_copied, true};
 ghost use Rattle.command_line.specs.Seen.{seen_replay, seen_replay_file};
 ghost use Rattle.command_line.specs.lemmas.SeenTerms.{seen_replay_option};
 ghost use Rattle.command_line.specs.Texts.{texts_of};

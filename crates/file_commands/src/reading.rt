@@ -1,6 +1,6 @@
 //! Files are read.
 
-ghost use Rattle.std.specs.Prelude.{◌≡◌, ◌∷◌, ◌++◌, [], ℕ, List, None, Option, drop, length, map, option_copied};
+ghost use Rattle.std.specs.Prelude.{◌≡◌, ◌∷◌, ◌++◌, ℕ, List, None, Option, drop, length, map, option_copied};
 ghost use Rattle.file_commands.specs.Outcome.{content, first_long, name_if_any};
 ghost use Rattle.file_commands.specs.Packing.{file_names};
 ghost use Rattle.file_commands.specs.EndingValues.{AreFilesRead, IsFileRead, vector_bytes};
