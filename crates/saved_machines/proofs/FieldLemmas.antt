@@ -1,10 +1,9 @@
 -- Each field of a saved machine keeps both round trips.
-use Rattle.std.proofs.Common.{◌≡◌, ℕ, zero, suc, ◌+◌, ◌-◌, Bool, true, false, List, [], ◌∷◌, length, Option, Some, None, refl, sym, ap, ◌∙◌, arith}
-use Rattle.std.specs.Prelude.{◌&&◌, ◌==◌, is_some, nat_le, not, slice_get}
+use Rattle.std.proofs.Common.{◌≡◌, ℕ, ◌-◌, Bool, true, false, List, [], ◌∷◌, length, Some, refl, sym, ap, ◌∙◌, arith}
+use Rattle.std.specs.Prelude.{◌&&◌, ◌==◌, nat_le, not, slice_get}
 use Rattle.std.proofs.lemmas.Bool.{false≢true}
 use Rattle.std.proofs.lemmas.Bool.Decides.{Decides-eqb}
 use Rattle.codecs.specs.Lawful.{IsLawful}
-use Rattle.codecs.specs.Codec.{Codec, raw_bytes, times}
 use Rattle.codecs.specs.lemmas.CodecLemmas.{any_number_lawful, below_of, coded_lawful, fixed_text_lawful, keyed_lawful, no_bytes_lawful, number_lawful, optional_lawful, pair_lawful, raw_bytes_lawful, tested_lawful, through_lawful, through_where_lawful, wide64}
 use Rattle.codecs.specs.lemmas.ItemLemmas.{counted_lawful, times_lawful}
 use Rattle.codecs.specs.lemmas.ReadLemmas.{both}
@@ -12,7 +11,7 @@ use Rattle.codecs.specs.lemmas.TableLemmas.{AreNumbered, row_number}
 use Rattle.file_headers.specs.lemmas.FieldLemmas.{wide16, wide32, wide8}
 use Rattle.machine_model.specs.CoreFile.{bits_of_flags}
 use Rattle.machine_model.specs.Structures.{flag, state_number}
-use Rattle.saved_machines.specs.SavedFields.{SavedCodec, action_field, any_byte, any_double_word, any_word, armed_timer, byte_where, content_field, double_word_where, event_field, flag_field, flags_of, globals_field, half_word_where, health_field, holds_sample, log_counts, log_field, made_field, message_field, numbered, sample_field, saved_field, saved_short, state_field, states, timer_field, trace_field, word_where, zeros, kept_count, known_byte, no_timer}
+use Rattle.saved_machines.specs.SavedFields.{SavedCodec, action_field, any_byte, any_double_word, any_word, armed_timer, byte_where, content_field, double_word_where, event_field, flag_field, flags_of, globals_field, half_word_where, health_field, holds_sample, log_counts, log_field, made_field, message_field, numbered, sample_field, state_field, states, timer_field, trace_field, word_where, zeros, kept_count, known_byte, no_timer}
 use Rattle.saved_machines.proofs.MadeLemmas.{bits_back, flags_back, length-flags}
 use Rattle.xm_base.specs.declared.partition.State.{State}
 use Rattle.xm_base.specs.declared.partition.State.TheVariants.{Ready, Idle, Suspended, Halted}
@@ -24,7 +23,7 @@ use Rattle.xm_conf.specs.declared.health.Action.{Action}
 use Rattle.xm_conf.specs.declared.health.Action.TheVariants as action
 use Rattle.xm_conf.specs.declared.health.Event.{Event}
 use Rattle.xm_conf.specs.declared.health.Event.TheVariants as event
-use Rattle.xm_ports.specs.Channels.{Content, HeldSample, Queuing, Sampling, messages_of, sample_of}
+use Rattle.xm_ports.specs.Channels.{Content, Queuing, Sampling, messages_of, sample_of}
 
 -- numbers
 pub byte_lawful : (test : ℕ → Bool) → IsLawful (byte_where test)

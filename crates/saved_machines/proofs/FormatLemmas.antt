@@ -1,11 +1,11 @@
 -- The file of a saved machine keeps both round trips, and no file is a prefix of another.
-use Rattle.std.proofs.Common.{◌≡◌, ℕ, ◌+◌, ◌≤◌, Bool, true, List, ◌++◌, length, Ok, refl, sym, ap, ◌∙◌, arith}
+use Rattle.std.proofs.Common.{◌≡◌, ℕ, ◌+◌, ◌≤◌, Bool, true, List, ◌++◌, length, refl, sym, ◌∙◌, arith}
 use Rattle.std.specs.Prelude.{◌&&◌, ◌||◌, ◌==◌, codes}
 use Rattle.std.specs.Str.{bytes_eq}
 use Rattle.std.proofs.lemmas.Bool.Decides.{Decides-eqb}
 use Rattle.std.proofs.lemmas.List.{length-append}
 use Rattle.codecs.specs.Codec.{times}
-use Rattle.codecs.specs.Lawful.{IsLawful, IsLawfulFile, IsPrefixFree}
+use Rattle.codecs.specs.Lawful.{IsLawful}
 use Rattle.codecs.specs.Laws.{HasBytes}
 use Rattle.codecs.specs.lemmas.CodecLemmas.{keyed_lawful, optional_lawful, pair_lawful, raw_bytes_lawful, tested_lawful, through_lawful}
 use Rattle.codecs.specs.lemmas.CutLemmas.{cut_sealed_is_short}
@@ -15,12 +15,11 @@ use Rattle.codecs.specs.lemmas.ReadLemmas.{both}
 use Rattle.guest_bus.specs.Memory.{Memory}
 use Rattle.machine_model.specs.Structures.{flag}
 use Rattle.saved_machines.specs.Laws.{CutSavedFileIsShort, SavedFilesAreLawful, SavedFilesArePrefixFree, SavedMachinesHaveOneFile}
-use Rattle.saved_machines.specs.Saved.{SavedHead, SavedMachine, SavedStore}
+use Rattle.saved_machines.specs.Saved.{SavedHead, SavedStore}
 use Rattle.saved_machines.specs.SavedFields.{any_word, globals_field, health_field, log_field, made_field, saved_faults, trace_field}
-use Rattle.saved_machines.specs.SavedFormat.{clock_format, head_format, machine_format, page_format, pages_format, partition_format, processor_format, saved_format, standing_format, store_format, traps_format}
+use Rattle.saved_machines.specs.SavedFormat.{clock_format, head_format, machine_format, page_format, pages_format, partition_format, processor_format, standing_format, store_format, traps_format}
 use Rattle.saved_machines.proofs.FieldLemmas.{any_word_lawful, byte_lawful, content_lawful, double_word_lawful, flag_lawful, globals_lawful, health_lawful, known_byte_lawful, log_lawful, made_lawful, state_lawful, timer_lawful, trace_lawful, word_lawful, zeros_lawful}
 use Rattle.xm_conf.specs.Configuration.{Conf}
-use Rattle.xm_base.specs.Bytes.{AreBytes}
 
 pub clock_lawful : (conf : Conf) (time : ℕ) → IsLawful (clock_format conf time)
 clock_lawful conf time =

@@ -1,4 +1,5 @@
 pub mod Laws
+pub mod Reading
 pub mod Saved
 pub mod SavedFields
 pub mod SavedFormat

@@ -1,7 +1,7 @@
 -- The fields of a saved machine.
-use Rattle.std.specs.Prelude.{ℕ, zero, suc, ◌+◌, ◌-◌, ◌*◌, ◌/◌, ◌%◌, ◌^◌, ◌==◌, Bool, true, false, ◌&&◌, ◌||◌, not, nat_le, nat_lt, is_some, List, [], ◌∷◌, length, min, replicate, slice_get, slice_index_or, Option, Some, None}
+use Rattle.std.specs.Prelude.{ℕ, zero, suc, ◌-◌, ◌*◌, ◌/◌, ◌%◌, ◌^◌, ◌==◌, Bool, true, false, ◌&&◌, ◌||◌, not, nat_le, nat_lt, is_some, List, [], ◌∷◌, length, min, replicate, slice_get, slice_index_or, Option}
 use Rattle.std.specs.Int.{w16, w32, w64, w8}
-use Rattle.codecs.specs.Codec.{Codec, any_number, coded, counted, fixed_text, items, keyed, no_bytes, number, optional, pair, raw_bytes, tested, through, through_where, times}
+use Rattle.codecs.specs.Codec.{Codec, any_number, coded, counted, fixed_text, keyed, no_bytes, number, optional, pair, raw_bytes, tested, through, through_where, times}
 use Rattle.fault_messages.specs.OfHeads.{head_fault_as}
 use Rattle.fault_messages.specs.declared.fault.HeadFault.{HeadFault}
 use Rattle.file_headers.specs.Faults.{HeadFaults}

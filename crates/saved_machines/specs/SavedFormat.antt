@@ -1,7 +1,7 @@
 -- The file of a saved machine. Each line has a field, its bytes and what it may be; a field without a range may be anything.
-use Rattle.std.specs.Prelude.{ℕ, ◌+◌, ◌%◌, ◌==◌, ◌&&◌, ◌||◌, Bool, not, nat_le, nat_lt, List, [], ◌∷◌, codes, length, Option}
+use Rattle.std.specs.Prelude.{ℕ, ◌+◌, ◌%◌, ◌==◌, ◌&&◌, ◌||◌, Bool, not, nat_le, nat_lt, List, codes, length, Option}
 use Rattle.std.specs.Str.{bytes_eq}
-use Rattle.codecs.specs.Codec.{counted_items, each_of, keyed, no_bytes, optional, pair, raw_bytes, tested, through, times}
+use Rattle.codecs.specs.Codec.{counted_items, each_of, keyed, optional, pair, raw_bytes, tested, through, times}
 use Rattle.codecs.specs.Files.{FileCodec, sealed_file}
 use Rattle.cyclic_plans.specs.PlanClock.{CyclicClock}
 use Rattle.cyclic_plans.specs.Slots.{frame_of}
@@ -12,7 +12,7 @@ use Rattle.machine_model.specs.Partition.{is_halted}
 use Rattle.machine_model.specs.Structures.{flag}
 use Rattle.machine_model.specs.View.{part_of}
 use Rattle.saved_machines.specs.Saved.{SavedHead, SavedMachine, SavedPage, SavedPartition, SavedProcessor, SavedStanding, SavedStore}
-use Rattle.saved_machines.specs.SavedFields.{SavedCodec, any_double_word, any_word, byte_where, content_field, double_word_where, flag_field, globals_field, health_field, known_byte, log_field, made_field, saved_faults, saved_field, saved_short, state_field, timer_field, trace_field, word_where, zeros}
+use Rattle.saved_machines.specs.SavedFields.{SavedCodec, any_word, byte_where, content_field, double_word_where, flag_field, globals_field, health_field, known_byte, log_field, made_field, saved_faults, saved_field, saved_short, state_field, timer_field, trace_field, word_where, zeros}
 use Rattle.saved_machines.specs.declared.fault.SavedFault.{SavedFault}
 use Rattle.saved_machines.specs.declared.fault.SavedFault.TheVariants as fault
 use Rattle.virt_traps.specs.Virtual.{VirtualTraps}

@@ -1,5 +1,8 @@
 //! Why bytes are no saved machine.
 
+use fault_messages::HeadFault;
+use xm_base::Short;
+
 /// Why bytes are no saved machine.
 #[derive(Clone, Copy, Debug, PartialEq, Eq)]
 pub enum SavedFault {
@@ -19,4 +22,32 @@ pub enum SavedFault {
     Field { at: usize },
     /// Memory ran out for the machine.
     Memory,
+}
+
+impl From<Short> for SavedFault {
+    ghost use Rattle.std.specs.Prelude.{◌≡◌};
+    ghost use Rattle.saved_machines.specs.declared.fault.SavedFault.TheVariants as fault;
+
+    ghost from_gives = { λ short made. made ≡ fault.Short short.at };
+
+    fn from(short: Short) -> SavedFault {
+        SavedFault::Short { at: short.at }
+    }
+}
+
+impl From<HeadFault> for SavedFault {
+    ghost use Rattle.std.specs.Prelude.{◌≡◌};
+    ghost use Rattle.saved_machines.specs.SavedFields.{saved_fault};
+
+    ghost from_gives = { λ head made. made ≡ saved_fault head };
+
+    fn from(head: HeadFault) -> SavedFault {
+        match head {
+            HeadFault::Magic => SavedFault::Magic,
+            HeadFault::Version { found } => SavedFault::Version { found },
+            HeadFault::Short { at } => SavedFault::Short { at },
+            HeadFault::Trailing { at } => SavedFault::Trailing { at },
+            HeadFault::Digest { stored, found } => SavedFault::Digest { stored, found },
+        }
+    }
 }

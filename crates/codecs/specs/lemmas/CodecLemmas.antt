@@ -1,13 +1,12 @@
 -- Each way to make a format keeps both round trips.
-use Rattle.std.proofs.Common.{◌≡◌, ℕ, ◌^◌, ◌<◌, ◌⊎◌, inl, inr, Bool, true, false, cond, List, [], ◌++◌, length, Option, Some, None, Result, Ok, refl, sym, ap, subst, ◌∙◌, append_assoc, arith}
-use Rattle.std.specs.Prelude.{◌&&◌, ◌==◌, is_none, is_some, nat_lt}
-use Rattle.std.specs.Int.{Width, w8, w16, w32, w64}
+use Rattle.std.proofs.Common.{◌≡◌, ℕ, ◌^◌, ◌<◌, inl, inr, Bool, true, false, cond, List, ◌++◌, length, Option, Some, None, Ok, refl, sym, ap, subst, ◌∙◌, append_assoc, arith}
+use Rattle.std.specs.Prelude.{is_none, is_some, nat_lt}
+use Rattle.std.specs.Int.{Width, w64}
 use Rattle.std.specs.Str.{bytes_eq}
 use Rattle.std.proofs.lemmas.Bool.{false≢true}
 use Rattle.std.proofs.lemmas.Bool.Decides.{Decides-eqb, nat_tests}
 use Rattle.std.proofs.lemmas.Nat.{be_bytes_8, from_be_bytes-to_be_bytes_8}
 use Rattle.std.proofs.lemmas.Slice.Eq.{bytes_eq-Decides}
-use Rattle.xm_base.specs.Bytes.{AreBytes}
 use Rattle.xm_base.specs.Cursor.{Place, ahead}
 use Rattle.file_headers.specs.lemmas.FieldLemmas.{IsWide, bytes_again, bytes_take, number_again, number_takes, wide16, wide32, wide8}
 use Rattle.file_headers.specs.Fields.{field_bytes}
@@ -171,10 +170,10 @@ pub number_lawful : {F : Type 0} (short : ℕ → F) (refused : ℕ → ℕ → 
 number_lawful short refused width test wide = tested_lawful refused test (any_number short width) (any_number_lawful short width wide)
 
 -- the value that a code means
-some_of : {F X : Type 0} (fault : F) (behind : Place) (found : Option X) (x : X) (after : Place) → or_refused fault behind found ≡ Ok (x, after) → (found ≡ Some x) × (behind ≡ after)
-some_of fault behind None x after e = absurd cc
-some_of fault behind (Some y) x after e =
-    let p = ok_is (y, behind) (x, after) e in
+some_of : {F X : Type 0} (fault : F) (beyond : Place) (found : Option X) (x : X) (after : Place) → or_refused fault beyond found ≡ Ok (x, after) → (found ≡ Some x) × (beyond ≡ after)
+some_of fault beyond None x after e = absurd cc
+some_of fault beyond (Some y) x after e =
+    let p = ok_is (y, beyond) (x, after) e in
     (ap (λ q. Some q.0) p, ap (λ q. q.1) p)
 
 -- values by their codes

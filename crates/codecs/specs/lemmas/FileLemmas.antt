@@ -1,5 +1,5 @@
 -- The laws of files, and that no spelling is a prefix of another.
-use Rattle.std.proofs.Common.{◌≡◌, ℕ, ◌+◌, ◌^◌, ◌<◌, ◌≤◌, Bool, true, List, [], ◌++◌, length, take, drop, Result, Ok, refl, sym, ap, subst, ◌∙◌, append_assoc, arith}
+use Rattle.std.proofs.Common.{◌≡◌, ℕ, ◌+◌, ◌^◌, ◌<◌, ◌≤◌, true, List, [], ◌++◌, length, take, drop, Ok, refl, sym, ap, subst, ◌∙◌, append_assoc, arith}
 use Rattle.std.specs.Prelude.{◌==◌, nat_lt}
 use Rattle.std.proofs.lemmas.List.{append-nil, take_at, drop_at, take-append-drop, take-append-le, length-append, length-drop, nil_from_length}
 use Rattle.std.proofs.lemmas.Bool.Decides.{Decides-eqb}
@@ -13,10 +13,10 @@ use Rattle.file_headers.specs.lemmas.HeadLemmas.{IsSealed, length-lead, stated_a
 use Rattle.file_headers.specs.lemmas.HeadsTerms.{lead_text}
 use Rattle.file_headers.specs.Heads.{stated_length, unsealed}
 use Rattle.file_headers.specs.lemmas.StepLemmas.{ok_is, passed, stepped}
-use Rattle.file_headers.specs.Steps.{◌>>=◌, unless}
+use Rattle.file_headers.specs.Steps.{unless}
 use Rattle.codecs.specs.Codec.{Codec}
-use Rattle.codecs.specs.Files.{FileCodec, read_to_end, sealed_file, sealed_length, text_before_digest, whole_file}
-use Rattle.codecs.specs.Lawful.{GivesBefore, IsFileOf, IsLawful, IsLawfulFile, IsPrefixFree, StandsAt}
+use Rattle.codecs.specs.Files.{read_to_end, sealed_file, sealed_length, text_before_digest, whole_file}
+use Rattle.codecs.specs.Lawful.{IsFileOf, IsLawful, IsLawfulFile, IsPrefixFree}
 use Rattle.codecs.specs.Laws.{HasBytes}
 use Rattle.codecs.specs.lemmas.ReadLemmas.{and_both, both, passes}
 use Rattle.codecs.specs.lemmas.CodecLemmas.{below_of, test_of}

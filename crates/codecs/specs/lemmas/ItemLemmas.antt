@@ -1,6 +1,5 @@
 -- Lists of items keep both round trips.
 use Rattle.std.proofs.Common.{◌≡◌, ℕ, zero, suc, Bool, true, false, cond, List, [], ◌∷◌, ◌++◌, length, Result, Ok, refl, ap, subst, ◌∙◌, append_assoc}
-use Rattle.std.specs.Prelude.{◌&&◌}
 use Rattle.std.proofs.lemmas.Bool.{false≢true}
 use Rattle.xm_base.specs.Bytes.{AreBytes}
 use Rattle.xm_base.specs.Cursor.{Place, ahead}

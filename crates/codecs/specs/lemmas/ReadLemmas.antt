@@ -1,5 +1,5 @@
 -- What a read gives, in parts; tests, and both of two.
-use Rattle.std.proofs.Common.{◌≡◌, ℕ, Bool, true, false, cond, List, [], ◌++◌, length, drop, Result, Ok, Err, refl, sym, ap, subst, ◌∙◌, append_assoc}
+use Rattle.std.proofs.Common.{◌≡◌, ℕ, Bool, true, false, cond, List, ◌++◌, length, drop, Result, Ok, Err, refl, sym, ap, subst, ◌∙◌, append_assoc}
 use Rattle.std.specs.Prelude.{◌&&◌}
 use Rattle.std.proofs.lemmas.Bool.{false≢true}
 use Rattle.std.proofs.lemmas.List.{drop_at}
@@ -7,9 +7,9 @@ use Rattle.xm_base.specs.Bytes.{AreBytes}
 use Rattle.xm_base.specs.Cursor.{Place, ahead}
 use Rattle.file_headers.specs.lemmas.FieldLemmas.{AreBytes-drop, Reads}
 use Rattle.file_headers.specs.lemmas.StepLemmas.{ok_is}
-use Rattle.file_headers.specs.Steps.{◌>>=◌, unless}
-use Rattle.codecs.specs.Codec.{Codec, value_as}
-use Rattle.codecs.specs.Lawful.{GivesBefore, StandsAt}
+use Rattle.file_headers.specs.Steps.{unless}
+use Rattle.codecs.specs.Codec.{value_as}
+use Rattle.codecs.specs.Lawful.{GivesBefore}
 
 -- both of two tests
 pub both : (a b : Bool) → (a && b) ≡ true → (a ≡ true) × (b ≡ true)

@@ -1,18 +1,18 @@
 -- Each way to make a format is steady, and a spelling that is cut is short.
-use Rattle.std.proofs.Common.{◌≡◌, ℕ, zero, suc, ◌+◌, ◌-◌, ◌<◌, ◌≤◌, ◌⊎◌, inl, inr, Bool, true, false, cond, List, [], ◌∷◌, ◌++◌, length, take, drop, Option, Some, None, Result, Ok, Err, refl, sym, ap, ◌∙◌, arith}
+use Rattle.std.proofs.Common.{◌≡◌, ℕ, zero, suc, ◌≤◌, inl, inr, Bool, true, false, cond, List, [], ◌∷◌, ◌++◌, length, take, Option, Some, None, Result, Ok, Err, refl, sym, ap, ◌∙◌, arith}
 use Rattle.std.specs.Prelude.{◌≢◌, is_some, nat_lt}
 use Rattle.std.specs.Int.{Width, byte_len, from_be_bytes}
 use Rattle.std.specs.Str.{bytes_eq}
 use Rattle.std.proofs.lemmas.Bool.{ltb-false, le-ltb}
 use Rattle.std.proofs.lemmas.List.{append-nil, length-append, length-drop, take-append-le, drop-append-le, nil_from_length}
 use Rattle.xm_base.specs.Cursor.{Place, ahead, cursor_start, left, next, past}
-use Rattle.file_headers.specs.Fields.{field_bytes, number_at}
+use Rattle.file_headers.specs.Fields.{field_bytes}
 use Rattle.file_headers.specs.lemmas.StepLemmas.{ok_is}
 use Rattle.file_headers.specs.Steps.{◌>>=◌, unless}
-use Rattle.codecs.specs.Codec.{Codec, absent, any_number, coded, counted, counted_items, each_of, each_read, fixed_text, items, items_read, keyed, no_bytes, number, optional, or_refused, pair, present, raw_bytes, tested, through, through_where, times, value_as}
-use Rattle.codecs.specs.Files.{read_to_end, whole_file}
+use Rattle.codecs.specs.Codec.{Codec, absent, any_number, coded, counted, counted_items, each_read, fixed_text, items, items_read, keyed, number, optional, or_refused, pair, present, tested, through, through_where, times, value_as}
+use Rattle.codecs.specs.Files.{whole_file}
 use Rattle.codecs.specs.Lawful.{IsLawful}
-use Rattle.codecs.specs.Steady.{AnswersAlike, IsNotPast, IsSteady, with_more}
+use Rattle.codecs.specs.Steady.{AnswersAlike, IsSteady, with_more}
 
 -- a value without a read
 pub steady_ok : {F X : Type 0} (short : ℕ → F) (x : X) → IsSteady short (λ place. Ok (x, place))
@@ -22,7 +22,7 @@ pub steady_unless : {F X : Type 0} (short : ℕ → F) (test : Bool) (fault : F)
 steady_unless short true fault x place more within = (refl, within, omega arith, refl)
 steady_unless short false fault x place more within = inl refl
 
--- so many bytes
+-- bytes, this many
 pub steady_bytes : {F : Type 0} (short : ℕ → F) (count : ℕ) → IsSteady short (field_bytes short count)
 steady_bytes {F} short count place more within = at (nat_lt (left place) count) refl
   where

@@ -1,5 +1,5 @@
 -- A table whose rows have their places as numbers: the row that a number has is the row of that number.
-use Rattle.std.proofs.Common.{◌≡◌, ℕ, zero, suc, ◌+◌, List, [], ◌∷◌, Option, Some, None, sym, ap, ◌∙◌, arith}
+use Rattle.std.proofs.Common.{◌≡◌, ℕ, zero, suc, ◌+◌, List, [], ◌∷◌, Some, ap, arith}
 use Rattle.std.specs.Prelude.{slice_get}
 
 -- each row has its place as its number, the first this one

@@ -1,11 +1,11 @@
 -- The bytes of small values in each way to make a format, worked by hand, and what is read of bytes.
-use Rattle.std.specs.Prelude.{◌≡◌, ℕ, zero, suc, ◌+◌, ◌^◌, Bool, true, false, nat_le, is_some, List, [], ◌∷◌, codes, length, replicate, Option, Some, None, Ok, Err}
+use Rattle.std.specs.Prelude.{◌≡◌, ℕ, zero, suc, ◌+◌, Bool, true, false, nat_le, List, [], ◌∷◌, codes, length, replicate, Option, Some, None, Ok, Err}
 use Rattle.std.specs.Int.{w16, w32, w64, w8}
 use Rattle.fault_messages.specs.declared.fault.HeadFault.{HeadFault}
 use Rattle.xm_base.specs.Cursor.{Place, cursor_start}
 use Rattle.file_headers.specs.Known.{head_faults}
 use Rattle.codecs.specs.Codec.{Codec, any_number, coded, counted, counted_items, each_of, fixed_text, items, keyed, no_bytes, number, optional, pair, raw_bytes, tested, through, through_where}
-use Rattle.codecs.specs.Files.{FileCodec, file_through, judged_file, sealed_length, sized_file, text_before_digest, versioned_file, whole_file}
+use Rattle.codecs.specs.Files.{FileCodec, judged_file, text_before_digest, versioned_file, whole_file}
 
 -- the faults of the rows: too few bytes at a place, other bytes there, and a number that is refused
 pub data RowFault : Type 0 where

@@ -1,8 +1,8 @@
 -- Bytes of parts of saved machines, worked by hand, and what is read of bytes.
-use Rattle.std.specs.Prelude.{◌≡◌, ℕ, ◌++◌, Bool, true, false, List, [], ◌∷◌, length, replicate, Option, Some, None, Ok, Err}
+use Rattle.std.specs.Prelude.{◌≡◌, ℕ, ◌++◌, Bool, true, false, List, [], ◌∷◌, replicate, Some, None, Ok, Err}
 use Rattle.guest_bus.specs.Memory.{Memory}
 use Rattle.machine_model.specs.View.{no_part}
-use Rattle.saved_machines.specs.SavedFields.{content_field, health_field, known_byte, log_counts, made_field, timer_field, trace_field}
+use Rattle.saved_machines.specs.SavedFields.{content_field, health_field, log_counts, made_field, timer_field, trace_field}
 use Rattle.saved_machines.specs.SavedFormat.{clock_format, head_format, loaded_page, page_format, processor_format, standing_format, traps_format}
 use Rattle.saved_machines.specs.Saved.{SavedHead}
 use Rattle.saved_machines.specs.declared.fault.SavedFault.TheVariants as fault
