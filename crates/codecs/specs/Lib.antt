@@ -1,5 +1,6 @@
 pub mod Codec
 pub mod Files
+pub mod Gives
 pub mod Lawful
 pub mod Laws
 pub mod Steady

@@ -3,6 +3,7 @@ pub mod CutLemmas
 pub mod FileLemmas
 pub mod HeadedLemmas
 pub mod ItemLemmas
+pub mod LoopLemmas
 pub mod ReadLemmas
 pub mod SteadyLemmas
 pub mod TableLemmas
