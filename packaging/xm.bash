@@ -36,7 +36,7 @@ _xm_value() {
         --names | --system) _xm_files '@(xml|xmp)' ;;
         --script) _xm_files scr ;;
         --keep | --scratch) _filedir -d ;;
-        --csv | --repeat | --results) _xm_files sqlite ;;
+        --csv | --table | --repeat | --results) _xm_files sqlite ;;
         --frames | --ticks | --from | --to | --workers | --scheduler) ;;
         *) _filedir ;;
     esac
@@ -50,7 +50,7 @@ _xm_options() {
         export) _xm_words '--json --csv --vcd --perfetto --system' ;;
         picture) _xm_words '--from --to' ;;
         view) _xm_words '--script --from --to' ;;
-        campaign) _xm_words '--report --csv --repeat --results --keep --workers --scheduler --scratch' ;;
+        campaign) _xm_words '--report --table --csv --repeat --results --keep --workers --scheduler --scratch' ;;
     esac
 }
 

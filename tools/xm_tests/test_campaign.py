@@ -26,7 +26,6 @@ from rows import demo
 from conftest import SECOND, XM, Done, xm
 from xm_tools.building import Built
 from xm_tools.campaign import Campaign, read_campaign
-from xm_tools.campaign_page import place_key, place_name
 from xm_tools.cluster import Size
 from xm_tools.command import main
 from xm_tools.container import read_container
@@ -39,6 +38,7 @@ from xm_tools.results import Row
 from xm_tools.running import Done as DoneRun
 from xm_tools.running import Common, DoneBatch, Room, Words, digest_of, do_batch, remove_left_over, tools_files
 from xm_tools.system import Area, Partition
+from xm_tools.tallies import place_key, place_name
 from xm_tools.upset_sets import BlockReader, Upset, UpsetSet, upsets_of_text
 
 TICKS = 4000
@@ -119,6 +119,13 @@ def calls(folder: Path) -> list[str]:
     """The calls of the stand-in, by their upsets; the run without upsets is an empty line."""
     path = folder / "marks/calls"
     return [line.strip() for line in path.read_text().splitlines()] if path.exists() else []
+
+
+def count_of(folder: Path) -> int:
+    """How many runs are in the results, which may be written just now."""
+    with contextlib.closing(sqlite3.connect(folder / "c.sqlite", timeout=3600)) as base:
+        is_made = base.execute("SELECT COUNT(*) FROM sqlite_master WHERE name = 'runs'").fetchone()[0]
+        return int(base.execute("SELECT COUNT(*) FROM runs").fetchone()[0]) if is_made else 0
 
 
 def rows(folder: Path, results: str = "c.sqlite") -> list[dict[str, str]]:
@@ -348,6 +355,31 @@ file = "two.upsets"
     assert all(10 <= int.from_bytes(content[at : at + 4], "big") <= 12 for content in contents for at in range(0, 160, 4))
 
 
+def test_inputs_from_files_vary(tmp_path: Path) -> None:
+    """Each file of a partition with each of another one; a partition with one file alone is no choice."""
+    text = 'system = "built"\nframes = 1\n[inputs]\nFIRST = ["low.bin", "high.bin"]\nSECOND = "one.bin"\n'
+    contents = {"low.bin": bytes(4), "high.bin": b"\xff" * 4, "one.bin": b"\x00\x00\x00\x01"}
+    for name, content in contents.items():
+        (tmp_path / name).write_bytes(content)
+    campaign = made(tmp_path, text)
+    names = campaign.first.names
+    found = [(setup.inputs, dict(setup.labels)) for setup, _ in campaign.setups()]
+    assert found == [
+        (((0, digest_of(contents[name])), (1, digest_of(contents["one.bin"]))), {f"input {names[0]}": name}) for name in ("low.bin", "high.bin")
+    ]
+    assert all(campaign.files[digest_of(content)] == content for content in contents.values())
+
+
+def test_a_sample_has_as_many_upsets_of_each_partition(tmp_path: Path) -> None:
+    """Of many more upsets a larger sample has those of a smaller one, so that the results of that serve."""
+    text = text_for(["registers"], "", "sample = 31").replace('"FIRST"', '["FIRST", "SECOND"]')
+    small, large = (made(tmp_path, text.replace("31", number)) for number in ("31", "1001"))
+    sets = [[case.upsets for _, cases in campaign.cases() for case in cases if case.upsets] for campaign in (small, large)]
+    for found, first in zip(sets, (16, 501)):
+        assert len([None for (upset,) in found if upset.partition == 0]) == first
+    assert [len(found) for found in sets] == [31, 1001] and set(sets[0]) <= set(sets[1])
+
+
 def test_generated_words_are_those_that_the_page_says() -> None:
     """The first word of SHAKE-256 of `1 gyro 0`, by another implementation."""
     done = subprocess.run(
@@ -427,6 +459,7 @@ def test_a_campaign_that_is_wrong(
     [
         (), ("c.toml", "d"), ("c.toml", "--workers", "0"), ("c.toml", "--workers", "2", "--scheduler", "x"), ("--report", "c.sqlite"),
         ("--csv", "--report", "c.sqlite", "p"), ("--csv",), ("--repeat", "c.sqlite", "1"), ("--csv", "c.sqlite", "--workers", "2"),
+        ("--table", "c.sqlite"), ("--table", "--csv", "c.sqlite"),
     ],
 )  # fmt: skip
 def test_words_that_are_wrong(capsys: pytest.CaptureFixture[str], words: tuple[str, ...]) -> None:
@@ -464,7 +497,9 @@ def test_what_a_campaign_prints(finished: tuple[Path, Done]) -> None:
     assert lines[0] == "c: 9 runs in 1 s, and 0 were there in c.sqlite"
     assert lines[1] == "same               1   11.11 %"
     assert lines[-4] == "other partitions with the same script: 6 compared, 1 differ; 1 had another script"
-    assert re.fullmatch("failed: run [0-9]+: failed: xm_run: it is refused: xm campaign --repeat c.sqlite ([0-9]+) run\\1", lines[-2])
+    pattern = "failed: run ([0-9]+): (.*): xm campaign --repeat c.sqlite \\1 run\\1"
+    failed = [found[2] for line in lines[-3:-1] if (found := re.fullmatch(pattern, line))]
+    assert sorted(failed) == ["failed: xm_run: it is refused", "masked: the state of P1"]
     assert lines[-1] == "kept: the folders of 2 runs in c.runs"
 
 
@@ -501,11 +536,31 @@ def test_a_page_of_a_campaign(finished: tuple[Path, Done]) -> None:
     text = (folder / "page.html").read_text()
     assert "<h1>c: 9 runs</h1>" in text and text.count("xm campaign --repeat c.sqlite") == 2
     assert all(f'id="by_{name}"' in text for name in ("place", "bit", "tick", "partition"))
-    assert "6 compared, 1 differ" in text
+    assert "6 compared, 1 differ" in text and text.count("<summary>as a table</summary>") == 4
     xm(folder, "campaign", "--report", "c.sqlite", "again.html")
     assert (folder / "again.html").read_text() == text
     done = xm(folder, "campaign", "--report", "c.sqlite", "./c.sqlite")
     assert (done.status, done.err) == (2, "xm: ./c.sqlite: it is c.sqlite, which is read\n")
+
+
+def test_tables_of_a_campaign(finished: tuple[Path, Done]) -> None:
+    """Numbers of runs by what their upset has; each table is a part of the page, too."""
+    folder, _ = finished
+    outcomes = ["same", "masked", "detected", "wrong", "dead", "failed"]
+    found = {}
+    for by in ("place", "bit", "tick", "partition"):
+        done = xm(folder, "campaign", "--table", "c.sqlite", by)
+        assert (done.status, done.err) == (0, "")
+        (head, *own) = [re.split("  +", line) for line in done.out.splitlines()]
+        assert head[0].startswith(by) and head[1:] == outcomes
+        found[by] = {line[0]: dict(zip(outcomes, map(int, line[1:]))) for line in own}
+    whole = {"same": 1, "masked": 2, "detected": 1, "wrong": 2, "dead": 1, "failed": 1}
+    assert found["bit"] == {"3": whole} and found["tick"] == {"100": whole} and found["partition"] == {"P0": whole}
+    assert {place: [name for name, count in own.items() if count] for place, own in found["place"].items()} == {
+        f"P0 {place}": [outcome] for place, outcome in TRUTH.items()
+    }  # fmt: skip
+    done = xm(folder, "campaign", "--table", "c.sqlite", "colour")
+    assert (done.status, done.out, done.err) == (2, "", "xm: colour is none of place, bit, tick, partition\n")
 
 
 def test_runs_that_are_there_are_not_repeated(finished: tuple[Path, Done], tmp_path: Path) -> None:
@@ -554,14 +609,13 @@ def test_an_interrupted_campaign_goes_on(tmp_path: Path) -> None:
     environment = {**os.environ, "XM_RUN": str(tmp_path / "program")}
     words = [str(XM), "campaign", "c.toml", "--workers", "1"]
     with subprocess.Popen(words, cwd=tmp_path, env=environment, stdout=subprocess.DEVNULL, stderr=subprocess.PIPE, start_new_session=True) as running:
-        deadline = time.monotonic() + 300
-        while "100 0 w3 3" not in calls(tmp_path) and time.monotonic() < deadline:
+        while running.poll() is None and not ("100 0 w3 3" in calls(tmp_path) and count_of(tmp_path)):
             time.sleep(0.2)
         os.killpg(running.pid, signal.SIGINT)
         _, err = running.communicate()
     assert (running.returncode, PROGRESS.sub("", err.decode())) == (130, "")
     (tmp_path / "marks/go").touch()
-    before = sqlite3.connect(tmp_path / "c.sqlite").execute("SELECT COUNT(*) FROM runs").fetchone()[0]
+    before = count_of(tmp_path)
     assert before > 0
     done = campaign(tmp_path)
     assert (done.status, done.err) == (0, "")
@@ -606,9 +660,10 @@ def test_folders_are_removed(tmp_path: Path, monkeypatch: pytest.MonkeyPatch) ->
     assert {path.name for path in tmp_path.iterdir()} == {*before, "c.sqlite"}
 
 
-def test_workers_of_a_scheduler(tmp_path: Path) -> None:
+def test_workers_of_a_scheduler(tmp_path: Path, monkeypatch: pytest.MonkeyPatch) -> None:
     """They have no file of these tools, and two threads each; nothing of the campaign is left with them."""
     pytest.importorskip("distributed")
+    monkeypatch.setenv("DASK_DISTRIBUTED__COMM__TIMEOUTS__CONNECT", "10 minutes")
     set_up(tmp_path, text_for(list(TRUTH)))
     for name in ("workers", "scratch"):
         (tmp_path / name).mkdir()
@@ -631,8 +686,10 @@ def test_workers_of_a_scheduler(tmp_path: Path) -> None:
     assert {row["place"]: row["outcome"] for row in rows(tmp_path) if row["place"]} == TRUTH
 
 
-def test_a_scheduler_that_is_not_there(tmp_path: Path) -> None:
+def test_a_scheduler_that_is_not_there(tmp_path: Path, monkeypatch: pytest.MonkeyPatch) -> None:
+    """It is waited for as long as Dask is to wait."""
     pytest.importorskip("distributed")
+    monkeypatch.setenv("DASK_DISTRIBUTED__COMM__TIMEOUTS__CONNECT", "1s")
     set_up(tmp_path, text_for(["g1"]))
     done = xm(tmp_path, "campaign", "c.toml", "--scheduler", "tcp://127.0.0.1:1", program=str(tmp_path / "program"))
     assert (done.status, done.out, len(done.err.splitlines())) == (2, "", 1) and "tcp://127.0.0.1:1" in done.err
@@ -660,7 +717,10 @@ def test_a_system_is_built_with_other_plans_and_images(tmp_path: Path) -> None:
     (tmp_path / "other.xml").write_text(text.replace('name="queue"', 'name="other"'))
     lines = [f'{name} = "{folder / name}.elf"' for name in ("producer", "consumer")]
     (tmp_path / "queue.toml").write_text("\n".join(["[programs]", *lines, "[run]", "frames = 2", ""]))
-    images = f'["{folder}/producer.elf", "{folder}/consumer.elf"]'
+    image = (folder / "producer.elf").read_bytes()
+    assert image.count(b"messages sent") == 1
+    (tmp_path / "other.elf").write_bytes(image.replace(b"messages sent", b"MESSAGES SENT"))
+    images = f'["{folder}/producer.elf", "other.elf"]'
     (tmp_path / "c.toml").write_text(f'system = "queue.xml"\nplans = ["queue.xml", "other.xml"]\n[images]\nproducer = {images}\n')
     os.environ["XM_RUN"], before = str(SECOND), os.environ.get("XM_RUN")
     try:
@@ -670,7 +730,7 @@ def test_a_system_is_built_with_other_plans_and_images(tmp_path: Path) -> None:
         os.environ.pop("XM_RUN")
         os.environ.update({"XM_RUN": before} if before else {})
     labels = [dict(setup.labels) for setup, _ in campaign.setups()]
-    plans, images_varied = ("queue.xml", "other.xml"), ("producer.elf", "consumer.elf")
+    plans, images_varied = ("queue.xml", "other.xml"), ("producer.elf", "other.elf")
     assert labels == [{"plan": plan, "image producer": image} for plan, image in itertools.product(plans, images_varied)]
     assert len({setup.container for setup, _ in campaign.setups()}) == 4
     assert {setup.ticks for setup, _ in campaign.setups()} == {2 * campaign.containers[0].system.plans[0].frame}
@@ -803,6 +863,30 @@ def test_a_task_has_as_many_runs_as_take_a_second() -> None:
         size.learn(DoneBatch((DoneRun(Verdict("same"), 0.8 * seconds, 0.2 * seconds),) * size.runs, {}))
         found.append(size.runs)
     assert found == [8, 10, 10, 20, 40, 1]
+
+
+def test_tasks_get_shorter_where_few_runs_are_left() -> None:
+    """So each worker has some, and none has much more to do than the others at the end."""
+    for left, threads in ((1000, 4), (10, 4), (1, 4), (0, 1)):
+        sizes = []
+        while sum(sizes) < left:
+            sizes.append(Size(100).of(left - sum(sizes), threads))
+        assert sizes == sorted(sizes, reverse=True)
+        for place, own in enumerate(sizes):
+            assert own == max(10, min(100, -(-(left - sum(sizes[:place])) // (2 * threads))))
+
+
+def test_files_of_many_setups(tmp_path: Path, monkeypatch: pytest.MonkeyPatch, capsys: pytest.CaptureFixture[str]) -> None:
+    """Those of earlier runs are removed where there are many, and none that a run needs."""
+    monkeypatch.setattr("xm_tools.running.MOST_FILES", 3)
+    text = 'system = "built"\nticks = 4000\n[words]\nFIRST = { count = 4, sets = 9 }\nSECOND = { count = 4, sets = 3 }\n'
+    set_up(tmp_path, text)
+    needed = 'echo "END XM running'
+    program = (tmp_path / "program").read_text().replace("shift 2\nsay", 'box=$2\nshift 2\nsay', 1)
+    assert program.count(needed) == 1
+    (tmp_path / "program").write_text(program.replace(needed, f'[ -r "$box" ] && [ -r "$input" ] && {needed}'))
+    assert here(tmp_path, monkeypatch)[0] == 0
+    assert "met               27  100.00 %\n" in capsys.readouterr().out
 
 
 def test_the_program_behind_a_script(tmp_path: Path, monkeypatch: pytest.MonkeyPatch) -> None:

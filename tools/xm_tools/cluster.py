@@ -5,6 +5,7 @@ Dask does a task of a worker that is lost again, by another one, and starts a wo
 
 import contextlib
 import importlib
+import itertools
 import logging
 import pickle
 import signal
@@ -26,9 +27,19 @@ LOSSES = 2
 SECONDS, FIRST, MOST = 1.0, 4, 500
 # Tasks that are given out in advance, for each worker.
 WAITING = 3
+# What is left for a worker is at least so many tasks, as long as these are no shorter than such a part of the time above.
+SHARES, LEAST = 2, 10
 # After so many tasks the scheduler is asked again how many workers there are.
 ASKED = 8
-TIMEOUT = 10
+# Workers of this machine are copies of one process that has imported Dask, since an import takes most of a second. None of them is
+# given up because the machine is slow: without these times one that is not back 15 seconds after its loss is not started again.
+LOCAL = {
+    "distributed.worker.multiprocessing-method": "forkserver",
+    "distributed.worker.profile.enabled": False,
+    "distributed.scheduler.allowed-failures": LOSSES,
+    "distributed.scheduler.worker-ttl": None,
+    "distributed.deploy.lost-worker-timeout": "1 day",
+}
 
 
 def distributed() -> Any:
@@ -50,12 +61,11 @@ def client_of(workers: int, scheduler: str | None) -> Iterator[Any]:
         with client_at(dask, scheduler) as client:
             yield client
         return
-    importlib.import_module("dask").config.set({"distributed.scheduler.allowed-failures": LOSSES})
+    importlib.import_module("dask").config.set(LOCAL)
     with tempfile.TemporaryDirectory(prefix="xm_campaign_workers-") as folder:
         with uninterrupted():
             cluster = local_cluster(dask, workers, folder)
         with cluster, dask.Client(cluster) as client:
-            client.register_worker_plugin(Uninterrupted())
             yield client
 
 
@@ -71,7 +81,7 @@ def local_cluster(dask: Any, workers: int, folder: str) -> Any:
 
 @contextlib.contextmanager
 def uninterrupted() -> Iterator[None]:
-    """Processes that are started in it ignore SIGINT: that of a terminal is for the command alone."""
+    """Processes that are started in it ignore SIGINT, and so do their copies: that of a terminal is for the command alone."""
     before = signal.signal(signal.SIGINT, signal.SIG_IGN)
     try:
         yield
@@ -79,20 +89,11 @@ def uninterrupted() -> Iterator[None]:
         signal.signal(signal.SIGINT, before)
 
 
-class Uninterrupted:
-    """Has workers that are started later ignore it, too."""
-
-    name = "uninterrupted"
-
-    def setup(self, worker: Any) -> None:
-        signal.signal(signal.SIGINT, signal.SIG_IGN)
-
-
 @contextlib.contextmanager
 def client_at(dask: Any, scheduler: str) -> Iterator[Any]:
     """A client of a scheduler, whose workers get these tools."""
     try:
-        client = dask.Client(scheduler, timeout=TIMEOUT)
+        client = dask.Client(scheduler)
     except (OSError, ValueError, TypeError, RuntimeError) as error:
         raise Unusable(f"{scheduler}: {error}") from None
     with client, tempfile.TemporaryDirectory(prefix="xm_campaign_tools-") as folder:
@@ -117,9 +118,13 @@ def unpacked(packed: bytes) -> Common:
 
 @dataclass
 class Size:
-    """How many runs a task has: about as many as take a second, by those that were done."""
+    """How many runs a task has: about as many as take a second, by those that were done, and fewer where few are left."""
 
     runs: int = FIRST
+
+    def of(self, left: int, threads: int) -> int:
+        """Of so many runs that are left for so many threads: as tasks get shorter, all threads end at about the same time."""
+        return max(-(-self.runs // LEAST), min(self.runs, -(-left // (SHARES * threads))))
 
     def learn(self, done: DoneBatch) -> None:
         seconds = [one.seconds + one.beyond for one in done.done if one.seconds]
@@ -129,13 +134,15 @@ class Size:
 
 
 class Distribution:
-    """The tasks of a campaign at the workers of a client."""
+    """The tasks of a campaign at the workers of a client. `left` is about how many runs are not given out."""
 
-    def __init__(self, client: Any, common: Common) -> None:
+    def __init__(self, client: Any, common: Common, left: int) -> None:
         self.client = client
+        self.left = left
         self.dask = distributed()
         self.size = Size()
         self.lost = 0
+        self.suspects: list[Case] = []
         self.workers: set[str] = set()
         self.count = 0
         self.threads = 1
@@ -157,20 +164,22 @@ class Distribution:
         return WAITING * self.threads - len(self.cases)
 
     def fill(self, cases: Iterator[Case]) -> None:
-        room = self.room()
-        while room > 0:
-            taken: list[Case] = []
-            for case in cases:
-                taken.append(case)
-                if len(taken) >= self.size.runs:
-                    break
+        for _ in range(self.room()):
+            taken = tuple(itertools.islice(cases, self.size.of(self.left, self.threads)))
             if not taken:
                 return
-            self.submit(tuple(taken))
-            room -= 1
+            self.left -= len(taken)
+            self.submit(taken)
 
     def results(self, cases: Iterator[Case]) -> Iterator[tuple[tuple[Case, ...], DoneBatch]]:
-        """The runs in the order in which they are done. A run that its worker is lost with again and again is counted in `lost`."""
+        """The runs in the order in which they are done. One whose worker is lost again and again with it alone is counted in `lost`."""
+        yield from self.done(cases)
+        suspects, self.suspects = self.suspects, []
+        for suspect in suspects:
+            yield from self.done(iter([suspect]))
+        self.lost = len(self.suspects)
+
+    def done(self, cases: Iterator[Case]) -> Iterator[tuple[tuple[Case, ...], DoneBatch]]:
         self.fill(cases)
         while self.cases:
             future = next(self.finished)
@@ -195,9 +204,12 @@ class Distribution:
         self.client.run(forget, self.name, self.scratch, on_error="ignore")
 
     def again(self, own: tuple[Case, ...]) -> None:
-        """Runs of a task with which workers were lost: by halves, so that those that are no cause are done."""
+        """Runs of a task whose workers were lost, since one of them is the cause or one of another task that waited there: by halves.
+
+        A single one is done when all others are done, so that nothing but itself can be the cause then.
+        """
         if len(own) == 1:
-            self.lost += 1
+            self.suspects += own
             return
         middle = len(own) // 2
         self.submit(own[:middle])

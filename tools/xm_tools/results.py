@@ -5,9 +5,10 @@ import functools
 import json
 import re
 import sqlite3
+import time
 import zlib
 from collections.abc import Iterable, Iterator, Sequence
-from dataclasses import asdict, dataclass
+from dataclasses import dataclass, fields
 from pathlib import Path
 from typing import Any
 
@@ -31,12 +32,17 @@ CREATE TABLE runs (
 CURRENT = "FROM runs JOIN setups ON setups.id = setup WHERE current"
 ODD = "not what `xm campaign` writes"
 MOST_BYTES = 1 << 26
+# Between two commits is so many times what the last one took: each waits for the disk.
+PAUSE = 20
 PLACE = re.compile("[0-9a-f]{8}|[gw][0-9]{1,3}|[a-z]{1,8}")
 KINDS: tuple[Any, ...] = (int, str, str, int, str, str, int | None, int | None, str | None, int | None, str, str, str, int, int, int, int, float, float)
 COLUMNS = [
     "run", "program", "container", "ticks", "inputs", "varied", "tick", "partition", "place", "bit", "upsets", "outcome", "why", "detected",
     "compared", "reached", "differing", "seconds", "beyond",
 ]  # fmt: skip
+
+
+OF_WORDS = tuple(field.name for field in fields(Words))
 
 
 @dataclass(frozen=True)
@@ -72,8 +78,10 @@ def inputs_text(setup: Setup) -> str:
     """The inputs by the numbers of their partitions: the digest of a file, and how words are generated, with their digest."""
     found: list[Any] = []
     for number, source in setup.inputs:
-        words = {} if isinstance(source, str) else {**asdict(source), "sha256": digest_of(source.content())}
-        found.append([number, words or source])
+        if isinstance(source, str):
+            found.append([number, source])
+        else:
+            found.append([number, {**{name: getattr(source, name) for name in OF_WORDS}, "sha256": digest_of(source.content())}])
     return json.dumps(found)
 
 
@@ -100,6 +108,7 @@ class Results:
             raise Unusable(f"{path}: No such file or directory: xm campaign FILE.toml makes it")
         try:
             self.base = sqlite3.connect(path, timeout=30)
+            self.next_commit = 0.0
             self.prepare(is_new)
         except (sqlite3.Error, ValueError) as error:
             raise self.fail(error) from None
@@ -116,9 +125,18 @@ class Results:
             raise self.fail(ODD)
 
     def close(self) -> None:
-        with self.whole():
-            pass
-        self.base.close()
+        try:
+            self.commit()
+            self.base.close()
+        except sqlite3.Error as error:
+            raise self.fail(error) from None
+
+    def commit(self) -> None:
+        """Waits until all that was put is on the disk. The next time to do so follows from how long that takes."""
+        began = time.monotonic()
+        self.base.commit()
+        now = time.monotonic()
+        self.next_commit = now + PAUSE * (now - began)
 
     def all(self, words: str, values: Sequence[Any] = ()) -> list[Any]:
         try:
@@ -174,7 +192,9 @@ class Results:
         """The row of a setup, which is made where there is none."""
         row = (key, program, setup.container, setup.ticks, inputs_text(setup), json.dumps(setup.labels), rules, 1)
         names = "key, program, container, ticks, inputs, labels, rules, current"
-        self.base.execute(f"INSERT OR IGNORE INTO setups ({names}) VALUES (?, ?, ?, ?, ?, ?, ?, ?)", row)
+        made = self.base.execute(f"INSERT OR IGNORE INTO setups ({names}) VALUES (?, ?, ?, ?, ?, ?, ?, ?)", row)
+        if made.rowcount == 1:
+            return made.lastrowid or 0
         return int(self.base.execute("SELECT id FROM setups WHERE key = ?", (key,)).fetchone()[0])
 
     def put_report(self, setup: int, report: str) -> None:
@@ -194,10 +214,20 @@ class Results:
 
     @contextlib.contextmanager
     def whole(self) -> Iterator[None]:
-        """What is put in it is there in whole, or not at all."""
+        """What is put in it is there in whole, or not at all. It is on the disk a short time later, or after `close`."""
         try:
-            with self.base:
+            if not self.base.in_transaction:
+                self.base.execute("BEGIN")
+            self.base.execute("SAVEPOINT whole")
+            try:
                 yield
+            except BaseException:
+                self.base.execute("ROLLBACK TO whole")
+                raise
+            finally:
+                self.base.execute("RELEASE whole")
+            if time.monotonic() >= self.next_commit:
+                self.commit()
         except sqlite3.Error as error:
             raise self.fail(error) from None
 

@@ -38,7 +38,7 @@ MOST_KEPT = 1 << 16
 MOST_WORDS = 4_000_000
 # What `keep` has where no folder is to be kept.
 NEVER = "none"
-# So many runs without upsets, and files of setups, are kept for the next runs of a worker.
+# About as many runs without upsets, and files of setups, are kept for the next runs of a worker.
 MOST_REFERENCES = 4
 MOST_FILES = 256
 
@@ -204,7 +204,7 @@ class Bench:
         self.references: dict[Setup, tuple[Reference | None, Done]] = {}
         self.systems: dict[str, System] = {}
         self.judged: dict[str, Rules] = {}
-        self.written: dict[str, str] = {}
+        self.written: dict[Words | str, str] = {}
         self.buffers: dict[int, bytearray] = {}
         self.count = 0
 
@@ -215,16 +215,19 @@ class Bench:
 
     def path_of(self, source: Words | str) -> str:
         """The file with the content of a digest, or with generated words."""
-        content = source.content() if isinstance(source, Words) else self.common.files[source]
-        name = digest_of(content) if isinstance(source, Words) else source
-        if name not in self.written:
-            if len(self.written) >= MOST_FILES:
-                for path in self.written.values():
-                    os.unlink(path)
-                self.written.clear()
-            self.written[name] = str(self.room / name)
-            Path(self.written[name]).write_bytes(content)
-        return self.written[name]
+        if source not in self.written:
+            self.count += 1
+            path = self.room / f"file{self.count}"
+            path.write_bytes(source.content() if isinstance(source, Words) else self.common.files[source])
+            self.written[source] = str(path)
+        return self.written[source]
+
+    def tidy(self) -> None:
+        """Removes the files of earlier runs where there are many. It is called before a run has any."""
+        if len(self.written) >= MOST_FILES:
+            for path in self.written.values():
+                os.unlink(path)
+            self.written.clear()
 
     def content(self, path: Path, wanted: bytes | None) -> bytes:
         """The content of a file, which is mostly the one that is wanted: so it is read into room that is there already."""
@@ -330,6 +333,7 @@ class Run:
         self.seconds = 0.0
 
     def words(self) -> list[str]:
+        self.bench.tidy()
         words = ["run", self.bench.path_of(self.setup.container), *beginning(self.setup)]
         for number, source in self.setup.inputs:
             words += ["--input", f"{number}={self.bench.path_of(source)}"]
@@ -349,10 +353,7 @@ class Run:
         with open(self.folder / REPORT, "wb") as out, open(self.folder / ERRORS, "wb") as errors:
             began = time.perf_counter()
             try:
-                # No file that Python opens is one of a process that it starts, so none has to be closed there.
-                called = subprocess.Popen(
-                    words, cwd=self.folder, stdin=subprocess.DEVNULL, stdout=out, stderr=errors, close_fds=False
-                )  # fmt: skip
+                called = subprocess.Popen(words, cwd=self.folder, stdin=subprocess.DEVNULL, stdout=out, stderr=errors)
                 status = called.wait()
             except OSError as error:
                 raise Unusable(f"the program cannot be called: {error}") from None

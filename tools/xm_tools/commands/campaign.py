@@ -1,5 +1,6 @@
 """usage: xm campaign FILE.toml [--results FILE] [--keep DIR] [--workers NUM | --scheduler ADDRESS] [--scratch DIR]
        xm campaign --report RESULTS PAGE.html
+       xm campaign --table RESULTS place|bit|tick|partition
        xm campaign --csv RESULTS
        xm campaign --repeat RESULTS RUN DIR
 
@@ -38,10 +39,11 @@ scheduler at an address; workers of other machines need Python and distributed a
 shared memory, and is removed; what is kept of it goes to --keep, else to FILE.runs. The exit status is 1 where a run failed, or
 where another partition differs although it received the same.
 
---report writes a page of the results, --csv prints a row for each run, and --repeat does a run again in the folder DIR, prints its
-command line and then what the program prints.
+--report writes a page of the results, --table prints how many runs have each outcome by what their upset has, --csv prints a row
+for each run, and --repeat does a run again in the folder DIR, prints its command line and then what the program prints.
 """
 
+import contextlib
 import csv
 import os
 import shlex
@@ -49,7 +51,7 @@ import subprocess
 import sys
 import time
 import uuid
-from collections.abc import Iterator
+from collections.abc import Callable, Iterator
 from pathlib import Path
 
 from xm_tools.campaign import Campaign, CampaignFile, read_campaign
@@ -64,11 +66,11 @@ from xm_tools.words import words_of
 
 USAGE = (
     "xm campaign FILE.toml [--results FILE] [--keep DIR] [--workers NUM | --scheduler ADDRESS] [--scratch DIR]"
-    " | --report RESULTS PAGE.html | --csv RESULTS | --repeat RESULTS RUN DIR"
+    " | --report RESULTS PAGE.html | --table RESULTS place|bit|tick|partition | --csv RESULTS | --repeat RESULTS RUN DIR"
 )
 MOST_WORKERS = 1024
-# Folders of more runs are not kept.
-MOST_KEPT = 1000
+# Folders of more runs are not kept, and no more rows of setups are remembered.
+MOST_KEPT, MOST_ROWS = 1000, 1000
 
 
 class Call:
@@ -84,6 +86,7 @@ class Call:
         self.program_digest = digest_of(self.program_content)
         self.rules = self.campaign.rules_digest()
         self.rows: dict[Setup, int] = {}
+        self.keys: dict[Setup, str] = {}
         self.there = 0
         self.kept = 0
 
@@ -100,7 +103,8 @@ class Call:
     def missing(self) -> Iterator[Case]:
         """The runs that are not in the results."""
         for setup, cases in self.campaign.cases():
-            row = self.results.setup_number(self.key(setup))
+            key = self.key(setup)
+            row = self.results.setup_number(key)
             done = self.results.done(row) if row is not None else set()
             for case in cases:
                 text = text_of(case.upsets)
@@ -108,20 +112,28 @@ class Call:
                     self.there += 1
                 else:
                     done.add(text)
+                    if setup not in self.rows:
+                        self.keys[setup] = key
                     yield case
 
     def save(self, cases: tuple[Case, ...], batch: DoneBatch) -> None:
         results = self.results
         with results.whole():
             for case, done in zip(cases, batch.done):
-                if case.setup not in self.rows:
-                    self.rows[case.setup] = results.put_setup(self.key(case.setup), case.setup, self.program_digest, self.rules)
-                row = self.rows[case.setup]
-                run = results.put_run(row, case.upsets, done.verdict, done.seconds, done.beyond)
+                run = results.put_run(self.row(case.setup), case.upsets, done.verdict, done.seconds, done.beyond)
                 if done.files and self.kept < MOST_KEPT:
                     self.keep_files(run, case, done)
             for setup, report in batch.reports.items():
-                results.put_report(self.rows[setup], report)
+                results.put_report(self.row(setup), report)
+
+    def row(self, setup: Setup) -> int:
+        """The row of a setup, which is made where there is none."""
+        if setup not in self.rows:
+            if len(self.rows) >= MOST_ROWS:
+                self.rows.clear()
+            key = self.keys.pop(setup, "") or self.key(setup)
+            self.rows[setup] = self.results.put_setup(key, setup, self.program_digest, self.rules)
+        return self.rows[setup]
 
     def keep_files(self, run: int, case: Case, done: Done) -> None:
         """Keeps the folder of a run, with the command line that repeats it there."""
@@ -161,7 +173,7 @@ def do_missing(call: Call, workers: int, scheduler: str | None, scratch: str | N
     common = call.common(scratch)
     try:
         with client_of(workers, scheduler) as client, progress(call.total, call.there) as advance:
-            distribution = Distribution(client, common)
+            distribution = Distribution(client, common, call.total - call.there)
             for cases, batch in distribution.results(chained(first, missing)):
                 call.save(cases, batch)
                 done += len(cases)
@@ -201,28 +213,34 @@ def summary(results: Results) -> Iterator[str]:
 
 def do_campaign(path: str, results_path: str, keep: str, workers: int, scheduler: str | None, scratch: str | None) -> int:
     given = read_campaign(path)
-    results = Results(results_path, is_new=True)
-    call = Call(given, results, keep)
-    results.begin(given.name, given.text)
-    results.put_facts({"failed": " ".join(given.failed)})
-    results.put_files(call.campaign.files)
-    began = time.monotonic()
-    done, took_part, lost = do_missing(call, workers, scheduler, scratch)
-    by = f" by {took_part} workers" if took_part > 1 else ""
-    print(f"{given.name}: {done} runs in {time.monotonic() - began:.1f} s{by}, and {call.there} were there in {results_path}")
+    with contextlib.closing(Results(results_path, is_new=True)) as results:
+        call = Call(given, results, keep)
+        results.begin(given.name, given.text)
+        results.put_facts({"failed": " ".join(given.failed)})
+        results.put_files(call.campaign.files)
+        began = time.monotonic()
+        done, took_part, lost = do_missing(call, workers, scheduler, scratch)
+        by = f" by {took_part} workers" if took_part > 1 else ""
+        print(f"{given.name}: {done} runs in {time.monotonic() - began:.1f} s{by}, and {call.there} were there in {results_path}")
+        is_failing = show(call, results)
+    if lost:
+        raise Unusable(f"{lost} runs were lost with their workers: the same command does them again")
+    return UNMET if is_failing else WELL
+
+
+def show(call: Call, results: Results) -> bool:
+    """Prints how the runs ended, and says whether some failed."""
     for line in summary(results):
         print(line)
-    failed = list(results.rows(f"outcome IN ({', '.join('?' * len(given.failed))}) OR differing > 0", given.failed))
+    wanted = call.given.failed
+    failed = list(results.rows(f"outcome IN ({', '.join('?' * len(wanted))}) OR differing > 0", wanted))
     for row in failed[:5]:
-        print(f"failed: run {row.run}: {row.outcome}: {row.why or row.upsets.strip()}: xm campaign --repeat {results_path} {row.run} run{row.run}")
+        print(f"failed: run {row.run}: {row.outcome}: {row.why or row.upsets.strip()}: xm campaign --repeat {results.path} {row.run} run{row.run}")
     if len(failed) > 5:
         print(f"failed: {len(failed)} runs, the first 5 are shown")
     if call.kept:
-        print(f"kept: the folders of {call.kept} runs in {keep}")
-    results.close()
-    if lost:
-        raise Unusable(f"{lost} runs were lost with their workers: the same command does them again")
-    return UNMET if failed else WELL
+        print(f"kept: the folders of {call.kept} runs in {call.keep}")
+    return bool(failed)
 
 
 def repeat(results: Results, run: str, folder: str) -> int:
@@ -243,28 +261,47 @@ def repeat(results: Results, run: str, folder: str) -> int:
     return WELL if status == 0 else UNUSABLE
 
 
+def page(results: Results, path: str) -> int:
+    from xm_tools.campaign_page import page_of
+
+    failed = failed_of(results)
+    write_over(path, page_of(results, lambda row: is_failed(row, failed)).encode(), results.path)
+    return WELL
+
+
+def table(results: Results, by: str) -> int:
+    """Prints outcomes by place, bit, tick or partition: a row for each, a column for each outcome, numbers to the right."""
+    from xm_tools.tallies import BY, Tallies
+
+    if by not in BY:
+        raise Unusable(f"{by} is none of {', '.join(BY)}")
+    tallies = Tallies(results, lambda row: False)
+    rows = [[str(cell) for cell in row] for row in [tallies.heads(by), *tallies.rows(by)]]
+    widths = [max(map(len, column)) for column in zip(*rows)]
+    for first, *others in rows:
+        print("  ".join([first.ljust(widths[0]), *(cell.rjust(width) for cell, width in zip(others, widths[1:]))]))
+    return WELL
+
+
+def csv_rows(results: Results) -> int:
+    rows = csv.writer(sys.stdout, lineterminator="\n")
+    rows.writerow(COLUMNS)
+    rows.writerows([getattr(row, column) for column in COLUMNS] for row in results.rows())
+    return WELL
+
+
+# The forms that read results, with how many words each has.
+FORMS: dict[str, tuple[Callable[..., int], int]] = {"--report": (page, 2), "--table": (table, 2), "--csv": (csv_rows, 1), "--repeat": (repeat, 3)}
+
+
 def run(given: list[str]) -> int:
-    words = words_of(USAGE, given, 1, 3, ("--results", "--keep", "--workers", "--scheduler", "--scratch"), ("--report", "--csv", "--repeat"))
-    forms = [form for form in ("--report", "--csv", "--repeat") if words.has(form)]
-    needed = {"--report": 2, "--csv": 1, "--repeat": 3}[forms[0]] if forms else 1
-    if len(forms) > 1 or len(words.plain) != needed or (forms and len(words.options) > 1):
+    words = words_of(USAGE, given, 1, 3, ("--results", "--keep", "--workers", "--scheduler", "--scratch"), tuple(FORMS))
+    forms = [FORMS[form] for form in FORMS if words.has(form)]
+    if len(forms) > 1 or len(words.plain) != (forms[0][1] if forms else 1) or (forms and len(words.options) > 1):
         raise words.fail()
     path = words.plain[0]
-    if forms == ["--csv"]:
-        results = Results(path)
-        rows = csv.writer(sys.stdout, lineterminator="\n")
-        rows.writerow(COLUMNS)
-        rows.writerows([getattr(row, column) for column in COLUMNS] for row in results.rows())
-        return WELL
-    if forms == ["--repeat"]:
-        return repeat(Results(path), *words.plain[1:])
-    if forms == ["--report"]:
-        from xm_tools.campaign_page import page_of
-
-        results = Results(path)
-        failed = failed_of(results)
-        write_over(words.plain[1], page_of(results, lambda row: is_failed(row, failed)).encode(), path)
-        return WELL
+    if forms:
+        return forms[0][0](Results(path), *words.plain[1:])
     workers = words.number("--workers")
     if workers is not None and (not 1 <= workers <= MOST_WORKERS or words.has("--scheduler")):
         raise words.fail()
