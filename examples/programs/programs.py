@@ -293,12 +293,18 @@ def packed(program: str, folder: Path, text: str, shown: list[Program]) -> None:
     must([program, "xmpack", "build", "system.xmc", "system.xmp", *images], cwd=folder)
 
 
+def processor_seconds() -> float:
+    """The processor time of all children that have ended."""
+    used = resource.getrusage(resource.RUSAGE_CHILDREN)
+    return used.ru_utime + used.ru_stime
+
+
 def run(program: str, folder: Path, shown: list[Program], ticks: int) -> tuple[str, float]:
     """The report of a run, and the seconds of processor time that it took."""
     inputs = [word for number, one in enumerate(shown) if one.input for word in ("--input", f"{number}={one.folder / 'input'}")]
-    before = resource.getrusage(resource.RUSAGE_CHILDREN).ru_utime
+    before = processor_seconds()
     done = subprocess.run([program, "run", "system.xmp", "--ticks", str(ticks), *inputs], cwd=folder, capture_output=True)
-    used = resource.getrusage(resource.RUSAGE_CHILDREN).ru_utime - before
+    used = processor_seconds() - before
     report = done.stdout.decode("latin-1")
     (folder / "report").write_text(report)
     if done.returncode != 0:
@@ -323,9 +329,9 @@ def run_alone(simulator: str, program: Program, programs: list[Program]) -> list
     report, seconds = run(simulator, folder, [program], MOST_TICKS)
     found = outcome(report, 0)
     faults = differences(program, found, (program.folder / "expected").read_text())
-    entry = {"instructions": found.instructions, "seconds": round(seconds, 1), "console": found.console, "same": not faults}
+    entry = {"instructions": found.instructions, "seconds": round(seconds, 4), "console": found.console, "same": not faults}
     (program.folder / "alone.json").write_text(json.dumps(entry))
-    print(f"{program.name}: {found.instructions} instructions, {seconds:.1f} s, {'; '.join(faults) or 'the same'}", flush=True)
+    print(f"{program.name}: {found.instructions} instructions, {seconds:.3f} s, {'; '.join(faults) or 'the same'}", flush=True)
     return faults
 
 
@@ -358,9 +364,9 @@ def run_together(simulator: str, shown: list[Program], programs: list[Program]) 
         if found.instructions != entry["instructions"]:
             faults.append(f"{program.name}: {found.instructions} instructions, in isolation {entry['instructions']}")
     memory = sum(program.memory for program in shown)
-    result = {"partitions": len(shown), "instructions": instructions, "seconds": round(seconds, 1), "memory": memory, "faults": faults}
+    result = {"partitions": len(shown), "instructions": instructions, "seconds": round(seconds, 4), "memory": memory, "faults": faults}
     (MADE / "together.json").write_text(json.dumps(result))
-    print(f"together: {len(shown)} partitions, {frames} frames of {sum(slots)} ticks, {seconds:.1f} s", flush=True)
+    print(f"together: {len(shown)} partitions, {frames} frames of {sum(slots)} ticks, {seconds:.3f} s", flush=True)
     return faults
 
 
@@ -369,18 +375,18 @@ def run_together(simulator: str, shown: list[Program], programs: list[Program]) 
 
 def rows(programs: list[Program]) -> list[str]:
     """A row for each program that was run alone, and one for the run of all together."""
-    out = ["| Program | What runs | Instructions | Seconds | Memory | Console |", "|---|---|---|---|---|---|"]
+    out = ["| Program | What runs | Instructions | Milliseconds | Memory | Console |", "|---|---|---|---|---|---|"]
     for program in programs:
         path = program.folder / "alone.json"
         if path.exists():
             entry = json.loads(path.read_text())
             same = "status 0, prints nothing" if not program.native else "the same"
-            numbers = f"{entry['instructions']:,} | {entry['seconds']} | {program.memory} KB"
+            numbers = f"{entry['instructions']:,} | {1000 * entry['seconds']:,.0f} | {program.memory} KB"
             out.append(f"| `{program.name}` | {program.shows} | {numbers} | {same if entry['same'] else 'differs'} |")
     together = MADE / "together.json"
     if together.exists():
         entry = json.loads(together.read_text())
-        numbers = f"{entry['instructions']:,} | {entry['seconds']} | {entry['memory']} KB"
+        numbers = f"{entry['instructions']:,} | {1000 * entry['seconds']:,.0f} | {entry['memory']} KB"
         same = "differs" if entry["faults"] else "of each, as in isolation"
         out.append(f"| together | {entry['partitions']} of them as the partitions of one system | {numbers} | {same} |")
     return out

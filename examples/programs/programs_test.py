@@ -106,11 +106,11 @@ def test_the_table_has_what_was_run(tmp_path: Path, monkeypatch: pytest.MonkeyPa
     (tmp_path / "two").mkdir()
     alone = {"instructions": 12345, "seconds": 0.5, "console": "", "same": True}
     (tmp_path / "two/alone.json").write_text(json.dumps(alone))
-    assert tried.rows(programs)[2:] == ["| `two` | b | 12,345 | 0.5 | 420 KB | the same |"]
+    assert tried.rows(programs)[2:] == ["| `two` | b | 12,345 | 500 | 420 KB | the same |"]
     (tmp_path / "two/alone.json").write_text(json.dumps({**alone, "same": False}))
     together = {"partitions": 1, "instructions": 12345, "seconds": 0.6, "memory": 420, "faults": []}
     (tmp_path / "together.json").write_text(json.dumps(together))
     assert tried.rows(programs)[2:] == [
-        "| `two` | b | 12,345 | 0.5 | 420 KB | differs |",
-        "| together | 1 of them as the partitions of one system | 12,345 | 0.6 | 420 KB | of each, as in isolation |",
+        "| `two` | b | 12,345 | 500 | 420 KB | differs |",
+        "| together | 1 of them as the partitions of one system | 12,345 | 600 | 420 KB | of each, as in isolation |",
     ]
