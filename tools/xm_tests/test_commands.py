@@ -382,6 +382,8 @@ P1 HM *DIVIDE* times 3
 P1 HM at least 3
 P1 HM at most 3
 P0 within 6ms of P1 HM CON "sensor: event 9 *"
+P0 within 6ms of any P1 HM CON "sensor: event 9 *"
+P0 within 1s of any P2 HM CON
 P0 within 200us of [42000] CON "plan 1"
 supervisor CON "maintenance after plan 0"
 P1 resets = 0
@@ -400,12 +402,14 @@ UNMET = [
     ("no HM", "3 found, the first is [8011] P1 HM XM_HM_EV_SPARC_DIVIDE_EXCEPTION 401c01a4 XM_HM_AC_HALT"),
     ("P2 CON times 8", "7 found"), ("P2 TRACE", "0 found"), ("P1 resets > 0", "resets is 0"), ("P2 ends ready", "ends is idle"),
     ("P0 within 4ms of P1 HM CON sensor*", "after [8011] the first is at [12508], 4497 us later"), ("P7 ends idle", "there is no P7"),
+    ("P0 within 4ms of any P1 HM CON sensor*", "after [8011] the first is at [12508], 4497 us later"),
     ("P0 within 1s of P1 HALT CON sensor*", "after [44624] none comes"), ("P0 within 1s of P2 HM CON", "what it is measured from does not come"),
     ("all succeed", "P2 ends idle"), ("P2 succeeds", "P2 ends idle"), ("P7 succeeds", "there is no P7"),
 ]  # fmt: skip
 BAD_LINES = [
     ("P1", "a kind of line is missing at the end"), ("P1 WHAT", "WHAT is no kind of line: CON, TRACE, HM, UPSET, PLAN, HALT, SUSPEND, RESUME, COLD, WARM"),
     ("nobody HM", "nobody is no partition: P0, P1 .., XM, with --names SYSTEM also a name of it"), ("P1 within 3 of [0] HM", "3 is no time: 20ms, 500us, 1s"),
+    ("P1 within 3ms of any nobody HM", "nobody is no partition: P0, P1 .., XM, with --names SYSTEM also a name of it"),
     ("P1 CON x times", "a number is missing at the end"), ("P1 CON x at three", "after `at` comes `least` or `most`"), ("P1 ends running", "running is no state in which P1 ends"),
     ("XM resets 0", "XM has no resets at its end"), ('P1 CON "x', "No closing quotation"),
     ("P1 HALT more", "more does not belong here"), ("all succeed more", "more does not belong here"),
@@ -417,9 +421,9 @@ def test_expectations_that_are_met(supervisor: Path) -> None:
     (supervisor / "met").write_text(MET)
     done = xm(supervisor, "expect", "report.txt", "met", "--names", "out/system.xmp", "--junit", "junit.xml")
     assert (done.status, done.err) == (0, "")
-    assert [line for line in done.out.splitlines() if ": met: " not in line] == ["report.txt: 18 met, 0 not met"]
+    assert [line for line in done.out.splitlines() if ": met: " not in line] == ["report.txt: 20 met, 0 not met"]
     suite = ElementTree.parse(supervisor / "junit.xml").getroot().find("testsuite")
-    assert suite is not None and (suite.get("tests"), suite.get("failures")) == ("18", "0")
+    assert suite is not None and (suite.get("tests"), suite.get("failures")) == ("20", "0")
 
 
 @pytest.mark.parametrize("words, reason", UNMET)

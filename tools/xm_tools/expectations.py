@@ -74,8 +74,10 @@ def counted(pattern: Pattern, comparison: str, wanted: int) -> Callable[[Report]
     return unmet
 
 
-def comes_within(pattern: Pattern, ticks: int, begins: Callable[[Report], list[int]]) -> Callable[[Report], str | None]:
-    """After each of some ticks a line comes within a number of ticks."""
+def comes_within(
+    pattern: Pattern, ticks: int, begins: Callable[[Report], list[int]], needs_one: bool = True
+) -> Callable[[Report], str | None]:
+    """After each of some ticks a line comes within a number of ticks, and there is such a tick where one is needed."""
 
     def unmet(report: Report) -> str | None:
         found = [line.tick for line in pattern.of(report)]
@@ -87,7 +89,7 @@ def comes_within(pattern: Pattern, ticks: int, begins: Callable[[Report], list[i
                 return f"after [{begin}] " + (
                     "none comes" if after is None else f"the first is at [{after}], {after - begin} us later"
                 )
-        return None if causes else "what it is measured from does not come"
+        return None if causes or not needs_one else "what it is measured from does not come"
 
     return unmet
 
@@ -230,8 +232,11 @@ class Parser:
             self.take("a tick")
             begin = int(place[1])
             return comes_within(self.pattern(owner), ticks, lambda report: [begin])
+        needs_one = self.peek() != "any"
+        if not needs_one:
+            self.take("any")
         cause = self.pattern(self.owner())
-        return comes_within(self.pattern(owner), ticks, lambda report: [line.tick for line in cause.of(report)])
+        return comes_within(self.pattern(owner), ticks, lambda report: [line.tick for line in cause.of(report)], needs_one)
 
     def ended(self, owner: str) -> Callable[[Report], str | None]:
         name = self.take("a value")

@@ -6,7 +6,8 @@ Compares a report with expectations, one a line of FILE; what follows a # is no 
   P3 CON "wheels: *"                             a line of this kind whose text fits, * and ? standing for any marks
   P3 CON "wheels: *" times 4                     as many of them; or `at least 4`, `at most 4`
   P3 within 20ms of [16005] CON "wheels: *"      one comes at most 20 ms after a tick
-  P3 within 20ms of P0 CON "go *" CON "wheels*"  one comes at most 20 ms after each line of another kind
+  P3 within 20ms of P0 CON "go *" CON "wheels*"  one comes at most 20 ms after each line of another kind, and there is such a line;
+                                                 with `of any P0` there may be none
   all succeed                                    every partition halted by itself with status 0; `P3 succeeds` for one
   P2 ends idle                                   how it ends; for XM running or halted
   P0 resets <= 2                                 a number of its END line: resets, exec; of XM plan, clock, ticks
