@@ -76,7 +76,7 @@ def test_the_report_meets_its_expectations(tmp_path: Path) -> None:
     ("old", "new", "expectation"),
     [
         ("XM_HM_AC_PARTITION_WARM_RESET", "XM_HM_AC_HALT", "gyro HM *DIVIDE*WARM_RESET times 3"),
-        ("[266312] P1 CON", "[268080] P1 CON", "gyro within 4ms of gyro HM"),
+        ("[266318] P1 CON", "[268080] P1 CON", "gyro within 4ms of gyro HM"),
         ("gyro: dropped word 6", "gyro: dropped word 5", 'gyro CON "gyro: dropped word 6"'),
         ("[280681] P0 CON", "[284080] P0 CON", "fdir within 20ms of gyro HM"),
         ("[581149] P0 CON fdir: ask for plan 1\\n\n", "", "XM within 20ms of fdir"),
