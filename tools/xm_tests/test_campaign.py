@@ -36,7 +36,7 @@ from xm_tools.program_file import program_file
 from xm_tools.progress import EVERY, Lines, time_in_words
 from xm_tools.results import Row
 from xm_tools.running import Done as DoneRun
-from xm_tools.running import Bench, Common, DoneBatch, Room, Words, digest_of, do_batch, remove_left_over, tools_files
+from xm_tools.running import Common, DoneBatch, Room, Words, digest_of, do_batch, remove_left_over, tools_files
 from xm_tools.system import Area, Partition
 from xm_tools.tallies import place_key, place_name
 from xm_tools.upset_sets import BlockReader, Upset, UpsetSet, upsets_of_text
@@ -391,20 +391,6 @@ def test_generated_words_are_those_that_the_page_says() -> None:
     numbers = [int.from_bytes(drawn[at : at + 8], "big") for at in (0, 8)]
     wanted = b"".join((5 + number % 100).to_bytes(4, "big") for number in numbers)
     assert Words(1, "gyro", 0, 2, 5, 104).content() == wanted
-
-
-def test_files_of_a_run_stay_where_a_worker_has_many(tmp_path: Path, monkeypatch: pytest.MonkeyPatch) -> None:
-    """A run names its container first: that has to be there, too, when the run's words are the one file too many."""
-    monkeypatch.setattr("xm_tools.running.MOST_FILES", 40)
-    bench = Bench(Common("many", b"", {"container": b"box"}, scratch=str(tmp_path)))
-    try:
-        for number in range(90):
-            paths = [bench.path_of("container"), *(bench.path_of(Words(1, name, number, 2, 0, 9)) for name in ("a", "b"))]
-            assert all(Path(path).is_file() for path in paths)
-        assert Path(paths[0]).read_bytes() == b"box"
-        assert len(list(bench.room.iterdir())) <= 41
-    finally:
-        bench.remove()
 
 
 GOOD = text_for(["g1"])

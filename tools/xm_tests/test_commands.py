@@ -403,7 +403,7 @@ UNMET = [
     ("P2 CON times 8", "7 found"), ("P2 TRACE", "0 found"), ("P1 resets > 0", "resets is 0"), ("P2 ends ready", "ends is idle"),
     ("P0 within 4ms of P1 HM CON sensor*", "after [8011] the first is at [12508], 4497 us later"), ("P7 ends idle", "there is no P7"),
     ("P0 within 4ms of any P1 HM CON sensor*", "after [8011] the first is at [12508], 4497 us later"),
-    ("P0 within 1s of P1 HALT CON sensor*", "after [44624] none comes"), ("P0 within 1s of P2 HM CON", "what it is measured from does not come"),
+    ("P0 within 1s of P1 HALT CON sensor*", "after [44607] none comes"), ("P0 within 1s of P2 HM CON", "what it is measured from does not come"),
     ("all succeed", "P2 ends idle"), ("P2 succeeds", "P2 ends idle"), ("P7 succeeds", "there is no P7"),
 ]  # fmt: skip
 BAD_LINES = [
@@ -490,13 +490,13 @@ def test_reports_that_are_the_same(supervisor: Path) -> None:
 def test_the_first_tick_that_differs(supervisor: Path) -> None:
     """Another partition's console text with the marks of a line does not make a difference."""
     text = (supervisor / "report.txt").read_text()
-    (supervisor / "other.txt").write_text(text.replace("reading 250", "reading [3] P2 CON", 2).replace("exec=1484", "exec=1485"))
+    (supervisor / "other.txt").write_text(text.replace("reading 250", "reading [3] P2 CON", 2).replace("exec=1445", "exec=1446"))
     done = xm(supervisor, "compare", "report.txt", "other.txt")
     assert done.status == 1
     assert done.out.splitlines() == [
         "P0: the same",
-        "P1: differs from tick 2574 on", "  report.txt: [2574] P1 CON reading 250\\n", "  other.txt: [2574] P1 CON reading [3] P2 CON\\n",
-        "P2: ends otherwise", "  report.txt: END P2 idle resets=0 exec=1484 pc=40200120", "  other.txt: END P2 idle resets=0 exec=1485 pc=40200120",
+        "P1: differs from tick 2535 on", "  report.txt: [2535] P1 CON reading 250\\n", "  other.txt: [2535] P1 CON reading [3] P2 CON\\n",
+        "P2: ends otherwise", "  report.txt: END P2 idle resets=0 exec=1445 pc=40240140", "  other.txt: END P2 idle resets=0 exec=1446 pc=40240140",
         "XM: the same",
     ]  # fmt: skip
 
@@ -530,7 +530,7 @@ def test_json_and_csv(supervisor: Path) -> None:
     lines = (supervisor / "report.txt").read_text().splitlines()[1:-4]
     found = json.loads(xm(supervisor, "export", "--json", "report.txt").out)
     assert [f"[{line['tick']}] {line['owner']} {line['kind']} {line['text']}".strip() for line in found["lines"]] == lines
-    assert found["ends"][1] == {"owner": "P1", "name": "P1", "state": "halted", "resets": 0, "exec": 625, "pc": 0x4018004C}
+    assert found["ends"][1] == {"owner": "P1", "name": "P1", "state": "halted", "resets": 0, "exec": 608, "pc": 0x401C0274}
     rows = list(csv.DictReader(io.StringIO(xm(supervisor, "export", "--csv", "report.txt", "--system", "supervisor.xml").out)))
     assert [f"[{row['tick']}] {row['owner']} {row['kind']} {row['text']}".strip() for row in rows] == lines
     assert {row["name"] for row in rows if row["owner"] == "P1"} == {"sensor"}
@@ -542,8 +542,8 @@ def test_a_trace_for_perfetto(supervisor: Path) -> None:
     slots = [(event["ts"], event["dur"]) for event in found if event["name"] == "slot" and event["tid"] == 3]
     assert slots == [(4000 + 6000 * frame, 2000) for frame in range(7)]
     halted = [(event["ts"], event["dur"]) for event in found if event["name"] == "halted" and event["tid"] == 2]
-    assert halted == [(8012, 12860 - 8012), (20012, 24860 - 20012), (32012, 42162 - 32012), (44625, 54000 - 44625)]
-    assert {"ph": "i", "s": "t", "ts": 2574, "pid": 1, "tid": 2, "name": "CON reading 250\\n"} in found
+    assert halted == [(8012, 12860 - 8012), (20012, 24860 - 20012), (32012, 42162 - 32012), (44608, 54000 - 44608)]
+    assert {"ph": "i", "s": "t", "ts": 2535, "pid": 1, "tid": 2, "name": "CON reading 250\\n"} in found
 
 
 def changes(dump: str, name: str, scope: str) -> list[tuple[int, str]]:
@@ -566,7 +566,7 @@ def test_a_value_change_dump(supervisor: Path) -> None:
     assert changes(dump, "state", "sensor")[:3] == [(0, "b0"), (8012, "b11"), (12860, "b0")]
     assert changes(dump, "HM", "sensor") == [(8011, "1"), (20011, "1"), (32011, "1")]
     assert changes(dump, "slot", "payload")[1:5] == [(4000, "1"), (6000, "0"), (10000, "1"), (12000, "0")]
-    assert (4334, "spicture_1\\n") in changes(dump, "text", "payload")
+    assert (4295, "spicture_1\\n") in changes(dump, "text", "payload")
 
 
 def test_an_export_has_one_form(supervisor: Path) -> None:
