@@ -104,7 +104,7 @@ def page_of(system: Path, report: Path) -> Page:
 def test_dark_is_what_ran_in_every_tick(supervisor: Path) -> None:
     """The sensor ran from its last reset to its end in each tick of its slot; the others were idle."""
     shown = page_of(supervisor / "supervisor.xml", supervisor / "report.txt")
-    assert shown.ran(1) == [Interval(44000, 44625)]
+    assert shown.ran(1) == [Interval(44000, 44608)]
     assert shown.ran(0) == shown.ran(2) == []
 
 
