@@ -1,6 +1,7 @@
 """Tries flight.py: the words of the gyro against words worked by hand, and reports that differ in one thing.
 
-Tries attitude.expect in the same way: each line of it is met by the report, and refuses a report that differs in one thing.
+Tries attitude.expect and what the campaigns expect in the same way: each line is met by the report, and refuses a report that
+differs in one thing.
 
 usage: /usr/bin/python3 -m pytest examples/systems/attitude/flight_test.py
 """
@@ -57,11 +58,11 @@ def test_a_report_with_one_thing_wrong_differs(old: str, new: str, fault: str) -
     assert any(found.startswith(fault) for found in faults)
 
 
-def unmet(report: str, folder: Path) -> list[str]:
-    """The expectations that a report does not meet."""
+def unmet(report: str, folder: Path, expected: str = "attitude.expect") -> list[str]:
+    """The expectations of a file that a report does not meet."""
     path = folder / "report.txt"
     path.write_text(report, encoding="utf-8")
-    words = [HERE.parents[2] / "tools/xm", "expect", path, HERE / "attitude.expect", "--names", HERE / "attitude.xml"]
+    words = [HERE.parents[2] / "tools/xm", "expect", path, HERE / expected, "--names", HERE / "attitude.xml"]
     done = subprocess.run([sys.executable, *words], capture_output=True, text=True)
     found = [line.split(": not met: ", 1)[1] for line in done.stdout.splitlines() if ": not met: " in line]
     assert (done.returncode, done.stderr) == (1 if found else 0, "")
@@ -92,3 +93,36 @@ def test_the_report_meets_its_expectations(tmp_path: Path) -> None:
 def test_a_report_with_one_thing_wrong_is_refused(old: str, new: str, expectation: str, tmp_path: Path) -> None:
     assert old in REPORT
     assert any(found.startswith(expectation) for found in unmet(REPORT.replace(old, new, 1), tmp_path))
+
+
+# The runs of words.toml have ten frames, and so ten torques, more.
+MORE = "".join(f"[{1199929 + step}] P3 CON wheel: step {step} torque 0 speed 0\\n\n" for step in range(61, 71))
+REPORTS = {"upsets.expect": REPORT, "words.expect": REPORT.replace("END P0", f"{MORE}END P0")}
+
+
+@pytest.mark.parametrize("expected", REPORTS)
+def test_the_report_meets_what_campaigns_expect(expected: str, tmp_path: Path) -> None:
+    assert unmet(REPORTS[expected], tmp_path, expected) == []
+
+
+@pytest.mark.parametrize(
+    ("old", "new", "expected", "expectation"),
+    [
+        ("torque -20000", "torque -21000", "upsets.expect", 'wheel no CON "* torque *2[1-9]??? speed *"'),
+        ("torque 1056", "torque 31056", "upsets.expect", 'wheel no CON "* torque *[3-9]???? speed *"'),
+        ("torque 1056", "torque 131056", "upsets.expect", 'wheel no CON "* torque *[0-9]????? speed *"'),
+        ("[639999] XM PLAN 2\n", "", "upsets.expect", "XM PLAN 2 times 1"),
+        ("XM_HM_AC_PARTITION_WARM_RESET", "XM_HM_AC_PARTITION_COLD_RESET", "words.expect", "gyro no HM *COLD_RESET"),
+        ("[266318] P1 CON", "[268080] P1 CON", "words.expect", "gyro within 4ms of any gyro HM"),
+        ("[280681] P0 CON", "[284080] P0 CON", "words.expect", "fdir within 20ms of any gyro HM"),
+        ("[599999] XM PLAN 1\n", "", "words.expect", "XM within 20ms of any fdir"),
+        ("gyro: test 1", "gyro: test 0", "words.expect", "gyro within 20ms of any XM PLAN 1"),
+        ("[639999] XM PLAN 2\n", "", "words.expect", "XM within 60ms of any XM PLAN 1 PLAN 2"),
+        ("wheel: step 9 ", "wheel: late 9 ", "words.expect", 'wheel CON "wheel: step * torque * speed *" times 70'),
+        ("torque -20000", "torque -21000", "words.expect", 'wheel no CON "* torque *2[1-9]??? speed *"'),
+        ("[600072] P1 COLD\n", "[600072] P2 HALT\n", "words.expect", "no HALT"),
+    ],
+)
+def test_what_a_campaign_expects_refuses_one_thing_wrong(old: str, new: str, expected: str, expectation: str, tmp_path: Path) -> None:
+    assert old in REPORTS[expected]
+    assert any(found.startswith(expectation) for found in unmet(REPORTS[expected].replace(old, new, 1), tmp_path, expected))
