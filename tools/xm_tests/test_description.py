@@ -74,7 +74,7 @@ def edited(changes: list[tuple[str, str]], source: Path = THREE) -> bytes:
 def test_all_broken_rules_are_listed_with_lines_and_columns() -> None:
     lines = found(edited(THREE_RULES)).lines()
     places = [line.split(": ")[0] + " " + line.split(": ")[2] for line in lines if ": error: " in line]
-    assert places == ["x:9:5 rule 12 (slots_in_turn)", "x:10:5 rule 13 (slots_owned)", "x:22:3 rule 14 (consoles)"]
+    assert places == ["x:9:5 rule 12 (slots_in_turn)", "x:10:5 rule 13 (slots_owned)", "x:30:3 rule 14 (consoles)"]
     assert "x:8:5: note: the other element" in lines
     assert lines[-1] == "x: 3 broken rules"
 
@@ -223,7 +223,7 @@ def test_the_program_itself_agrees(tmp_path: Path, whole_program: str) -> None:
     done = xm(tmp_path, "check-description", "m.xml")
     assert (done.status, "disagrees" in done.out) == (1, False)
     done = xm(tmp_path, "check-description", str(THREE))
-    assert (done.status, done.out.splitlines()) == (0, [f"xm_run: {THREE}: ok length=209", f"{THREE}: no fault"])
+    assert (done.status, done.out.splitlines()) == (0, [f"xm_run: {THREE}: ok length=263", f"{THREE}: no fault"])
 
 
 def test_a_program_that_cannot_read_or_is_not_there(tmp_path: Path) -> None:
