@@ -1,4 +1,4 @@
-"""Tries what the scripts of this folder share, and what guest_speed and peers print, over figures and runs that are made up.
+"""Tries what the scripts of this folder share, and what guest_speed, peers and pack_speed print, over figures and runs that are made up.
 
 Tries the files that the Makefile makes for peers, too, where there is a cross compiler.
 """
@@ -91,6 +91,28 @@ def test_peers_are_compared_with_bare(capsys):
         ["two", "200", "50", "0.25", "200", "1.00"],
         ["mean", "141", "283", "2.00"],
     ]
+
+
+def test_sums_are_the_calls_of_the_function_of_md5(tmp_path):
+    path = tmp_path / "out"
+    path.write_text(
+        "fn=md5::Md5::absorb\n0x10 1 5\ncfn=md5::compress::compress\ncalls=30 0x20\n0x14 2 100\n"
+        "cfn=memcpy\ncalls=7 0x40\n0x18 2 9\ncfn=md5::compress::compress\ncalls=2 0x20\n0x1c 2 7\ntotals: 121\n"
+    )
+    assert script("pack_speed").sums_of(path, 1024) == 2
+
+
+def test_a_row_of_a_command_has_the_program_of_before():
+    row = script("pack_speed").row
+    assert row("list", [(21.5, 2, 31.8)]).split() == ["list", "21.5", "2.00", "31.8"]
+    both = row("list", [(21.5, 2, 30), (43, 3, 60)]).split()
+    assert both == ["list", "21.5", "2.00", "30.0", "43.0", "0.50", "3.00", "60.0", "0.50"]
+
+
+def test_the_image_that_is_packed_has_its_size_and_its_area():
+    text, image = script("pack_speed").system()
+    assert len(image) == (15 << 20) + 84
+    assert text.count('size="16MB"') == 1 and text.count('size="32MB"') == 1
 
 
 def pages_of(path, wanted):

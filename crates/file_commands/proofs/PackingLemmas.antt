@@ -1,14 +1,19 @@
 -- Files are read one after another, and what is packed of them.
-use Rattle.std.proofs.Common.{◌≡◌, ℕ, false, List, [], ◌∷◌, ◌++◌, map, drop, Option, Some, None, Result, Ok, Err, is_ok, is_err, if◌then◌else◌, refl, sym, ap, ◌∙◌, subst}
-use Rattle.std.proofs.lemmas.List.{append_assoc, append-nil, map-append}
+use Rattle.std.proofs.Common.{◌≡◌, ℕ, suc, ◌<◌, arith, false, List, [], ◌∷◌, ◌++◌, length, get_or, ◌+◌, map, drop, Option, Some, None, Result, Ok, Err, is_ok, is_err, if◌then◌else◌, refl, sym, ap, ◌∙◌, subst}
+use Rattle.std.proofs.Math.Seq.{drop-cons}
+use Rattle.std.proofs.lemmas.List.{append_assoc, append-nil, length-append, map-append}
 use Rattle.xm_base.specs.declared.limits.TheConstants.{FILE_BYTES}
 use Rattle.xm_outside.specs.Files.{Files, ReadsFile}
+use Rattle.xef_images.specs.Image.{Image}
+use Rattle.xef_images.specs.Reading.{xef}
+use Rattle.xef_images.specs.Spelling.{xef_text}
+use Rattle.xm_container.specs.Pack.{AreFilesOf}
 use Rattle.xm_container.specs.declared.image.Image.{Image as Given}
 use Rattle.command_line.specs.Words.{PartFile, Pack}
 use Rattle.file_commands.specs.Denial.{Denial}
 use Rattle.file_commands.specs.Ending.{Ending, Done, Usage, ReadFault, Refused, WriteFaultReport, WriteFaultFile, UartFault, NoMemory}
 use Rattle.file_commands.specs.Outcome.{Outcome, content, first_long, outcome_of, packed_to, unless_long, outcome_of_contents}
-use Rattle.file_commands.specs.Packing.{container_of, images_of, file_names}
+use Rattle.file_commands.specs.Packing.{container_of, image_before, image_by, images_of, file_names}
 use Rattle.file_commands.specs.lemmas.PackingTerms.{limited}
 use Rattle.file_commands.specs.lemmas.Read.{HasRead}
 use Rattle.file_commands.specs.Work.{Outside, AreNotRead, IsNotRead, IsOutOfMemory, ReadsFiles, after_store_call, called_for}
@@ -125,6 +130,52 @@ no_images (named ∷ files) = refl
 -- without contents nothing more is read
 pub no_more_contents : (read : List Given) (files : List PartFile) (contents : List (List ℕ)) → contents ≡ [] → after_images read (images_of files contents) ≡ Ok read
 no_more_contents read files contents none = ap (λ (c : List (List ℕ)). after_images read (images_of files c)) none ∙ ap (after_images read) (no_images files) ∙ ap Ok (append-nil read)
+
+-- an image more is at the end of those that were read
+regroup : (read pushed : List Given) (part : ℕ) (image : Image) (rest : Result (List Given) Denial) → pushed ≡ read ++ record { id = part; xef = image } ∷ [] → after_images read (image_before part (Ok image) rest) ≡ after_images pushed rest
+regroup read pushed part image (Ok images) is = ap (λ (list : List Given). Ok list) (sym (append_assoc read (record { id = part; xef = image } ∷ []) images) ∙ ap (λ (list : List Given). list ++ images) (sym is))
+regroup read pushed part image (Err refusal) is = refl
+
+-- an image more was read
+pub images_more : {X : Type 0} (f : X → List ℕ) (contents : List X) (read pushed : List Given) (image : Image) (named : PartFile) (files later : List PartFile) (x : X) (count : ℕ) (total : Result (List Given) Denial)
+    → pushed ≡ read ++ record { id = named.part; xef = image } ∷ [] → files ≡ named ∷ later → count < length contents → x ≡ get_or contents count x → image_by named.file (xef (f x)) ≡ Ok image
+    → total ≡ after_images read (images_of files (map f (drop count contents))) → total ≡ after_images pushed (images_of later (map f (drop (count + 1) contents)))
+images_more f contents read pushed image named files later x count total is_pushed is_files below here made so_far =
+    let next : drop count contents ≡ x ∷ drop (count + 1) contents
+    = drop-cons contents count x below ∙ ap (λ y. y ∷ drop (suc count) contents) (sym here) ∙ ap (λ n. x ∷ drop n contents) (let after : suc count ≡ count + 1 = omega arith in after) in
+    let one : images_of files (map f (drop count contents)) ≡ image_before named.part (Ok image) (images_of later (map f (drop (count + 1) contents)))
+    = ap (λ (list : List PartFile). images_of list (map f (drop count contents))) is_files
+    ∙ ap (λ list. images_of (named ∷ later) (map f list)) next
+    ∙ ap (λ (found : Result Image Denial). image_before named.part found (images_of later (map f (drop (count + 1) contents)))) made in
+    so_far ∙ ap (after_images read) one ∙ regroup read pushed named.part image (images_of later (map f (drop (count + 1) contents))) is_pushed
+
+-- without images there is none of another file
+files_none : (files : List (List ℕ)) → AreFilesOf files []
+files_none [] = tt
+files_none (file ∷ files) = tt
+
+-- without images there is no image of another file
+pub files_begun : (files : List (List ℕ)) (images : List Given) → images ≡ [] → AreFilesOf files images
+files_begun files images none = subst (λ (list : List Given). AreFilesOf files list) (sym none) (files_none files)
+
+-- the next file is that of one image more
+files_more : {X : Type 0} (f : X → List ℕ) (contents : List X) (images : List Given) (image : Given) (x : X) (count : ℕ) → length images ≡ count → AreFilesOf (map f contents) images → x ≡ get_or contents count x
+    → f x ≡ xef_text image.xef → AreFilesOf (map f contents) (images ++ image ∷ [])
+files_more f [] images image x count counted are here is = tt
+files_more f (first ∷ contents) [] image x count counted are here is =
+    let same : x ≡ first = subst (λ (n : ℕ). x ≡ get_or (first ∷ contents) n x) (sym counted) here in
+    (ap f (sym same) ∙ is, files_none (map f contents))
+files_more f (first ∷ contents) (other ∷ images) image x count counted are here is =
+    let next : x ≡ get_or contents (length images) x = subst (λ (n : ℕ). x ≡ get_or (first ∷ contents) n x) (sym counted) here in
+    (are.0, files_more f contents images image x (length images) refl are.1 next is)
+
+-- the file of an image that is read belongs to it, where what was read is known by other words
+pub files_pushed : {X : Type 0} (f : X → List ℕ) (contents : List X) (images pushed : List Given) (image : Given) (x : X) (count : ℕ) → pushed ≡ images ++ image ∷ [] → length images ≡ count
+    → AreFilesOf (map f contents) images → x ≡ get_or contents count x → f x ≡ xef_text image.xef → AreFilesOf (map f contents) pushed × (length pushed ≡ count + 1)
+files_pushed f contents images pushed image x count is counted are here text = (
+  subst (λ (list : List Given). AreFilesOf (map f contents) list) (sym is) (files_more f contents images image x count counted are here text),
+  ap length is ∙ length-append images (image ∷ []) ∙ ap (λ n. n + 1) counted,
+)
 
 -- What is packed.
 

@@ -1,8 +1,9 @@
 //! A configuration and the images of its partitions are packed into a container.
 
-ghost use Rattle.std.specs.Prelude.{◌≡◌, ◌∷◌, drop, map};
+ghost use Rattle.std.specs.Prelude.{◌≡◌, ◌∷◌, IfOk, drop, map};
 ghost use Rattle.xef_images.specs.Reading.{xef};
-ghost use Rattle.xm_container.specs.Pack.{packed};
+ghost use Rattle.xef_images.specs.Spelling.{xef_text};
+ghost use Rattle.xm_container.specs.Pack.{AreFilesOf, packed};
 ghost use Rattle.fault_messages.specs.Texts.{pack_fault_text};
 ghost use Rattle.builders.specs.Makes.{IsRefusalText};
 ghost use Rattle.file_commands.specs.Outcome.{content, first_long};
@@ -23,7 +24,7 @@ use command_line::{PartFile, PartFiles};
 use std::alloc::Global;
 use xef_images::{Xef, read_xef};
 use xm_conf::Conf;
-use xm_container::{Image, PackFault, pack};
+use xm_container::{Image, PackFault, pack_with_files};
 use xm_outside::{Sink, Store};
 
 /// Reads a configuration and the images of its partitions, and writes their container.
@@ -103,21 +104,24 @@ fn container_with<'a>(
     ensures value { MakesOr vector_bytes result (container_with configuration.now conf.now (images_of (seen_files images.entry) (map vector_bytes contents.now))) }
 {
     match read_images(alloc, images, contents) {
-        Ok(images) => container_by(alloc, configuration, conf, &images),
+        Ok(images) => container_by(alloc, configuration, conf, &images, contents),
         Err(ending) => Err(ending),
     }
 }
 
-// The container of a configuration and of images that were read.
+// The container of a configuration and of images that were read, by the bytes of their files, whose digests were seen to
+// be right when they were read.
 fn container_by<'a>(
     alloc: Global,
     configuration: &'a str,
     conf: &Conf,
     images: &[Image],
+    contents: &[Vec<u8>],
 ) -> Result<Vec<u8>, Ending<'a>>
+    requires { AreFilesOf (map vector_bytes contents.now) images.now }
     ensures value { MakesOr vector_bytes result (container_by configuration.now (packed conf.now images.now)) }
 {
-    match pack(alloc, conf, images) {
+    match pack_with_files(alloc, conf, images, contents) {
         Ok(bytes) => Ok(bytes),
         Err(fault) => Err(unmade(configuration, no_packing(alloc, fault))),
     }
@@ -130,6 +134,7 @@ fn read_images<'a>(
     contents: &[Vec<u8>],
 ) -> Result<Vec<Image>, Ending<'a>>
     ensures value { MakesOr (λ images. images.items) result (images_of (seen_files images.entry) (map vector_bytes contents.now)) }
+    ensures files { IfOk result (λ images. AreFilesOf (map vector_bytes contents.now) images.items) }
 {
     let mut read = Vec::new(alloc);
     let mut rest = images;
@@ -156,6 +161,7 @@ fn read_images<'a>(
 // The image of a partition, by the bytes of its file.
 fn read_image<'a>(alloc: Global, named: PartFile<'a>, bytes: &[u8]) -> Result<Xef, Ending<'a>>
     ensures value { MakesOr (λ image. image) result (image_by (seen_file named.entry).file (xef bytes.now)) }
+    ensures text { IfOk result (λ image. bytes.now ≡ xef_text image) }
 {
     match read_xef(alloc, bytes) {
         Ok(xef) => Ok(xef),

@@ -2,6 +2,7 @@ pub mod AssignedLemmas
 pub mod BoxLemmas
 pub mod DigestLemmas
 pub mod FaultLemmas
+pub mod FileLemmas
 pub mod Fronts
 pub mod LineLemmas
 pub mod NumberLemmas

@@ -1,10 +1,11 @@
 -- What the lines of a container are made of.
-use Rattle.std.proofs.Common.{◌≡◌, ℕ, suc, ◌+◌, ◌-◌, ◌≤◌, List, ◌∷◌, ◌++◌, length, drop, Some, Ok, sym, ap, ◌∙◌, append_assoc, arith, codes}
-use Rattle.std.specs.Prelude.{slice_get}
+use Rattle.std.proofs.Common.{◌≡◌, ℕ, suc, ◌+◌, ◌-◌, ◌≤◌, List, ◌∷◌, ◌++◌, length, drop, Some, Ok, sym, ap, subst, ◌∙◌, append_assoc, arith, codes}
+use Rattle.std.specs.Prelude.{All, slice_get}
 use Rattle.std.proofs.Math.Seq.{drop-cons}
 use Rattle.std.proofs.lemmas.List.{append-nil, drop_all}
+use Rattle.std.proofs.lemmas.List.Elements.{All-get_or}
 use Rattle.std.proofs.lemmas.Option.{get_or_from_slice_get, slice_get_within}
-use Rattle.xef_images.specs.Image.{Image}
+use Rattle.xef_images.specs.Image.{Image, IsImage}
 use Rattle.md5.specs.Md5.{md5}
 use Rattle.xef_images.specs.Spelling.{before_text, xef_text}
 use Rattle.xef_images.specs.lemmas.XefLemmas.{digest_at_end}
@@ -23,12 +24,17 @@ unpacked_long bytes system e =
     omega (arith, (unsealed_takes box_faults (codes "XMPK") 2 bytes s.value s.is).count)
 
 -- an image, and those after it
-image_first : (images : List Image) (id : ℕ) (image : Image) → slice_get images id ≡ Some image → drop id images ≡ image ∷ drop (id + 1) images
+pub image_first : (images : List Image) (id : ℕ) (image : Image) → slice_get images id ≡ Some image → drop id images ≡ image ∷ drop (id + 1) images
 image_first images id image some =
     let below = slice_get_within images id image some in
     drop-cons images id image below
     ∙ ap (λ x. x ∷ drop (suc id) images) (get_or_from_slice_get images id image image some)
     ∙ ap (λ n. image ∷ drop n images) (let next : suc id ≡ id + 1 = omega arith in next)
+
+-- an image that is there may be loaded
+pub image_loads : (images : List Image) (id : ℕ) (image : Image) → All IsImage images → slice_get images id ≡ Some image → IsImage image
+image_loads images id image each some =
+    subst IsImage (get_or_from_slice_get images id image image some) (All-get_or IsImage images id image (slice_get_within images id image some) each)
 
 -- a line more
 pub lines_on : (images : List Image) (id : ℕ) (image : Image) (front whole : List ℕ) → slice_get images id ≡ Some image

@@ -5,6 +5,7 @@ use Rattle.xm_base.specs.declared.limits.TheConstants.{FILE_BYTES}
 use Rattle.bin_config.specs.declared.version.Version.TheVariants.{Two}
 use Rattle.xm_conf.specs.Configuration.{Conf}
 use Rattle.xef_images.specs.Image.{Image}
+use Rattle.xef_images.specs.Spelling.{xef_text}
 use Rattle.loaded_system.specs.Inside.{first_outside}
 use Rattle.loaded_system.specs.System.{System}
 use Rattle.loaded_system.specs.declared.system.Outside.{Outside}
@@ -22,6 +23,12 @@ partition_numbers images = map (λ image. image.id) images
 abbrev pub image_of : List Given → ℕ → Option Image
 image_of [] id = None
 image_of (image ∷ later) id = if image.id == id then Some image.xef else image_of later id
+
+-- each of the files is that of the image at its place
+abbrev pub AreFilesOf : List (List ℕ) → List Given → Type 0
+AreFilesOf [] images = Unit {0}
+AreFilesOf (file ∷ files) [] = Unit {0}
+AreFilesOf (file ∷ files) (image ∷ images) = (file ≡ xef_text image.xef) × AreFilesOf files images
 
 -- the images of this many partitions from one on, in the order of their numbers
 abbrev pub in_order : List Given → ℕ → ℕ → List Image

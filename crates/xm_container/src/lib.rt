@@ -2,6 +2,7 @@
 #![tactic(auto)]
 
 mod entries;
+mod files;
 mod image;
 mod law;
 mod lines;
@@ -16,4 +17,4 @@ pub use law::{none_goes_on, packed_is_unpacked, unpacked_is_packed, versions_are
 pub use lines::list_lines;
 pub use loaded_system::{BareFault, System, bare};
 pub use reading::unpack;
-pub use writing::pack;
+pub use writing::{pack, pack_with_files};

@@ -1,14 +1,17 @@
 //! The lines that describe a container.
 
-ghost use Rattle.std.specs.Prelude.{◌≡◌, ◌++◌, ◌-◌, ◌≤◌, IfOk, OnOk, Ok, drop, length};
+ghost use Rattle.std.specs.Prelude.{◌≡◌, ◌++◌, IfOk, OnOk, Ok, length};
+ghost use Rattle.xef_images.specs.Spelling.{xef_text};
+ghost use Rattle.xm_container.specs.Box.{entries_text};
 ghost use Rattle.xm_container.specs.Reading.{unpacked};
 ghost use Rattle.xm_container.specs.Texts.{box_lines, container_line, file_line, image_line, image_lines, system_line};
 
+use crate::files::{entries_of, first_file};
 use fault_messages::{put_address, put_digest, put_number};
 use file_headers::stored_digest;
 use loaded_system::System;
 use std::alloc::Global;
-use xef_images::{Xef, build_xef};
+use xef_images::Xef;
 use xm_base::Memory;
 use xm_conf::RawConf;
 
@@ -25,7 +28,7 @@ pub fn list_lines(alloc: Global, bytes: &[u8], system: &System) -> Result<Vec<u8
     put_container(alloc, &mut lines, bytes.len(), stored_digest(bytes))?;
     let raw = system.conf().raw();
     put_system(alloc, &mut lines, raw.name.bytes(), counts_of(raw))?;
-    put_images(alloc, &mut lines, system)?;
+    put_images(alloc, &mut lines, entries_of(bytes), system)?;
     Ok(lines)
 }
 
@@ -81,12 +84,22 @@ fn put_system(alloc: Global, lines: &mut Vec<u8>, name: &[u8], counts: Counts) -
     Ok(())
 }
 
-/// Writes the lines of all images.
-fn put_images(alloc: Global, lines: &mut Vec<u8>, system: &System) -> Result<(), Memory>
+/// Writes the lines of all images, whose files stand one after the other.
+fn put_images(
+    alloc: Global,
+    lines: &mut Vec<u8>,
+    entries: &[u8],
+    system: &System,
+) -> Result<(), Memory>
+    requires { entries.now ≡ entries_text 0 system.now.images }
     ensures { OnOk result (lines.new.items ≡ lines.old.items ++ image_lines 0 system.now.images) }
 {
+    let mut rest = entries;
     for id in 0..parts(system) {
-        put_image(alloc, lines, id, system.image(id))?;
+        let xef = system.image(id);
+        let (file, later) = first_file(rest);
+        put_image(alloc, lines, id, xef, file)?;
+        rest = later;
     }
     Ok(())
 }
@@ -99,27 +112,25 @@ fn parts(system: &System) -> u8
     system.conf().part_count()
 }
 
-/// Writes the line of an image.
-fn put_image(alloc: Global, lines: &mut Vec<u8>, id: u8, xef: &Xef) -> Result<(), Memory>
-    ensures { OnOk result (lines.new.items ≡ lines.old.items ++ image_line id xef.now) }
-{
-    let file = build_xef(alloc, xef)?;
-    put_spelled(alloc, lines, id, xef.entry(), &file)?;
-    Ok(())
-}
-
-/// Writes the line of an image's file, with the digest at its end.
-fn put_spelled(
+/// Writes the line of an image, with the digest at the end of its file.
+fn put_image(
     alloc: Global,
     lines: &mut Vec<u8>,
     id: u8,
-    entry: u32,
+    xef: &Xef,
     file: &[u8],
 ) -> Result<(), Memory>
-    requires { 16 ≤ length file.now }
-    ensures { OnOk result (lines.new.items ≡ lines.old.items ++ file_line id (length file.now) entry (drop (length file.now - 16) file.now)) }
+    requires { file.now ≡ xef_text xef.now }
+    ensures { OnOk result (lines.new.items ≡ lines.old.items ++ image_line id xef.now) }
 {
-    put_file(alloc, lines, id, file.len(), entry, stored_digest(file))
+    put_file(
+        alloc,
+        lines,
+        id,
+        file.len(),
+        xef.entry(),
+        stored_digest(file),
+    )
 }
 
 /// Writes the line of an image's file.

@@ -1,13 +1,14 @@
 //! The writing of a container.
 
-ghost use Rattle.std.specs.Prelude.{◌≡◌, ◌≤◌, ◌+◌, ◌++◌, ◌<◌, All, IfOk, IsNone, OnOk, None, Ok, Some, length, option_copied};
+ghost use Rattle.std.specs.Prelude.{◌≡◌, ◌≤◌, ◌+◌, ◌++◌, ◌∷◌, ◌<◌, All, IfOk, IsNone, OnOk, None, Ok, Some, length, map, option_copied};
 ghost use Rattle.bin_config.specs.Spelled.{HasConfRanges};
 ghost use Rattle.xef_images.specs.Image.{IsImage};
 ghost use Rattle.loaded_system.specs.Inside.{first_outside as first_outside_of};
-ghost use Rattle.xm_container.specs.Box.{entries_text, image_entry_text, fields_text, front_text};
+ghost use Rattle.xm_container.specs.Box.{entries_text, image_entry_text, fields_text, front_text, sized_text};
 ghost use Rattle.xm_container.specs.Numbers.{missing as missing_of};
-ghost use Rattle.xm_container.specs.Pack.{Packs, partition_numbers, image_of, in_order, packed, sealed, system_of};
+ghost use Rattle.xm_container.specs.Pack.{AreFilesOf, Packs, partition_numbers, image_of, in_order, packed, sealed, system_of};
 ghost use Rattle.xm_container.specs.Reading.{unpacked};
+ghost use Rattle.xm_container.specs.lemmas.EntriesTerms.{IsFileOf};
 ghost use Rattle.xm_conf.specs.Limits.{most_parts};
 ghost use Rattle.bin_config.specs.declared.version.Version.TheVariants.{Two};
 
@@ -82,14 +83,50 @@ fn first_outside(parts: &[Part], images: &[Image]) -> Option<Outside>
     None
 }
 
-/// Puts an image after the number of its partition.
-#[tactic(auto, unfolding(crate::specs::Box::image_entry_text))]
-fn put_entry(alloc: Global, out: &mut Vec<u8>, id: u8, xef: &Xef) -> Result<(), Memory>
+/// Puts an image after the number of its partition: the bytes of its file, which is made where it is not at hand.
+fn put_entry(
+    alloc: Global,
+    out: &mut Vec<u8>,
+    id: u8,
+    xef: &Xef,
+    file: Option<&[u8]>,
+) -> Result<(), Memory>
+    requires { IsFileOf (Some xef.now) (option_copied file) }
     ensures { OnOk result (out.new.items ≡ out.old.items ++ image_entry_text id xef.now) }
 {
-    let bytes = build_xef(alloc, xef)?;
+    match file {
+        Some(bytes) => put_numbered(out, id, bytes),
+        None => {
+            let bytes = build_xef(alloc, xef)?;
+            put_numbered(out, id, &bytes)
+        }
+    }
+}
+
+/// Puts the file of an image after the number of its partition.
+fn put_numbered(out: &mut Vec<u8>, id: u8, file: &[u8]) -> Result<(), Memory>
+    ensures { OnOk result (out.new.items ≡ out.old.items ++ id ∷ sized_text file.now) }
+{
     out.push(id)?;
-    put_sized(out, &bytes)
+    put_sized(out, file)
+}
+
+/// The file of a partition's image, where it is at hand.
+fn file_of<'a>(images: &[Image], files: &'a [Vec<u8>], id: usize) -> Option<&'a [u8]>
+    requires { AreFilesOf (map (λ file. file.items) files.now) images.now }
+    ensures { IsFileOf (image_of images.now id) (option_copied result) }
+{
+    let mut rest = images;
+    for file in files {
+        let Some((image, later)) = rest.split_first() else {
+            return None;
+        };
+        if usize::from(image.id) == id {
+            return Some(file);
+        }
+        rest = later;
+    }
+    None
 }
 
 /// Puts the images of all partitions.
@@ -98,22 +135,32 @@ fn put_entries(
     out: &mut Vec<u8>,
     parts: usize,
     images: &[Image],
+    files: &[Vec<u8>],
 ) -> Result<(), Memory>
     requires few { parts ≤ most_parts }
     requires complete { missing_of parts (partition_numbers images.now) ≡ None }
+    requires files { AreFilesOf (map (λ file. file.items) files.now) images.now }
     ensures { OnOk result (out.new.items ≡ out.old.items ++ entries_text 0 (in_order images.now 0 parts)) }
 {
     for id in 0..parts {
-        put_entry(alloc, out, id as u8, image_at(images, id, parts))?;
+        let file = file_of(images, files, id);
+        put_entry(alloc, out, id as u8, image_at(images, id, parts), file)?;
     }
     Ok(())
 }
 
 /// The fields of a container.
-fn fields(alloc: Global, conf: &Conf, parts: usize, images: &[Image]) -> Result<Vec<u8>, Memory>
+fn fields(
+    alloc: Global,
+    conf: &Conf,
+    parts: usize,
+    images: &[Image],
+    files: &[Vec<u8>],
+) -> Result<Vec<u8>, Memory>
     requires parts { parts ≡ length conf.now.parts }
     requires few { parts ≤ most_parts }
     requires complete { missing_of parts (partition_numbers images.now) ≡ None }
+    requires files { AreFilesOf (map (λ file. file.items) files.now) images.now }
     ensures value { IfOk result (λ fields. fields.items ≡ fields_text Two (system_of conf.now images.now)) }
     ensures ranges { OnOk result (HasConfRanges conf.now) }
 {
@@ -121,7 +168,7 @@ fn fields(alloc: Global, conf: &Conf, parts: usize, images: &[Image]) -> Result<
     let mut fields = Vec::new(alloc);
     put_sized(&mut fields, &xmc)?;
     fields.push(parts as u8)?;
-    put_entries(alloc, &mut fields, parts, images)?;
+    put_entries(alloc, &mut fields, parts, images, files)?;
     Ok(fields)
 }
 
@@ -160,8 +207,27 @@ fn sealed(alloc: Global, fields: &[u8]) -> Result<Vec<u8>, PackFault>
 /// image whose number is no partition's, the smallest; a partition without an image, the smallest; a segment that
 /// lies inside no area of its partition, the first one of the smallest partition; more bytes than `FILE_BYTES`. Of two
 /// images of one number the first one counts.
-#[tactic(auto, unfolding(crate::specs::Pack::packed))]
 pub fn pack(alloc: Global, conf: &Conf, images: &[Image]) -> Result<Vec<u8>, PackFault>
+    // The one spelling, in version 2, of a configuration and its images, which is read as that configuration with those
+    // images; or the first refusal: Extra, Missing, Outside, Long.
+    ensures exact { Packs result (packed conf.now images.now) }
+    // What is written is read as that configuration with those images.
+    ensures read { IfOk result (λ bytes. unpacked bytes.items ≡ Ok (system_of conf.now images.now)) }
+{
+    pack_with_files(alloc, conf, images, &[])
+}
+
+/// The same, where the files of the first images are at hand, each at the place of its image: what stands in them is put
+/// as it is, and the files of the others are made.
+#[tactic(auto, unfolding(crate::specs::Pack::packed))]
+pub fn pack_with_files(
+    alloc: Global,
+    conf: &Conf,
+    images: &[Image],
+    files: &[Vec<u8>],
+) -> Result<Vec<u8>, PackFault>
+    // Called with files each of which is that of the image at its place.
+    requires { AreFilesOf (map (λ file. file.items) files.now) images.now }
     // The one spelling, in version 2, of a configuration and its images, which is read as that configuration with those
     // images; or the first refusal: Extra, Missing, Outside, Long.
     ensures exact { Packs result (packed conf.now images.now) }
@@ -183,6 +249,6 @@ pub fn pack(alloc: Global, conf: &Conf, images: &[Image]) -> Result<Vec<u8>, Pac
             address: outside.address,
         });
     }
-    let fields = fields(alloc, conf, parts.len(), images)?;
+    let fields = fields(alloc, conf, parts.len(), images, files)?;
     sealed(alloc, &fields)
 }

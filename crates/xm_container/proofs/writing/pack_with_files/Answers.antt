@@ -5,7 +5,7 @@ use Rattle.xef_images.specs.Image.{IsImage}
 use Rattle.xm_container.specs.Numbers.{missing}
 use Rattle.xm_container.specs.Pack.{partition_numbers, in_order}
 use Rattle.xm_container.proofs.PackedLemmas.{system_loads, packed_read}
-use Rattle.xm_container.proofs.writing.pack.Goals as goal
+use Rattle.xm_container.proofs.writing.pack_with_files.Goals as goal
 
 pub returns-clause-read : goal.returns-clause-read
 returns-clause-read c =
