@@ -1,0 +1,5 @@
+pub mod Given
+pub mod Continued
+pub mod Joined
+pub mod Kept
+pub mod rows
