@@ -1,0 +1,10 @@
+pub mod Doing
+pub mod OwnTicks
+pub mod Tried
+pub mod Executed
+pub mod Counts
+pub mod Stops
+pub mod Calls
+pub mod Use
+pub mod UseText
+pub mod rows
