@@ -83,7 +83,7 @@ fn first_outside(parts: &[Part], images: &[Image]) -> Option<Outside>
     None
 }
 
-/// Puts an image after the number of its partition: the bytes of its file, which is made where it is not at hand.
+/// Puts an image after the number of its partition: the bytes of its file, which is made where it is not given.
 fn put_entry(
     alloc: Global,
     out: &mut Vec<u8>,
@@ -111,7 +111,7 @@ fn put_numbered(out: &mut Vec<u8>, id: u8, file: &[u8]) -> Result<(), Memory>
     put_sized(out, file)
 }
 
-/// The file of a partition's image, where it is at hand.
+/// The file of a partition's image, where it is given.
 fn file_of<'a>(images: &[Image], files: &'a [Vec<u8>], id: usize) -> Option<&'a [u8]>
     requires { AreFilesOf (map (λ file. file.items) files.now) images.now }
     ensures { IsFileOf (image_of images.now id) (option_copied result) }
@@ -217,7 +217,7 @@ pub fn pack(alloc: Global, conf: &Conf, images: &[Image]) -> Result<Vec<u8>, Pac
     pack_with_files(alloc, conf, images, &[])
 }
 
-/// The same, where the files of the first images are at hand, each at the place of its image: what stands in them is put
+/// The same, where the files of the first images are given, each at the place of its image: what stands in them is put
 /// as it is, and the files of the others are made.
 #[tactic(auto, unfolding(crate::specs::Pack::packed))]
 pub fn pack_with_files(
