@@ -10,6 +10,7 @@ use Rattle.cyclic_plans.specs.declared.slots.Here.{Here}
 use Rattle.machine_model.specs.Alone.{Alone}
 use Rattle.machine_model.specs.Cue.{Away, Mine, CueSlot, cue, cue_in, slot_of}
 use Rattle.machine_model.specs.Laws.{alone_part_at}
+use Rattle.machine_model.specs.Lists.{table}
 use Rattle.machine_model.specs.Machine.{Machine, happened, happened_by, step, turn_here, turn_of}
 use Rattle.machine_model.specs.View.{view_of}
 use Rattle.upset_model.specs.Upsets.{Schedule, later, own_strikes, ready, upset_run, upset_script}
@@ -18,29 +19,29 @@ use Rattle.run_records.specs.Counts.{busy}
 use Rattle.run_records.specs.Doing.{doing, doing_here}
 use Rattle.run_records.specs.Executed.{is_busy, is_something}
 use Rattle.run_records.specs.OwnTicks.{FindsTicksAlone, OwnTick, alone_ticks, own_tick, own_ticks, tick_of_part, ticks_unless}
-use Rattle.run_records.specs.Use.{OverrunsAreOccurrences, SlotTick, SlotTicksInPieces, SlotsHaveBusyTicks, Occurrence, OccurrencesHaveAllTicks, UsesAlone, busy_slot_ticks, figures_of, goes_on_with, is_overrun, is_ready_part, numbers_from, part_use, slot_tick, slot_ticks, slot_ticks_unless, slot_use, tick_of_slot, ticks_in, occurrence_of_tick, occurrences_from, occurrences_of, with_tick}
+use Rattle.run_records.specs.Use.{OverrunsAreOccurrences, SlotTick, SlotTicksInPieces, SlotsHaveBusyTicks, Occurrence, OccurrencesHaveAllTicks, UsesAlone, busy_slot_ticks, figures_of, goes_on_with, is_overrun, is_ready_part, part_use, slot_tick, slot_ticks, slot_ticks_unless, slot_use, tick_of_slot, ticks_in, occurrence_of_tick, occurrences_from, occurrences_of, with_tick}
 use Rattle.run_records.specs.UseText.{UseTextAlone, part_text, plan_texts, use_text}
 use Rattle.run_records.proofs.TickLemmas.{from_same}
 
 pub uses_alone : FindsTicksAlone → UsesAlone
 uses_alone law count s g p a is = ap (part_use (view_of g.system p)) (law count s g p a is)
 
--- the lines of all partitions
-texts_alone : (count first parts : ℕ) (s : Schedule) (g : Machine) (alone : ℕ → Alone) → FindsTicksAlone
-    → ((p : ℕ) → first ≤ p → p < first + parts → alone_part_at g p ≡ Some (alone p))
-    → flat_map (λ p. part_text p (part_use (view_of g.system p) (own_ticks s g p count))) (numbers_from first parts)
-    ≡ flat_map (λ p. part_text p (part_use (view_of g.system p) (alone_ticks (view_of g.system p) (own_strikes p s) (alone p) (upset_script s g p count)))) (numbers_from first parts)
-texts_alone count first zero s g alone law there = refl
-texts_alone count first (suc parts) s g alone law there =
-    let here : alone_part_at g first ≡ Some (alone first) = there first (omega arith) (omega arith) in
-    let more = texts_alone count (suc first) parts s g alone law (λ p from below. there p (omega (arith, from)) (omega (arith, below))) in
-    λ i. part_text first (part_use (view_of g.system first) (law count s g first (alone first) here i)) ++ more i
+-- the lines of partitions, by their numbers
+texts_alone : (count parts : ℕ) (number : ℕ → ℕ) (s : Schedule) (g : Machine) (alone : ℕ → Alone) → FindsTicksAlone
+    → ((k : ℕ) → k < parts → alone_part_at g (number k) ≡ Some (alone (number k)))
+    → flat_map (λ p. part_text p (part_use (view_of g.system p) (own_ticks s g p count))) (table number parts)
+    ≡ flat_map (λ p. part_text p (part_use (view_of g.system p) (alone_ticks (view_of g.system p) (own_strikes p s) (alone p) (upset_script s g p count)))) (table number parts)
+texts_alone count zero number s g alone law there = refl
+texts_alone count (suc parts) number s g alone law there =
+    let here : alone_part_at g (number 0) ≡ Some (alone (number 0)) = there 0 (omega arith) in
+    let more = texts_alone count parts (λ k. number (suc k)) s g alone law (λ k below. there (suc k) (omega (arith, below))) in
+    λ i. part_text (number 0) (part_use (view_of g.system (number 0)) (law count s g (number 0) (alone (number 0)) here i)) ++ more i
 
 pub use_text_alone : FindsTicksAlone → UseTextAlone
 unfolding use_text
 use_text_alone law count s g alone there =
     ap (λ (lines : List ℕ). plan_texts g.system.conf (slot_ticks s g count) ++ lines)
-    (texts_alone count 0 (length g.parts) s g alone law (λ p from below. there p (omega (arith, below))))
+    (texts_alone count (length g.parts) (λ p. p) s g alone law there)
 
 -- the ticks of occurrences are all
 ticks_from : (occurrence : Occurrence) (ticks : List SlotTick) → ticks_in (occurrences_from occurrence ticks) ≡ occurrence.ticks + length ticks

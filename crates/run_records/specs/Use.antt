@@ -13,9 +13,11 @@ use Rattle.machine_model.specs.Calls.{call_of}
 use Rattle.machine_model.specs.declared.numbers.Call.{Call as HyperCall}
 use Rattle.machine_model.specs.Cue.{Away, CueSlot, Mine}
 use Rattle.machine_model.specs.Laws.{alone_part_at}
+use Rattle.machine_model.specs.Lists.{table}
 use Rattle.machine_model.specs.LocalTick.{with_interrupts}
 use Rattle.machine_model.specs.Machine.{Machine, step}
 use Rattle.machine_model.specs.Partition.{PartitionState, areas_of}
+use Rattle.machine_model.specs.Structures.{flag}
 use Rattle.machine_model.specs.View.{PartitionView, view_of}
 use Rattle.upset_model.specs.Upsets.{Schedule, later, own_strikes, ready, upset_run, upset_script}
 use Rattle.continuation_laws.specs.Continued.{from_tick}
@@ -116,19 +118,15 @@ pub record Occurrence : Type 0 where
   pub busy : ℕ
   pub unfinished : Bool
 
-abbrev pub one_if : Bool → ℕ
-one_if true = 1
-one_if false = 0
-
 abbrev pub occurrence_of_tick : SlotTick → Occurrence
-occurrence_of_tick tick = record { plan = tick.plan; slot = tick.slot; ticks = 1; busy = one_if tick.busy; unfinished = tick.busy && tick.ready }
+occurrence_of_tick tick = record { plan = tick.plan; slot = tick.slot; ticks = 1; busy = flag tick.busy; unfinished = tick.busy && tick.ready }
 
 -- whether a tick goes on with an occurrence: it is of the same slot, and the slot does not begin with it
 abbrev pub goes_on_with : Occurrence → SlotTick → Bool
 goes_on_with occurrence tick = (tick.plan == occurrence.plan) && (tick.slot == occurrence.slot) && not tick.first
 
 abbrev pub with_tick : SlotTick → Occurrence → Occurrence
-with_tick tick occurrence = record occurrence { ticks = occurrence.ticks + 1; busy = occurrence.busy + one_if tick.busy; unfinished = tick.busy && tick.ready }
+with_tick tick occurrence = record occurrence { ticks = occurrence.ticks + 1; busy = occurrence.busy + flag tick.busy; unfinished = tick.busy && tick.ready }
 
 -- the occurrences of ticks, where one has begun
 abbrev pub occurrences_from : Occurrence → List SlotTick → List Occurrence
@@ -249,7 +247,9 @@ stack_in Executes view ps = if is_writable (areas_of view) (register_at ps.core 
 unfoldable pub stacks_in : PartitionView → OwnTick → List ℕ
 stacks_in view tick = stack_in (doing tick.found tick.cue) view tick.found.state
 
--- how a partition was used: the ticks in which it did something, of those in its slots and of all, which are its load, and the instructions that it executed; how long each of the 32 interrupts
+-- how a partition was used: the ticks in which it did something, of those in its slots and of all, which are its load, and the instructions that it
+-- executed; how long each of the 32 interrupts waited for its deliveries, and how long it has waited at the end; how often the calls of each number
+-- from 0 to 38 were refused, 0 standing for those that are no call's; and the stack pointers, of which the least is the deepest
 -- waited for its deliveries, and how long it has waited at the end; how often the calls of each number from 0 to 38 were refused, 0 standing for those that are no call's; and the stack pointers, of which the least is the deepest
 pub record PartUse : Type 0 where
   pub busy : ℕ
@@ -261,20 +261,15 @@ pub record PartUse : Type 0 where
   pub refused : List ℕ
   pub stack : Figures
 
--- the numbers from one on
-abbrev pub numbers_from : ℕ → ℕ → List ℕ
-numbers_from first zero = []
-numbers_from first (suc count) = first ∷ numbers_from (suc first) count
-
 unfoldable pub part_use : PartitionView → List OwnTick → PartUse
 part_use view ticks = record {
   busy = length (busy ticks);
   in_slots = length (filter (λ tick. is_mine tick.cue.mine) ticks);
   ticks = length ticks;
   executed = length (executed view ticks);
-  waits = map (λ n. figures_of (waits n ticks)) (numbers_from 0 32);
-  waiting = map (λ n. waiting n ticks) (numbers_from 0 32);
-  refused = map (λ number. refused number view ticks) (numbers_from 0 39);
+  waits = table (λ n. figures_of (waits n ticks)) 32;
+  waiting = table (λ n. waiting n ticks) 32;
+  refused = table (λ number. refused number view ticks) 39;
   stack = figures_of (flat_map (stacks_in view) ticks);
 }
 

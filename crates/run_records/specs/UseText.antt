@@ -7,12 +7,13 @@ use Rattle.cyclic_plans.specs.Slots.{slots_of}
 use Rattle.machine_model.specs.Alone.{Alone}
 use Rattle.machine_model.specs.Calls.{call_of}
 use Rattle.machine_model.specs.Laws.{alone_part_at}
+use Rattle.machine_model.specs.Lists.{table}
 use Rattle.machine_model.specs.Machine.{Machine}
 use Rattle.machine_model.specs.View.{view_of}
 use Rattle.upset_model.specs.Upsets.{Schedule, own_strikes, upset_script}
 use Rattle.run_records.specs.Calls.{row_of_call, word_hex}
 use Rattle.run_records.specs.OwnTicks.{alone_ticks, own_ticks}
-use Rattle.run_records.specs.Use.{Figures, PartUse, SlotTick, SlotUse, numbers_from, part_use, slot_ticks, slot_use}
+use Rattle.run_records.specs.Use.{Figures, PartUse, SlotTick, SlotUse, part_use, slot_ticks, slot_use}
 
 -- the mean of some numbers, rounded down
 abbrev pub mean_of : Figures → ℕ
@@ -34,7 +35,7 @@ slot_texts plan number [] ticks = []
 slot_texts plan number (slot ∷ slots) ticks = slot_text plan number slot (slot_use plan number slot.duration ticks) ++ slot_texts plan (number + 1) slots ticks
 
 abbrev pub plan_texts : Conf → List SlotTick → List ℕ
-plan_texts conf ticks = flat_map (λ plan. slot_texts plan 0 (slots_of conf plan) ticks) (numbers_from 0 (length conf.plans))
+plan_texts conf ticks = flat_map (λ plan. slot_texts plan 0 (slots_of conf plan) ticks) (table (λ plan. plan) (length conf.plans))
 
 -- the tag of a line of a partition
 abbrev pub part_tag : ℕ → List ℕ
@@ -75,7 +76,7 @@ part_text p used =
 unfoldable pub use_text : Schedule → Machine → ℕ → List ℕ
 use_text s g count =
     plan_texts g.system.conf (slot_ticks s g count)
-    ++ flat_map (λ p. part_text p (part_use (view_of g.system p) (own_ticks s g p count))) (numbers_from 0 (length g.parts))
+    ++ flat_map (λ p. part_text p (part_use (view_of g.system p) (own_ticks s g p count))) (table (λ p. p) (length g.parts))
 
 -- the lines of each partition are those of it alone, under its script and with its own upsets
 abbrev pub UseTextAlone : Type 0
@@ -83,4 +84,4 @@ UseTextAlone = (count : ℕ) (s : Schedule) (g : Machine) (alone : ℕ → Alone
     → use_text s g count
     ≡ plan_texts g.system.conf (slot_ticks s g count)
     ++ flat_map (λ p. part_text p (part_use (view_of g.system p) (alone_ticks (view_of g.system p) (own_strikes p s) (alone p) (upset_script s g p count))))
-    (numbers_from 0 (length g.parts))
+    (table (λ p. p) (length g.parts))
