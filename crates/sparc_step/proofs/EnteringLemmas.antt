@@ -37,7 +37,7 @@ same_windows a b cached windows words places own ins rest = table-same (word_at 
 
 -- the window below: the locals and ins are put back, the outs become its ins
 module _ (window below : ℕ) (cached windows once twice moved taken : List ℕ)
-    (small : window < 8) (below_is : below ≡ (window + 7) % 8) (counted : length cached ≡ 32) (whole : length windows ≡ 128)
+    (small : window < 8) (below_is : below ≡ (window + 7) % 8) (counted : length cached ≡ 33) (whole : length windows ≡ 128)
     (once_is : once ≡ put_mid (locals_place window) 8 windows (take 8 (drop 16 cached)))
     (twice_is : twice ≡ put_mid (ins_place window) 8 once (take 8 (drop 24 cached)))
     (moved_is : moved ≡ put_mid 24 8 cached (take 8 (drop 8 cached)))
@@ -51,7 +51,7 @@ module _ (window below : ℕ) (cached windows once twice moved taken : List ℕ)
   twice_whole : length twice ≡ 128
   twice_whole = ap length twice_is ∙ length-put_mid once (take 8 (drop 24 cached)) (ins_place window) 8 (eight_at 24 (omega arith)) (omega (arith, once_whole)) ∙ once_whole
 
-  moved_counted : length moved ≡ 32
+  moved_counted : length moved ≡ 33
   moved_counted = ap length moved_is ∙ length-put_mid cached (take 8 (drop 8 cached)) 24 8 (eight_at 8 (omega arith)) (omega (arith, counted)) ∙ counted
 
   sixteen : length (take 16 (drop (own_place below) twice)) ≡ 16
@@ -124,7 +124,7 @@ module _ (window below : ℕ) (cached windows once twice moved taken : List ℕ)
 
 -- the outs and locals of a window put back
 module _ (window above : ℕ) (cached windows put : List ℕ)
-    (small : window < 8) (above_is : above ≡ (window + 1) % 8) (counted : length cached ≡ 32) (whole : length windows ≡ 128)
+    (small : window < 8) (above_is : above ≡ (window + 1) % 8) (counted : length cached ≡ 33) (whole : length windows ≡ 128)
     (put_is : put ≡ put_mid (own_place window) 16 windows (take 16 (drop 8 cached))) where
   outs_and_locals : length (take 16 (drop 8 cached)) ≡ 16
   outs_and_locals = length-part cached 8 16 (omega (arith, counted))
@@ -153,7 +153,7 @@ module _ (window above : ℕ) (cached windows put : List ℕ)
     ins_counted : length (take 8 (drop 24 cached)) ≡ 8
     ins_counted = length-part cached 24 8 (omega (arith, counted))
 
-    moved_whole : length moved ≡ 32
+    moved_whole : length moved ≡ 33
     moved_whole = ap length moved_is ∙ length-put_mid cached (take 8 (drop 24 cached)) 8 8 ins_counted (omega (arith, counted)) ∙ counted
 
     moved_outs : (k : ℕ) → own_place above ≤ k → k < locals_place above → slice_index moved (k - own_place above + 8) ≡ word_at window cached windows k

@@ -1,5 +1,5 @@
 -- Registers of which the current window is kept apart, each register of it by its number.
-use Rattle.std.specs.Prelude.{◌≡◌, ◌≢◌, ◌<◌, length, ℕ, zero, suc, ◌+◌, ◌-◌, ◌*◌, ◌%◌, Bool, ◌&&◌, nat_le, nat_lt, if◌then◌else◌, List, [], ◌∷◌, take, slice_index}
+use Rattle.std.specs.Prelude.{◌≡◌, ◌≢◌, ◌<◌, length, ℕ, zero, suc, ◌+◌, ◌-◌, ◌*◌, ◌%◌, Bool, ◌&&◌, nat_le, nat_lt, ◌==◌, if◌then◌else◌, List, [], ◌∷◌, take, slice_index}
 use Rattle.sparc_step.specs.Registers.{Registers, ins_place}
 
 -- a function of the numbers below a bound, as a list
@@ -39,6 +39,10 @@ gathered pc npc y icc cwp inv cached windows = record {
   windows = windows_with cwp cached windows;
 }
 
+-- the register that a number stands for as a result: 32 stands for register 0, which drops it
+unfoldable pub register_of : ℕ → ℕ
+register_of r = if r == 32 then 0 else r
+
 -- what holds of what is cached, at all times
 pub record IsCached (pc npc y icc cwp inv : ℕ) (cached windows : List ℕ) : Type 0 where
   pub pc_aligned : pc % 4 ≡ 0
@@ -48,5 +52,5 @@ pub record IsCached (pc npc y icc cwp inv : ℕ) (cached windows : List ℕ) : T
   pub invalid_window : inv < 8
   pub windows_differ : cwp ≢ inv
   pub zero : slice_index cached 0 ≡ 0
-  pub cached_count : length cached ≡ 32
+  pub cached_count : length cached ≡ 33
   pub eight_windows : length windows ≡ 128

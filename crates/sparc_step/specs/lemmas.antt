@@ -1,5 +1,6 @@
 pub mod CachedLemmas
 pub mod CachedTerms
+pub mod CodesTerms
 pub mod ExecutionTerms
 pub mod TransfersTerms
 pub mod UndoneLemmas

@@ -2,6 +2,7 @@
 #![tactic(auto)]
 
 mod arithmetic;
+mod codes;
 pub mod conditions;
 mod execution;
 mod flow;

@@ -1,8 +1,9 @@
 //! The registers as a processor has them cached.
 
 ghost use borrow.Rule.Slice.PartMut.{put_mid};
-ghost use Rattle.std.specs.Prelude.{ℕ, ◌≡◌, ◌≢◌, ◌*◌, ◌+◌, ◌%◌, ◌<◌, ◌≤◌, drop, length, slice_index, take};
-ghost use Rattle.sparc_step.specs.Cached.{windows_with};
+ghost use Rattle.std.specs.Prelude.{ℕ, ◌≡◌, ◌≢◌, ◌*◌, ◌+◌, ◌%◌, ◌<◌, ◌≤◌, drop, false, length, slice_index, slice_set, take};
+ghost use Rattle.sparc_step.specs.Cached.{register_of, windows_with};
+ghost use Rattle.sparc_step.specs.Conditions.{codes_of_difference, codes_of_result, codes_of_sum};
 ghost use Rattle.sparc_step.specs.lemmas.CachedTerms.{with_first};
 ghost use Rattle.sparc_step.specs.lemmas.CachedLemmas.{put_at};
 ghost use Rattle.sparc_step.specs.Registers.{
@@ -22,6 +23,7 @@ ghost use Rattle.sparc_step.specs.Registers.{
   with_y,
 };
 
+use crate::codes::Codes;
 use crate::registers::Core;
 use std::marker::Model;
 
@@ -30,12 +32,13 @@ use std::marker::Model;
 /// It is the form for many instructions: a `Core` is taken to hand before them, and asked for after.
 #[derive(Debug, Drop)]
 pub struct Processor {
-    // The registers of the current window. They stand first, so that one address serves for them and for all else.
-    cached: [u32; 32],
+    // The registers of the current window, and a word that is none of them, for results that are dropped. They stand first, so that one
+    // address serves for them and for all else.
+    cached: [u32; 33],
     pc: u32,
     npc: u32,
     y: u32,
-    icc: u8,
+    icc: Codes,
     cwp: u8,
     inv: u8,
     // The windows; what stands here of the current one is out of date.
@@ -60,14 +63,14 @@ impl Processor {
         // The registers, those of the current window cached.
         ensures { result ≡ core.now }
     {
-        let mut cached = [0; 32];
+        let mut cached = [0; 33];
         take_globals(&mut cached, &core.globals);
         take_window(&mut cached, &core.windows, core.cwp);
         Processor {
             pc: core.pc,
             npc: core.npc,
             y: core.y,
-            icc: core.icc,
+            icc: Codes::of(core.icc),
             cwp: core.cwp,
             inv: core.inv,
             cached,
@@ -89,7 +92,7 @@ impl Processor {
             pc: self.pc,
             npc: self.npc,
             y: self.y,
-            icc: self.icc,
+            icc: self.icc.value(),
             cwp: self.cwp,
             inv: self.inv,
             globals,
@@ -149,7 +152,7 @@ impl Processor {
         // They are four bits.
         ensures four { result < 16 }
     {
-        self.icc
+        self.icc.value()
     }
 
     /// The current window.
@@ -251,6 +254,19 @@ impl Processor {
         ensures { self.new ≡ with_register self.old r value }
     {
         put_held(&mut self.cached, r, value);
+    }
+
+    /// Sets a register of the current window that is not register 0, or, by the number 32, none.
+    #[inline(always)]
+    #[tactic(auto, using(crate::specs::lemmas::CachedLemmas::put_gathered))]
+    pub fn put(&mut self, r: u8, value: u32)
+        // Called for a number from 1 to 32.
+        requires r { r < 33 }
+        requires held { 0 < r }
+        // The register has the value, and nothing else changes; 32 stands for register 0, which drops it.
+        ensures { self.new ≡ with_register self.old (register_of r) value }
+    {
+        put_word(&mut self.cached, r, value);
     }
 
     /// Goes on to the next instruction.
@@ -378,12 +394,42 @@ impl Processor {
         requires { icc < 16 }
         ensures { self.new ≡ with_icc self.old icc }
     {
-        self.icc = icc;
+        self.icc.set(icc);
+    }
+
+    /// The condition codes become those of a comparison.
+    #[inline(always)]
+    #[tactic(auto, unfolding(crate::specs::Registers::with_icc, crate::specs::Cached::gathered))]
+    pub fn compared(&mut self, a: u32, b: u32)
+        // The condition codes are those of the difference, and nothing else changes.
+        ensures { self.new ≡ with_icc self.old (codes_of_difference a b false) }
+    {
+        self.icc.compared(a, b);
+    }
+
+    /// The condition codes become those of a sum.
+    #[inline(always)]
+    #[tactic(auto, unfolding(crate::specs::Registers::with_icc, crate::specs::Cached::gathered))]
+    pub fn added(&mut self, a: u32, b: u32)
+        // The condition codes are those of the sum, and nothing else changes.
+        ensures { self.new ≡ with_icc self.old (codes_of_sum a b false) }
+    {
+        self.icc.added(a, b);
+    }
+
+    /// The condition codes become those of a result of logic.
+    #[inline(always)]
+    #[tactic(auto, unfolding(crate::specs::Registers::with_icc, crate::specs::Cached::gathered))]
+    pub fn tested(&mut self, value: u32)
+        // The condition codes are those of the result, and nothing else changes.
+        ensures { self.new ≡ with_icc self.old (codes_of_result value false) }
+    {
+        self.icc.tested(value);
     }
 }
 
 // Sets a register; register 0 stays zero.
-fn set_cached(cached: &mut [u32; 32], r: u8, value: u32)
+fn set_cached(cached: &mut [u32; 33], r: u8, value: u32)
     requires { r < 32 }
     ensures { cached.new ≡ put_at cached.old r value }
 {
@@ -394,7 +440,7 @@ fn set_cached(cached: &mut [u32; 32], r: u8, value: u32)
 // Sets a register that is not register 0, which is zero.
 #[inline(always)]
 #[tactic(auto, using(crate::specs::lemmas::CachedLemmas::put_at_held))]
-fn put_held(cached: &mut [u32; 32], r: u8, value: u32)
+fn put_held(cached: &mut [u32; 33], r: u8, value: u32)
     requires r { r < 32 }
     requires held { 0 < r }
     requires zero { slice_index cached.old 0 ≡ 0 }
@@ -403,9 +449,20 @@ fn put_held(cached: &mut [u32; 32], r: u8, value: u32)
     cached[usize::from(r)] = value;
 }
 
+// Sets a word of those that are cached, which is not register 0.
+#[inline(always)]
+fn put_word(cached: &mut [u32; 33], r: u8, value: u32)
+    requires r { r < 33 }
+    requires held { 0 < r }
+    ensures value { cached.new ≡ slice_set cached.old r value }
+    ensures zero { slice_index cached.new 0 ≡ slice_index cached.old 0 }
+{
+    cached[usize::from(r)] = value;
+}
+
 // Takes the globals to hand.
 fn take_globals(cached: &mut [u32], globals: &[u32])
-    requires cached { length cached.old ≡ 32 }
+    requires cached { length cached.old ≡ 33 }
     requires globals { length globals.now ≡ 8 }
     ensures { take 8 cached.new ≡ globals.now }
 {
@@ -415,7 +472,7 @@ fn take_globals(cached: &mut [u32], globals: &[u32])
 // Gives the globals back.
 fn give_globals(globals: &mut [u32], cached: &[u32])
     requires globals { length globals.old ≡ 8 }
-    requires cached { length cached.now ≡ 32 }
+    requires cached { length cached.now ≡ 33 }
     ensures { globals.new ≡ take 8 cached.now }
 {
     globals.copy_from_slice(&cached[..8]);
@@ -424,7 +481,7 @@ fn give_globals(globals: &mut [u32], cached: &[u32])
 // Takes a window to hand: its outs and locals, and its ins.
 #[inline(always)]
 fn take_window(cached: &mut [u32], windows: &[u32], window: u8)
-    requires cached { length cached.old ≡ 32 }
+    requires cached { length cached.old ≡ 33 }
     requires windows { length windows.now ≡ 128 }
     requires window { window < 8 }
     ensures windows { windows_with window cached.new windows.now ≡ windows.now }
@@ -437,7 +494,7 @@ fn take_window(cached: &mut [u32], windows: &[u32], window: u8)
 // Writes what is cached of a window back to the windows.
 #[inline(always)]
 fn write_window(windows: &mut [u32], cached: &[u32], window: u8)
-    requires cached { length cached.now ≡ 32 }
+    requires cached { length cached.now ≡ 33 }
     requires windows { length windows.old ≡ 128 }
     requires window { window < 8 }
     ensures { windows.new ≡ windows_with window cached.now windows.old }
@@ -449,7 +506,7 @@ fn write_window(windows: &mut [u32], cached: &[u32], window: u8)
 // Takes the window below to hand. Its ins are the outs of the one that is cached, and stay in hand.
 #[inline(always)]
 fn go_below(cached: &mut [u32], windows: &mut [u32], window: u8, below: u8)
-    requires cached { length cached.old ≡ 32 }
+    requires cached { length cached.old ≡ 33 }
     requires windows { length windows.old ≡ 128 }
     requires window { window < 8 }
     requires below { below ≡ (window + 7) % 8 }
@@ -465,7 +522,7 @@ fn go_below(cached: &mut [u32], windows: &mut [u32], window: u8, below: u8)
 // Takes the window above to hand with other locals and ins. Its outs are the ins of the one that is cached, and stay in hand.
 #[inline(always)]
 fn go_filled(cached: &mut [u32], windows: &mut [u32], window: u8, above: u8, words: &[u32])
-    requires cached { length cached.old ≡ 32 }
+    requires cached { length cached.old ≡ 33 }
     requires windows { length windows.old ≡ 128 }
     requires words { length words.now ≡ 16 }
     requires window { window < 8 }

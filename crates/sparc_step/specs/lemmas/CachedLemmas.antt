@@ -6,7 +6,7 @@ use Rattle.std.proofs.lemmas.Bool.Decides.{nat_tests}
 use Rattle.std.proofs.lemmas.Slice.{take-put_mid_below}
 use Rattle.std.proofs.lemmas.List.{length-drop, take_all, same_lists, places, get_or-set_same, get_or-set_other, get_or-take, get_or-drop, length-set}
 use Rattle.std.specs.Prelude.{ℕ, zero, suc, ◌+◌, ◌-◌, ◌*◌, ◌%◌, ◌<◌, ◌≤◌, Bool, true, false, nat_lt, ◌==◌, if◌then◌else◌, List, [], ◌∷◌, ◌++◌, length, take, drop, slice_index, slice_set, get_or}
-use Rattle.sparc_step.specs.Cached.{IsCached, gathered, lies_in, own_place, listed_below, windows_with, word_at}
+use Rattle.sparc_step.specs.Cached.{IsCached, gathered, lies_in, own_place, listed_below, register_of, windows_with, word_at}
 use Rattle.sparc_step.specs.lemmas.CachedTerms.{with_first}
 use Rattle.sparc_step.specs.Registers.{AreRegisters, Registers, ins_place, locals_and_ins, locals_place, place_in_windows, register_at, window_filled, with_inv, with_locals_and_ins, with_register, with_saved}
 
@@ -175,7 +175,7 @@ unfolding gathered
 gathered-same pc npc y icc cwp inv cached windows globals words globals_are words_are = rw (globals_are, words_are) refl
 
 -- to set a register cached is to set it
-pub with_register_gathered : (pc npc y icc cwp inv : ℕ) (cached windows : List ℕ) (r value : ℕ) → cwp < 8 → r < 32 → length cached ≡ 32 → slice_index cached 0 ≡ 0 → with_register (gathered pc npc y icc cwp inv cached windows) r value ≡ gathered pc npc y icc cwp inv (put_at cached r value) windows
+pub with_register_gathered : (pc npc y icc cwp inv : ℕ) (cached windows : List ℕ) (r value : ℕ) → cwp < 8 → r < 32 → length cached ≡ 33 → slice_index cached 0 ≡ 0 → with_register (gathered pc npc y icc cwp inv cached windows) r value ≡ gathered pc npc y icc cwp inv (put_at cached r value) windows
 unfolding with_register gathered windows_with
 with_register_gathered pc npc y icc cwp inv cached windows r value window small counted zero_first = at (r == 0) (nat_lt r 8) refl refl
   where
@@ -217,6 +217,45 @@ with_register_gathered pc npc y icc cwp inv cached windows r value window small 
         let low : 8 ≤ r = grind (arith, nat_tests) in
         gathered-same pc npc y icc cwp inv (put_at cached r value) windows _ _ (globals-put_at_other cached r value zero_first low (omega arith)) (windowed low (nat_lt r 24) refl)
 
+-- the word after those of the registers is none of them
+pub gathered-sink : (pc npc y icc cwp inv : ℕ) (cached windows : List ℕ) (value : ℕ) → length cached ≡ 33 → gathered pc npc y icc cwp inv (slice_set cached 32 value) windows ≡ gathered pc npc y icc cwp inv cached windows
+unfolding windows_with gathered
+gathered-sink pc npc y icc cwp inv cached windows value counted =
+    sym (gathered-same pc npc y icc cwp inv (slice_set cached 32 value) windows (take 8 cached) (windows_with cwp cached windows) globals words)
+  where
+    other : (k : ℕ) → k < 32 → slice_index cached k ≡ slice_index (slice_set cached 32 value) k
+    other k small = sym (get_or-set_other cached 32 k value 0 (omega arith))
+
+    globals : take 8 cached ≡ take 8 (slice_set cached 32 value)
+    globals = same_lists _ _ (grind (arith, places)) (λ k d h. grind (arith, places))
+
+    words : windows_with cwp cached windows ≡ windows_with cwp (slice_set cached 32 value) windows
+    words = table-same (word_at cwp cached windows) (word_at cwp (slice_set cached 32 value) windows) 128 (λ k h. lies_or (own_place cwp) 16 k
+        (λ low high. word_at-own cwp cached windows k low high ∙ other (k - own_place cwp + 8) (omega arith) ∙ sym (word_at-own cwp (slice_set cached 32 value) windows k low high))
+        (λ apart. lies_or (ins_place cwp) 8 k
+        (λ low high. word_at-ins cwp cached windows k apart low high ∙ other (k - ins_place cwp + 24) (omega arith) ∙ sym (word_at-ins cwp (slice_set cached 32 value) windows k apart low high))
+        (λ apart_ins. word_at-other cwp cached windows k apart apart_ins ∙ sym (word_at-other cwp (slice_set cached 32 value) windows k apart apart_ins))))
+
+-- register 0 drops what it is set to
+with_no_register : (core : Registers) (value : ℕ) → with_register core 0 value ≡ core
+unfolding with_register
+with_no_register core value = refl
+
+-- a register that is not register 0 is set, or, by the number 32, none
+pub put_gathered : (pc npc y icc cwp inv : ℕ) (cached windows : List ℕ) (r value : ℕ) → cwp < 8 → r < 33 → 0 < r → length cached ≡ 33 → slice_index cached 0 ≡ 0 → with_register (gathered pc npc y icc cwp inv cached windows) (register_of r) value ≡ gathered pc npc y icc cwp inv (slice_set cached r value) windows
+unfolding register_of
+put_gathered pc npc y icc cwp inv cached windows r value window small some counted zero_first = at (r == 32) refl
+  where
+    at : (b : Bool) → (r == 32) ≡ b → with_register (gathered pc npc y icc cwp inv cached windows) (if b then 0 else r) value ≡ gathered pc npc y icc cwp inv (slice_set cached r value) windows
+    at true is =
+        let last : r ≡ 32 = grind (arith, nat_tests) in
+        with_no_register (gathered pc npc y icc cwp inv cached windows) value
+        ∙ sym (ap (λ n. gathered pc npc y icc cwp inv (slice_set cached n value) windows) last ∙ gathered-sink pc npc y icc cwp inv cached windows value counted)
+    at false is =
+        let register : r < 32 = grind (arith, nat_tests) in
+        with_register_gathered pc npc y icc cwp inv cached windows r value window register counted zero_first
+        ∙ ap (λ (xs : List ℕ). gathered pc npc y icc cwp inv xs windows) (sym (put_at_held cached r value zero_first some))
+
 -- a part of a list that was written, and the rest of it
 pub get_or-put_mid : (xs ys : List ℕ) (from count k : ℕ) → length ys ≡ count → from + count ≤ length xs → from ≤ k → k < from + count → slice_index (put_mid from count xs ys) k ≡ slice_index ys (k - from)
 get_or-put_mid xs ys from count k counted fits low high = grind (arith, places)
@@ -242,7 +281,7 @@ pub length-rest : (xs : List ℕ) (from count : ℕ) → from + count ≡ length
 length-rest xs from count fits = grind (arith, places)
 
 -- the windows with what is cached, written back: first the outs and locals, then the ins
-pub written_back : (cwp : ℕ) (cached windows own ins : List ℕ) → cwp < 8 → length cached ≡ 32 → length windows ≡ 128 → own ≡ take 16 (drop 8 cached) → ins ≡ drop 24 cached → put_mid (ins_place cwp) 8 (put_mid (own_place cwp) 16 windows own) ins ≡ windows_with cwp cached windows
+pub written_back : (cwp : ℕ) (cached windows own ins : List ℕ) → cwp < 8 → length cached ≡ 33 → length windows ≡ 128 → own ≡ take 16 (drop 8 cached) → ins ≡ take 8 (drop 24 cached) → put_mid (ins_place cwp) 8 (put_mid (own_place cwp) 16 windows own) ins ≡ windows_with cwp cached windows
 unfolding windows_with
 written_back cwp cached windows own ins window counted whole own_is ins_is = sym (table-of (word_at cwp cached windows) _ 128 (length-put_mid once ins (ins_place cwp) 8 eight (omega (arith, counted_once)) ∙ counted_once) each)
   where
@@ -250,7 +289,7 @@ written_back cwp cached windows own ins window counted whole own_is ins_is = sym
     sixteen = ap length own_is ∙ length-part cached 8 16 (omega arith)
 
     eight : length ins ≡ 8
-    eight = ap length ins_is ∙ length-rest cached 24 8 (omega arith)
+    eight = ap length ins_is ∙ length-part cached 24 8 (omega arith)
 
     once : List ℕ
     once = put_mid (own_place cwp) 16 windows own
@@ -278,10 +317,10 @@ written_back cwp cached windows own ins window counted whole own_is ins_is = sym
         own_word low high = ap (λ (xs : List ℕ). slice_index xs (k - own_place cwp)) own_is ∙ get_or-part cached 8 16 (k - own_place cwp) (k - own_place cwp + 8) (omega arith) (omega arith)
 
         ins_word : ins_place cwp ≤ k → k < ins_place cwp + 8 → slice_index ins (k - ins_place cwp) ≡ slice_index cached (k - ins_place cwp + 24)
-        ins_word low high = ap (λ (xs : List ℕ). slice_index xs (k - ins_place cwp)) ins_is ∙ get_or-rest cached 24 (k - ins_place cwp) (k - ins_place cwp + 24) (omega arith)
+        ins_word low high = ap (λ (xs : List ℕ). slice_index xs (k - ins_place cwp)) ins_is ∙ get_or-part cached 24 8 (k - ins_place cwp) (k - ins_place cwp + 24) (omega arith) (omega arith)
 
 -- a window taken to hand: its outs and locals, then its ins
-pub taken_to_cache : (cwp : ℕ) (cached windows own ins : List ℕ) → cwp < 8 → length cached ≡ 32 → length windows ≡ 128 → own ≡ take 16 (drop (own_place cwp) windows) → ins ≡ take 8 (drop (ins_place cwp) windows) → windows_with cwp (put_mid 24 8 (put_mid 8 16 cached own) ins) windows ≡ windows
+pub taken_to_cache : (cwp : ℕ) (cached windows own ins : List ℕ) → cwp < 8 → length cached ≡ 33 → length windows ≡ 128 → own ≡ take 16 (drop (own_place cwp) windows) → ins ≡ take 8 (drop (ins_place cwp) windows) → windows_with cwp (put_mid 24 8 (put_mid 8 16 cached own) ins) windows ≡ windows
 unfolding windows_with
 taken_to_cache cwp cached windows own ins window counted whole own_is ins_is = table-of (word_at cwp both windows) windows 128 whole each
   where
@@ -294,7 +333,7 @@ taken_to_cache cwp cached windows own ins window counted whole own_is ins_is = t
     once : List ℕ
     once = put_mid 8 16 cached own
 
-    counted_once : length once ≡ 32
+    counted_once : length once ≡ 33
     counted_once = length-put_mid cached own 8 16 sixteen (omega arith) ∙ counted
 
     both : List ℕ
@@ -319,7 +358,7 @@ taken_to_cache cwp cached windows own ins window counted whole own_is ins_is = t
         ins_word low high = ap (λ (xs : List ℕ). slice_index xs (k - ins_place cwp + 24 - 24)) ins_is ∙ get_or-part windows (ins_place cwp) 8 (k - ins_place cwp + 24 - 24) k (omega arith) (omega arith)
 
 -- the globals stay where a window is taken to hand
-pub taken_to_cache-globals : (cached own ins : List ℕ) → length cached ≡ 32 → length own ≡ 16 → take 8 (put_mid 24 8 (put_mid 8 16 cached own) ins) ≡ take 8 cached
+pub taken_to_cache-globals : (cached own ins : List ℕ) → length cached ≡ 33 → length own ≡ 16 → take 8 (put_mid 24 8 (put_mid 8 16 cached own) ins) ≡ take 8 cached
 taken_to_cache-globals cached own ins counted sixteen =
     take-put_mid_below 24 8 (put_mid 8 16 cached own) ins 8 (omega arith) (omega (arith, length-put_mid cached own 8 16 sixteen (omega arith))) ∙ take-put_mid_below 8 16 cached own 8 (omega arith) (omega arith)
 
@@ -346,16 +385,15 @@ rest_whole : (n : ℕ) (words : List ℕ) → length words ≤ n + 8 → take 8 
 rest_whole n words short = take_all 8 (drop n words) (omega (arith, length-drop n words))
 
 -- the same in two writes
-pub written_in_two : (cwp from to : ℕ) (cached windows once twice : List ℕ) → cwp < 8 → length cached ≡ 32 → length windows ≡ 128 → from ≡ own_place cwp → to ≡ ins_place cwp → once ≡ put_mid from 16 windows (take 16 (drop 8 cached)) → twice ≡ put_mid to 8 once (take 8 (drop 24 cached)) → twice ≡ windows_with cwp cached windows
+pub written_in_two : (cwp from to : ℕ) (cached windows once twice : List ℕ) → cwp < 8 → length cached ≡ 33 → length windows ≡ 128 → from ≡ own_place cwp → to ≡ ins_place cwp → once ≡ put_mid from 16 windows (take 16 (drop 8 cached)) → twice ≡ put_mid to 8 once (take 8 (drop 24 cached)) → twice ≡ windows_with cwp cached windows
 written_in_two cwp from to cached windows once twice window counted whole from_is to_is once_is twice_is =
     twice_is
-    ∙ ap (put_mid to 8 once) (rest_whole 24 cached (omega (arith, counted)))
-    ∙ ap (λ (xs : List ℕ). put_mid to 8 xs (drop 24 cached)) once_is
-    ∙ ap (λ place. put_mid place 8 (put_mid from 16 windows (take 16 (drop 8 cached))) (drop 24 cached)) to_is
-    ∙ ap (λ place. put_mid (ins_place cwp) 8 (put_mid place 16 windows (take 16 (drop 8 cached))) (drop 24 cached)) from_is
-    ∙ written_back cwp cached windows (take 16 (drop 8 cached)) (drop 24 cached) window counted whole refl refl
+    ∙ ap (λ (xs : List ℕ). put_mid to 8 xs (take 8 (drop 24 cached))) once_is
+    ∙ ap (λ place. put_mid place 8 (put_mid from 16 windows (take 16 (drop 8 cached))) (take 8 (drop 24 cached))) to_is
+    ∙ ap (λ place. put_mid (ins_place cwp) 8 (put_mid place 16 windows (take 16 (drop 8 cached))) (take 8 (drop 24 cached))) from_is
+    ∙ written_back cwp cached windows (take 16 (drop 8 cached)) (take 8 (drop 24 cached)) window counted whole refl refl
 
-pub taken_in_two : (cwp from to : ℕ) (cached windows once twice : List ℕ) → cwp < 8 → length cached ≡ 32 → length windows ≡ 128 → from ≡ own_place cwp → to ≡ ins_place cwp → once ≡ put_mid 8 16 cached (take 16 (drop from windows)) → twice ≡ put_mid 24 8 once (take 8 (drop to windows)) → windows_with cwp twice windows ≡ windows
+pub taken_in_two : (cwp from to : ℕ) (cached windows once twice : List ℕ) → cwp < 8 → length cached ≡ 33 → length windows ≡ 128 → from ≡ own_place cwp → to ≡ ins_place cwp → once ≡ put_mid 8 16 cached (take 16 (drop from windows)) → twice ≡ put_mid 24 8 once (take 8 (drop to windows)) → windows_with cwp twice windows ≡ windows
 taken_in_two cwp from to cached windows once twice window counted whole from_is to_is once_is twice_is =
     ap (λ (xs : List ℕ). windows_with cwp xs windows)
     (twice_is
