@@ -2,6 +2,7 @@ pub mod CachedLemmas
 pub mod CachedTerms
 pub mod CodesTerms
 pub mod ExecutionTerms
+pub mod HeldLemmas
 pub mod TransfersTerms
 pub mod UndoneLemmas
 pub mod WindowTraps

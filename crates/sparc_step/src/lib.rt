@@ -3,6 +3,7 @@
 
 mod arithmetic;
 mod codes;
+pub mod comparisons;
 pub mod conditions;
 mod execution;
 mod flow;
