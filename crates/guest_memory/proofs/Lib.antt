@@ -6,6 +6,7 @@ pub mod FlipLemmas
 pub mod MemoriesLemmas
 pub mod NearLemmas
 pub mod SixteenLemmas
+pub mod PutLemmas
 pub mod RangeLemmas
 pub mod SegmentLemmas
 pub mod TableLemmas

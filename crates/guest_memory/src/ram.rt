@@ -1,8 +1,9 @@
 //! The memories of all partitions.
 
-ghost use Rattle.std.specs.Prelude.{◌≡◌, ◌+◌, ◌<◌, ◌↔◌, false, true, All, IfOk, IfSome, IsNone, OnErr, OnOk, length, map, replicate};
+ghost use Rattle.std.specs.Prelude.{◌≡◌, ◌+◌, ◌<◌, ◌↔◌, false, true, All, IfOk, IfSome, IsNone, None, OnErr, OnOk, length, map, replicate};
+ghost use Rattle.std.specs.Bool.{OnTrue};
 ghost use Rattle.std.specs.FinMap.{get};
-ghost use Rattle.guest_bus.specs.Access.{fetched, loaded as loaded_at};
+ghost use Rattle.guest_bus.specs.Access.{Stores, after_store, fetched, loaded as loaded_at, store_fault};
 ghost use Rattle.guest_bus.specs.Memory.{all_from, bytes_at, is_readable, is_writable, with_bytes};
 ghost use Rattle.guest_memory.specs.Loading.{LiesInAreas, memory_areas, areas_with_image, zeros_in};
 ghost use Rattle.guest_memory.specs.Flips.{with_flipped};
@@ -24,7 +25,7 @@ use guest_bus::{Bus, BusFault, HasWords, Size};
 use std::alloc::Global;
 use std::marker::Model;
 use xef_images::Xef;
-use xm_base::{Memory, PartId};
+use xm_base::{Memory, PartId, proof};
 use xm_conf::{Conf, Part};
 
 /// The memories of all partitions, by the partitions' numbers. A processor sees the memory of the partition that is
@@ -181,6 +182,24 @@ impl Ram {
         flip::flip(&self.tables[usize::from(p)], &mut self.bytes, address, bit);
     }
 
+    /// Writes bytes to a partition's memory from an address on, in areas that may only be read, too.
+    pub fn put(&mut self, p: PartId, address: u32, bytes: &[u8])
+        // Called for a partition that exists, and for a range of addresses each of which is in one of its areas.
+        requires partition { p < length self.old.areas }
+        requires readable { all_from (is_readable (areas_at p self.old)) address (length bytes.now) ≡ true }
+        // The bytes are written, and no other byte changes.
+        ensures value { self.new ≡ with_map p (with_bytes (map_at p self.old) address bytes.now) self.old }
+        // No other partition's memory changes.
+        ensures others { SameElsewhere p self.old self.new }
+    {
+        parts::put(
+            &self.tables[usize::from(p)],
+            &mut self.bytes,
+            address,
+            bytes,
+        );
+    }
+
     /// The byte at an address of a partition's memory, or `None` where none of its areas has the address.
     pub fn byte(&self, p: PartId, address: u32) -> Option<u8>
         // Called for a partition that exists.
@@ -297,6 +316,33 @@ impl Ram {
         self.search_and_load(address, size)
     }
 
+    /// Stores a value in the selected partition's memory, where one of the first two areas has its place and may be written. The answer is
+    /// whether it did.
+    #[inline(always)]
+    fn stored_near(&mut self, address: u32, size: Size, value: u64) -> bool
+        ensures fault { OnTrue result (store_fault (areas_at self.old.selected self.old) address size ≡ None) }
+        ensures memory { OnTrue result (self.new ≡ with_map self.old.selected (after_store (areas_at self.old.selected self.old) (map_at self.old.selected self.old) address size value) self.old) }
+        ensures not_done { result ≡ false → self.new ≡ self.old }
+        ensures memories { AreMemories self.new }
+    {
+        proof! { let _table = &self.tables[usize::from(self.selected)]; }
+        self.near
+            .stored(Look::FirstTwo, &mut self.bytes, address, size, value)
+    }
+
+    /// Stores a value in the selected partition's memory where nothing refuses it. The area of its place, which is none of the first two, is
+    /// one of those that are looked at first from now on.
+    #[cold]
+    #[inline(never)]
+    fn store_elsewhere(&mut self, address: u32, size: Size, value: u64) -> Result<(), BusFault>
+        ensures fault { Stores result (store_fault (areas_at self.old.selected self.old) address size) }
+        ensures memory { self.new ≡ with_map self.old.selected (after_store (areas_at self.old.selected self.old) (map_at self.old.selected self.old) address size value) self.old }
+        ensures memories { AreMemories self.new }
+    {
+        let table = &self.tables[usize::from(self.selected)];
+        parts::store(&mut self.near, table, &mut self.bytes, address, size, value)
+    }
+
     // The area that has an address is one of those that are looked at first from now on.
     fn remember(&mut self, address: u32)
         ensures { self.new ≡ self.old }
@@ -346,14 +392,11 @@ impl Bus for Ram {
 
     #[inline(always)]
     fn store(&mut self, address: u32, size: Size, value: u64) -> Result<(), BusFault> {
-        parts::store(
-            &mut self.near,
-            &self.tables[usize::from(self.selected)],
-            &mut self.bytes,
-            address,
-            size,
-            value,
-        )
+        if self.stored_near(address, size, value) {
+            Ok(())
+        } else {
+            self.store_elsewhere(address, size, value)
+        }
     }
 }
 
