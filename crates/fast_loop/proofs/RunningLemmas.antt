@@ -1,150 +1,95 @@
--- A run, word by word.
+-- A run, part by part.
 use Rattle.std.proofs.Common.{◌≡◌, ℕ, ◌+◌, ◌-◌, ◌%◌, ◌^◌, ◌<◌, ◌≤◌, List, refl, sym, ap, ◌∙◌, subst, arith}
 use Rattle.guest_bus.specs.Memory.{Area, Memory}
 use Rattle.guest_bus.specs.Words.{word_address}
 use Rattle.sparc_step.specs.Registers.{Registers, placed}
-use Rattle.fast_loop.specs.lemmas.Coming.{IsCame}
-use Rattle.fast_loop.specs.lemmas.Codes.{RunStopsAt}
-use Rattle.fast_loop.specs.Runs.{AreSteps, IsCall}
-use Rattle.fast_loop.specs.lemmas.RunsLemmas.{no_steps, steps_then}
-use Rattle.fast_loop.specs.lemmas.Places.{at_place}
+use Rattle.predecode.specs.declared.rows.Row.{Row}
+use Rattle.fast_loop.specs.Runs.{AreSteps}
+use Rattle.fast_loop.specs.lemmas.Coming.{ArePartSteps, IsPart, left_at}
+use Rattle.fast_loop.specs.lemmas.Keeping.{AreRowsOf}
+use Rattle.fast_loop.specs.lemmas.Places.{at_place, at_slot}
+use Rattle.fast_loop.specs.lemmas.RunsLemmas.{steps_then}
 use Rattle.fast_loop.proofs.TurningLemmas.{next_address}
-use Rattle.fast_loop.specs.declared.one.Came.TheVariants.{Next, Jump, Turn, Calls}
-use Rattle.guest_bus.specs.declared.words.Words.{Words}
+use Rattle.fast_loop.specs.declared.parts.Part.{Part}
+use Rattle.fast_loop.specs.declared.parts.PartEnd.{PartEnd}
+use Rattle.fast_loop.specs.declared.parts.PartEnd.TheVariants as ends
 
--- the steps that are left at a place up to a limit, where both went round together
-abbrev pub left_at : ℕ → ℕ → ℕ
-left_at at limit = (limit + (2 ^ 64 - at)) % 2 ^ 64
-
--- a run at a place: the steps so far, those that are left up to a limit, and where it stops
-pub record IsRunning (words : Words) (areas : List Area) (from most at limit stop : ℕ) (core : Registers) (memory : Memory) (here : Registers) (there : Memory) : Type 0 where
-  pub steps : AreSteps (most - left_at at limit) areas (at_place words.origin from core) memory (at_place words.origin at here) there
+-- a run at a place: the steps so far, and those that are left up to a limit
+pub record IsRunning (origin from most at limit : ℕ) (areas : List Area) (old here : Registers) (memory there : Memory) : Type 0 where
+  pub steps : AreSteps (most - left_at at limit) areas (at_place origin from old) memory (at_place origin at here) there
   pub few : left_at at limit ≤ most
   pub place : at < 2 ^ 64
   pub end : limit < 2 ^ 64
-  pub stops : RunStopsAt words at limit stop
 
--- steps that are left before a limit
-pub left_before : (at limit : ℕ) → at < limit → limit < 2 ^ 64 → left_at at limit ≡ limit - at
-left_before at limit under end = omega arith
+-- the place where the steps that are left would end, at a place of a row
+pub limit_at : (at limit most : ℕ) → at < 2 ^ 31 → limit < 2 ^ 64 → most < 2 ^ 32 → left_at at limit ≤ most → limit ≡ at + left_at at limit
+limit_at at limit most under end small few = omega arith
 
--- and after this many of them
-left_after : (count at limit distance : ℕ) → count ≤ 2 → at + count ≤ limit → limit < 2 ^ 64
-    → left_at ((at + distance) % 2 ^ 64) (((limit + distance) % 2 ^ 64 + (2 ^ 64 - count)) % 2 ^ 64) ≡ limit - (at + count)
-left_after count at limit distance small within end = omega arith
+-- the steps of a part
+part_counted : (count most left from limit at end : ℕ) → left ≤ most → limit ≡ from + left → count + left_at at end ≡ limit - from → count + (most - left) ≡ most - left_at at end
+part_counted count most left from limit at end few is counted = omega arith
 
--- a place at a displacement, by the distance
-pub moved_address : (origin at displacement distance : ℕ) → distance % 2 ^ 32 ≡ displacement → word_address origin ((at + distance) % 2 ^ 64) ≡ word_address origin (at + displacement)
-unfolding word_address
-moved_address origin at displacement distance is = omega arith
+-- a part that is known by other names
+pub same_part : (part other : Part) (origin from limit : ℕ) (areas here : List Area) (old new mid : Registers) (memory after there : Memory) → here ≡ areas → part ≡ other → new ≡ mid → after ≡ there
+    → IsPart other origin from limit here old mid memory there → IsPart part origin from limit areas old new memory after
+same_part part other origin from limit areas here old new mid memory after there areas_same part_same same bytes is =
+    subst (λ (p : Part). IsPart p origin from limit areas old new memory after) (sym part_same)
+    (subst (λ (r : Registers). IsPart other origin from limit areas old r memory after) (sym same)
+    (subst (λ (m : Memory). IsPart other origin from limit areas old mid memory m) (sym bytes)
+    (subst (λ (a : List Area). IsPart other origin from limit a old mid memory there) areas_same is)))
 
-pub moved_place : (origin at displacement distance : ℕ) (core : Registers) → distance % 2 ^ 32 ≡ displacement → at_place origin (at + displacement) core ≡ at_place origin ((at + distance) % 2 ^ 64) core
-moved_place origin at displacement distance core is =
-    ap (λ (n : ℕ). placed (word_address origin (at + displacement)) n core) (sym (next_address origin (at + displacement)))
-    ∙ ap (λ (a : ℕ). placed a ((a + 4) % 2 ^ 32) core) (sym (moved_address origin at displacement distance is))
-    ∙ ap (λ (n : ℕ). placed (word_address origin ((at + distance) % 2 ^ 64)) n core) (next_address origin ((at + distance) % 2 ^ 64))
+pub part_rows : (rows : List Row) (areas here : List Area) (memory there : Memory) (origin : ℕ) → areas ≡ here → memory ≡ there → AreRowsOf rows here there origin → AreRowsOf rows areas memory origin
+part_rows rows areas here memory there origin same bytes are = subst (λ (a : List Area). AreRowsOf rows a memory origin) (sym same) (subst (λ (m : Memory). AreRowsOf rows here m origin) (sym bytes) are)
 
--- it begins
-pub begun : (words : Words) (areas : List Area) (from most stop : ℕ) (core : Registers) (memory : Memory) → from < 2 ^ 33 → most < 2 ^ 32 → RunStopsAt words from (from + most) stop
-    → IsRunning words areas from most from (from + most) stop core memory core memory
-begun words areas from most stop core memory near few stops = record {
-  steps = subst (λ (n : ℕ). AreSteps n areas (at_place words.origin from core) memory (at_place words.origin from core) memory) none (no_steps areas (at_place words.origin from core) memory);
-  few = omega arith;
-  place = omega arith;
-  end = omega arith;
-  stops = stops;
-}
-  where
-    none : 0 ≡ most - left_at from (from + most)
-    none = omega arith
+-- after a run a part of it
+module _ (origin from most at limit : ℕ) (areas : List Area) (old here new : Registers) (memory there after : Memory) (is : IsRunning origin from most at limit areas old here memory there) (under : at < 2 ^ 31) (small : most < 2 ^ 32)
+    (part : Part) (came : IsPart part origin at limit areas here new there after) where
+  counted : came.count + (most - left_at at limit) ≡ most - left_at part.at part.limit
+  counted = part_counted came.count most (left_at at limit) at limit part.at part.limit is.few (limit_at at limit most under is.end small is.few) came.counted
 
--- the next word follows
-pub went_on : (words : Words) (areas : List Area) (from most at limit stop : ℕ) (core : Registers) (memory : Memory) (here new : Registers) (there after : Memory)
-    → IsRunning words areas from most at limit stop core memory here there → at < stop
-    → IsCame Next words.origin at areas here new there after
-    → IsRunning words areas from most (at + 1) limit stop core memory new after
-went_on words areas from most at limit stop core memory here new there after is under came = record {
-  steps = subst (λ (n : ℕ). AreSteps n areas (at_place words.origin from core) memory (at_place words.origin (at + 1) new) after) more
-      (steps_then 1 (most - left_at at limit) areas (at_place words.origin from core) (at_place words.origin at here) (at_place words.origin (at + 1) new) memory there after is.steps came);
-  few = omega (arith, under, is.stops.short under, is.few, is.end);
-  place = omega (arith, under, is.stops.short under, is.end);
-  end = is.end;
-  stops = record {
-    begin = λ later. omega (arith, is.stops.begin under);
-    within = λ later. is.stops.within under;
-    short = λ later. is.stops.short under;
-  };
-}
-  where
-    more : 1 + (most - left_at at limit) ≡ most - left_at (at + 1) limit
-    more = omega (arith, under, is.stops.short under, is.few, is.end)
+  part_steps : (reached : Registers) → AreSteps came.count areas (at_place origin at here) there reached after → AreSteps (most - left_at part.at part.limit) areas (at_place origin from old) memory reached after
+  part_steps reached steps = subst (λ (n : ℕ). AreSteps n areas (at_place origin from old) memory reached after) counted
+      (steps_then came.count (most - left_at at limit) areas (at_place origin from old) (at_place origin at here) reached memory there after is.steps steps)
 
--- the word at a displacement follows
-moved_on : (count : ℕ) (words : Words) (areas : List Area) (from most at limit stop displacement distance next : ℕ) (core : Registers) (memory : Memory) (here new : Registers) (there after : Memory)
-    → 0 < count → count ≤ 2 → at + count ≤ limit
-    → IsRunning words areas from most at limit stop core memory here there → distance % 2 ^ 32 ≡ displacement
-    → AreSteps count areas (at_place words.origin at here) there (at_place words.origin (at + displacement) new) after
-    → RunStopsAt words ((at + distance) % 2 ^ 64) (((limit + distance) % 2 ^ 64 + (2 ^ 64 - count)) % 2 ^ 64) next
-    → IsRunning words areas from most ((at + distance) % 2 ^ 64) (((limit + distance) % 2 ^ 64 + (2 ^ 64 - count)) % 2 ^ 64) next core memory new after
-moved_on count words areas from most at limit stop displacement distance next core memory here new there after some small within is reach came stops =
-    let left = left_after count at limit distance small within is.end in
-    let before = left_before at limit (omega arith) is.end in
-    let more : count + (most - left_at at limit) ≡ most - left_at ((at + distance) % 2 ^ 64) (((limit + distance) % 2 ^ 64 + (2 ^ 64 - count)) % 2 ^ 64) =
-    ap (λ (n : ℕ). count + (most - n)) before ∙ counted (sym before) ∙ ap (λ (n : ℕ). most - n) (sym left) in
-    record {
-      steps = subst (λ (n : ℕ). AreSteps n areas (at_place words.origin from core) memory (at_place words.origin ((at + distance) % 2 ^ 64) new) after) more
-          (steps_then count (most - left_at at limit) areas (at_place words.origin from core) (at_place words.origin at here) (at_place words.origin ((at + distance) % 2 ^ 64) new) memory there after is.steps
-          (subst (λ (r : Registers). AreSteps count areas (at_place words.origin at here) there r after) (moved_place words.origin at displacement distance new reach) came));
-      few = subst (λ (n : ℕ). n ≤ most) (sym left) (fewer (sym before));
-      place = omega arith;
-      end = omega arith;
-      stops = stops;
-    }
-  where
-    counted : limit - at ≡ left_at at limit → count + (most - (limit - at)) ≡ most - (limit - (at + count))
-    counted before = let few : limit - at ≤ most = subst (λ (n : ℕ). n ≤ most) (sym before) is.few in omega (arith, within)
+  by_end : (e : PartEnd) → part.end ≡ e → ArePartSteps e came.count origin at part.at areas here new there after
+  by_end e same = subst (λ (x : PartEnd). ArePartSteps x came.count origin at part.at areas here new there after) same came.steps
 
-    fewer : limit - at ≡ left_at at limit → limit - (at + count) ≤ most
-    fewer before = let few : limit - at ≤ most = subst (λ (n : ℕ). n ≤ most) (sym before) is.few in omega arith
+  -- it goes on
+  pub went_on : part.end ≡ ends.Goes → IsRunning origin from most part.at part.limit areas old new memory after
+  went_on goes = record {
+    steps = part_steps (at_place origin part.at new) (by_end ends.Goes goes).1;
+    few = omega (arith, came.counted, limit_at at limit most under is.end small is.few, is.few);
+    place = came.place;
+    end = came.end;
+  }
 
-pub jumped_on : (words : Words) (areas : List Area) (from most at limit stop displacement distance next : ℕ) (core : Registers) (memory : Memory) (here new : Registers) (there after : Memory)
-    → IsRunning words areas from most at limit stop core memory here there → at < stop → distance % 2 ^ 32 ≡ displacement
-    → IsCame (Jump displacement) words.origin at areas here new there after
-    → RunStopsAt words ((at + distance) % 2 ^ 64) (((limit + distance) % 2 ^ 64 + (2 ^ 64 - 1)) % 2 ^ 64) next
-    → IsRunning words areas from most ((at + distance) % 2 ^ 64) (((limit + distance) % 2 ^ 64 + (2 ^ 64 - 1)) % 2 ^ 64) next core memory new after
-jumped_on words areas from most at limit stop displacement distance next core memory here new there after is under reach came stops =
-    moved_on 1 words areas from most at limit stop displacement distance next core memory here new there after (omega arith) (omega arith) (omega (arith, under, is.stops.short under)) is reach came stops
+  -- it ends
+  ended_by : (went : ℕ) (reached ended : Registers) → went ≡ most - left_at part.at part.limit → ended ≡ reached → AreSteps came.count areas (at_place origin at here) there reached after
+      → AreSteps went areas (at_place origin from old) memory ended after
+  ended_by went reached ended many stands steps = subst (λ (n : ℕ). AreSteps n areas (at_place origin from old) memory ended after) (sym many)
+      (subst (λ (r : Registers). AreSteps (most - left_at part.at part.limit) areas (at_place origin from old) memory r after) (sym stands) (part_steps reached steps))
 
--- the same after a delay slot
-pub turned_on : (words : Words) (areas : List Area) (from most at limit stop displacement distance next : ℕ) (core : Registers) (memory : Memory) (here new : Registers) (there after : Memory)
-    → IsRunning words areas from most at limit stop core memory here there → at < stop → distance % 2 ^ 32 ≡ displacement
-    → at + 1 < stop → IsCame (Turn displacement) words.origin at areas here new there after
-    → RunStopsAt words ((at + distance) % 2 ^ 64) (((limit + distance) % 2 ^ 64 + (2 ^ 64 - 2)) % 2 ^ 64) next
-    → IsRunning words areas from most ((at + distance) % 2 ^ 64) (((limit + distance) % 2 ^ 64 + (2 ^ 64 - 2)) % 2 ^ 64) next core memory new after
-turned_on words areas from most at limit stop displacement distance next core memory here new there after is under reach room came stops =
-    moved_on 2 words areas from most at limit stop displacement distance next core memory here new there after (omega arith) (omega arith) (omega (arith, room, is.stops.short under)) is reach came stops
+  -- in a delay slot
+  pub ended_slot : (displacement went : ℕ) (ended : Registers) → part.end ≡ ends.Slot displacement → went ≡ most - left_at part.at part.limit → ended ≡ at_slot origin part.at (part.at - 1 + displacement) new
+      → AreSteps went areas (at_place origin from old) memory ended after
+  ended_slot displacement went ended slot many stands = ended_by went (at_slot origin part.at (part.at - 1 + displacement) new) ended many stands (by_end (ends.Slot displacement) slot).1
 
--- a call that was met stands where the run ended
-pub call_met : (origin at : ℕ) (here areas : List Area) (core mid ended : Registers) (memory after : Memory) → here ≡ areas → IsCame Calls origin at here core mid memory after → ended ≡ at_place origin at mid → IsCall areas ended after
-call_met origin at here areas core mid ended memory after same came ended_is =
-    subst (λ (r : Registers). IsCall areas r after) (sym ended_is) (subst (λ (a : List Area). IsCall a (at_place origin at mid) after) same came.2)
+  -- before an instruction that is left
+  pub ended_left : (went : ℕ) (ended : Registers) → part.end ≡ ends.Stays → went ≡ most - left_at part.at part.limit → ended ≡ at_place origin part.at new → AreSteps went areas (at_place origin from old) memory ended after
+  ended_left went ended left many stands = ended_by went (at_place origin part.at new) ended many stands (by_end ends.Stays left)
 
--- and steps are left for it
-pub some_left : (words : Words) (areas : List Area) (from most at limit stop : ℕ) (core : Registers) (memory : Memory) (here : Registers) (there : Memory)
-    → IsRunning words areas from most at limit stop core memory here there → at < stop → most - (limit - at) < most
-some_left words areas from most at limit stop core memory here there is under =
-    let some : at < limit = omega (arith, under, is.stops.short under) in
-    let few : limit - at ≤ most = subst (λ (n : ℕ). n ≤ most) (left_before at limit some is.end) is.few in
-    omega (arith, some, few)
+  -- before a call
+  pub ended_called : (went : ℕ) (ended : Registers) → part.end ≡ ends.Calls → went ≡ most - left_at part.at part.limit → ended ≡ at_place origin part.at new → AreSteps went areas (at_place origin from old) memory ended after
+  ended_called went ended calls many stands = ended_by went (at_place origin part.at new) ended many stands (by_end ends.Calls calls).0
 
 -- registers whose program counters are at a place
 placed_own : (core : Registers) → placed core.pc core.npc core ≡ core
 unfolding placed
 placed_own core = refl
 
-pub at_start : (words : Words) (place : ℕ) (core : Registers) → word_address words.origin place ≡ core.pc → core.npc ≡ (core.pc + 4) % 2 ^ 32 → at_place words.origin place core ≡ core
-at_start words place core here next =
-    ap (λ (n : ℕ). placed (word_address words.origin place) n core) (sym (next_address words.origin place))
+pub at_start : (origin place : ℕ) (core : Registers) → word_address origin place ≡ core.pc → core.npc ≡ (core.pc + 4) % 2 ^ 32 → at_place origin place core ≡ core
+at_start origin place core here next =
+    ap (λ (n : ℕ). placed (word_address origin place) n core) (sym (next_address origin place))
     ∙ ap (λ (a : ℕ). placed a ((a + 4) % 2 ^ 32) core) here
     ∙ ap (λ (n : ℕ). placed core.pc n core) (sym next)
     ∙ placed_own core

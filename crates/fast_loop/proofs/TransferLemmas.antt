@@ -9,8 +9,7 @@ use Rattle.sparc_code.specs.declared.instruction.MemOp.{MemOp}
 use Rattle.sparc_code.specs.declared.instruction.MemOp.TheVariants.{LdD}
 use Rattle.sparc_step.specs.Registers.{Registers, advanced, placed, register_at, with_register}
 use Rattle.sparc_step.specs.Transfers.{done, loaded_into, pair_at, pair_loaded, store_of, stored_from, transfer, with_pair}
-use Rattle.fast_loop.specs.lemmas.Effects.{IsTransferred, extended_by}
-use Rattle.predecode.specs.lemmas.KindsTerms.{load_by_size, store_by_size}
+use Rattle.fast_loop.specs.lemmas.Effects.{IsTransferred, extended_by, load_by_size, store_by_size}
 use Rattle.fast_loop.specs.lemmas.PlacedLemmas.{advanced-placed, with_register-placed, with_result-placed}
 
 -- the load of a size below a double word, and the store

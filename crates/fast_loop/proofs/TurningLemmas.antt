@@ -1,4 +1,4 @@
--- Where branches that are taken, calls and jumps go, by their kinds.
+-- Where branches that are taken, calls and jumps go, by what their rows do.
 use Rattle.std.proofs.Common.{◌≡◌, ◌≢◌, ℕ, ◌+◌, ◌*◌, ◌%◌, ◌^◌, ℤ, Bool, true, false, List, refl, sym, ap, ◌∙◌, arith}
 use Rattle.std.proofs.lemmas.Bool.Decides.{nat_tests}
 use Rattle.std.specs.Prelude.{if◌then◌else◌, ◌&&◌, ◌==◌}
@@ -7,23 +7,25 @@ use Rattle.guest_bus.specs.Words.{word_address}
 use Rattle.sparc_code.specs.declared.instruction.Instr.{Instr}
 use Rattle.sparc_code.specs.declared.instruction.Instr.TheVariants as instr
 use Rattle.sparc_code.specs.declared.instruction.Src.{Src}
+use Rattle.sparc_step.specs.Cached.{register_of}
 use Rattle.sparc_step.specs.Conditions.{holds, holds_below_eight}
 use Rattle.sparc_step.specs.Execution.{done, executed, keeping_memory}
 use Rattle.sparc_step.specs.Flow.{branch_row, branch_target, left_by, passed, taken, trap_turn, trap_type, turn_of_type}
 use Rattle.sparc_step.specs.Operands.{sum_of}
-use Rattle.sparc_step.specs.Registers.{Registers, branched, placed, sent, skipped, with_register}
+use Rattle.sparc_step.specs.Registers.{Registers, branched, placed, register_at, sent, skipped, with_register}
 use Rattle.sparc_step.specs.Words.{residue}
 use Rattle.sparc_step.specs.declared.outcome.Turn.{Turn}
 use Rattle.sparc_step.specs.declared.outcome.Turn.TheVariants.{Call, Went}
-use Rattle.predecode.specs.Kinds.{kind_of_trap, other}
-use Rattle.fast_loop.specs.lemmas.PlacedLemmas.{sum_of-placed}
-use Rattle.fast_loop.proofs.RareLemmas.{arith_rare}
-use Rattle.predecode.specs.Rows.{HasSource, IsRowOf}
-use Rattle.fast_loop.proofs.StepLemmas.{arith_not_two, branch_apart, transfer_apart, transfer_kinds, trap_apart}
-use Rattle.fast_loop.specs.lemmas.TurnLemmas.{branch_taken, call_taken, jump_taken}
-use Rattle.fast_loop.specs.lemmas.Places.{at_place, at_slot}
-use Rattle.fast_loop.specs.Turning.{calling}
+use Rattle.predecode.specs.Kinds.{Does, Unmade, Leaves, Idles, Works, Compares, Sets, Moves, ReadsY, WritesY, Saves, Restores, Calls, Jumps, BranchesAlways, Branches, Annuls, AnnulsAlways, Traps, Sum}
+use Rattle.predecode.specs.Rows.{DoesSo, IsFormed}
 use Rattle.predecode.specs.declared.rows.Row.{Row}
+use Rattle.fast_loop.specs.Turning.{calling}
+use Rattle.fast_loop.specs.lemmas.Effects.{address_so}
+use Rattle.fast_loop.specs.lemmas.PlacedLemmas.{sum_of-placed}
+use Rattle.fast_loop.specs.lemmas.Places.{at_place, at_slot}
+use Rattle.fast_loop.specs.lemmas.Steps.{HasCalled, HasJumped, HasTaken}
+use Rattle.fast_loop.specs.lemmas.TurnLemmas.{branch_taken, call_taken, jump_taken}
+use Rattle.fast_loop.proofs.DoesLemmas.{address_is}
 
 -- the address of the next word
 pub next_address : (origin place : ℕ) → (word_address origin place + 4) % 2 ^ 32 ≡ word_address origin (place + 1)
@@ -128,112 +130,6 @@ jump_to origin at to rd rs1 source areas core new memory left is aligned =
 not_always : (condition : ℕ) → condition ≢ 8 → (true && (condition == 8)) ≡ false
 not_always condition other = grind (arith, nat_tests)
 
--- kind 2, which is taken
-pub taken_turns : (row : Row) (origin at to : ℕ) (old : Registers) → row.kind ≡ 2 → holds row.rs1 old.icc ≡ true → word_address origin to ≡ (word_address origin at + 4 * row.number) % 2 ^ 32
-    → (i : Instr) (areas : List Area) (memory : Memory) → IsRowOf row i → executed i areas (at_place origin at old) memory ≡ done (at_slot origin (at + 1) to old) memory
-taken_turns row origin at to old is holding reach (instr.Call disp) areas memory (kind, number) = absurd (omega (arith, is, kind))
-taken_turns row origin at to old is holding reach (instr.Branch condition false disp) areas memory (kind, first, number) =
-    branch_to origin at to row.number condition false disp areas old memory (ap (λ (c : ℕ). holds c old.icc) (sym first) ∙ holding) refl reach number
-taken_turns row origin at to old is holding reach (instr.Branch condition true disp) areas memory (kind, first, number) = absurd (omega (arith, is, kind))
-taken_turns row origin at to old is holding reach (instr.Sethi rd imm) areas memory (kind, result, first, second, number) = absurd (omega (arith, is, kind))
-taken_turns row origin at to old is holding reach (instr.Arith operation rd rs1 source) areas memory does = absurd (arith_not_two operation (sym does.work ∙ is))
-taken_turns row origin at to old is holding reach (instr.ReadY rd) areas memory (kind, result) = absurd (omega (arith, is, kind))
-taken_turns row origin at to old is holding reach instr.Barrier areas memory kind = absurd (omega (arith, is, kind))
-taken_turns row origin at to old is holding reach (instr.WriteY rs1 source) areas memory does = absurd (omega (arith, is, does.work))
-taken_turns row origin at to old is holding reach (instr.Jump rd rs1 source) areas memory does = absurd (omega (arith, is, does.work))
-taken_turns row origin at to old is holding reach (instr.Trap condition rs1 source) areas memory does = absurd (trap_apart condition row.kind does.work (omega (arith, is)))
-taken_turns row origin at to old is holding reach instr.Flush areas memory kind = absurd (omega (arith, is, kind))
-taken_turns row origin at to old is holding reach (instr.Save rd rs1 source) areas memory does = absurd (omega (arith, is, does.work))
-taken_turns row origin at to old is holding reach (instr.Restore rd rs1 source) areas memory does = absurd (omega (arith, is, does.work))
-taken_turns row origin at to old is holding reach (instr.Mem operation rd rs1 source) areas memory does = absurd (omega (arith, is, does.work, transfer_kinds operation))
-taken_turns row origin at to old is holding reach instr.Privileged areas memory kind = absurd (omega (arith, is, kind))
-taken_turns row origin at to old is holding reach instr.Float areas memory kind = absurd (omega (arith, is, kind))
-taken_turns row origin at to old is holding reach instr.Coproc areas memory kind = absurd (omega (arith, is, kind))
-taken_turns row origin at to old is holding reach instr.Illegal areas memory kind = absurd (omega (arith, is, kind))
-
--- what holds of each branch that may annul and that a row does holds of its instruction
-of_annulling : (P : Instr → Type 0) (row : Row) → row.kind ≡ 36 → ((condition : ℕ) (disp : ℤ) → row.rs1 ≡ condition → row.number ≡ residue 32 disp → P (instr.Branch condition true disp)) → (i : Instr) → IsRowOf row i → P i
-of_annulling P row is annulling (instr.Call disp) (kind, number) = absurd (omega (arith, is, kind))
-of_annulling P row is annulling (instr.Branch condition true disp) (kind, first, number) = annulling condition disp first number
-of_annulling P row is annulling (instr.Branch condition false disp) (kind, first, number) = absurd (omega (arith, is, kind))
-of_annulling P row is annulling (instr.Sethi rd imm) (kind, result, first, second, number) = absurd (omega (arith, is, kind))
-of_annulling P row is annulling (instr.Arith operation rd rs1 source) does = absurd (arith_rare operation row.kind does.work (omega (arith, is)) (omega (arith, is)))
-of_annulling P row is annulling (instr.ReadY rd) (kind, result) = absurd (omega (arith, is, kind))
-of_annulling P row is annulling instr.Barrier kind = absurd (omega (arith, is, kind))
-of_annulling P row is annulling (instr.WriteY rs1 source) does = absurd (omega (arith, is, does.work))
-of_annulling P row is annulling (instr.Jump rd rs1 source) does = absurd (omega (arith, is, does.work))
-of_annulling P row is annulling (instr.Trap condition rs1 source) does = absurd (trap_apart condition row.kind does.work (omega (arith, is)))
-of_annulling P row is annulling instr.Flush kind = absurd (omega (arith, is, kind))
-of_annulling P row is annulling (instr.Save rd rs1 source) does = absurd (omega (arith, is, does.work))
-of_annulling P row is annulling (instr.Restore rd rs1 source) does = absurd (omega (arith, is, does.work))
-of_annulling P row is annulling (instr.Mem operation rd rs1 source) does = absurd (transfer_apart operation row.kind does.work (omega (arith, is)) (omega (arith, is)))
-of_annulling P row is annulling instr.Privileged kind = absurd (omega (arith, is, kind))
-of_annulling P row is annulling instr.Float kind = absurd (omega (arith, is, kind))
-of_annulling P row is annulling instr.Coproc kind = absurd (omega (arith, is, kind))
-of_annulling P row is annulling instr.Illegal kind = absurd (omega (arith, is, kind))
-
--- kind 36, which is taken on a condition
-pub annulling_turns : (row : Row) (origin at to : ℕ) (old : Registers) → row.kind ≡ 36 → holds row.rs1 old.icc ≡ true → row.rs1 ≢ 8 → word_address origin to ≡ (word_address origin at + 4 * row.number) % 2 ^ 32
-    → (i : Instr) (areas : List Area) (memory : Memory) → IsRowOf row i → executed i areas (at_place origin at old) memory ≡ done (at_slot origin (at + 1) to old) memory
-annulling_turns row origin at to old is holding some reach i areas memory = of_annulling (λ i. executed i areas (at_place origin at old) memory ≡ done (at_slot origin (at + 1) to old) memory) row is (λ condition disp first number.
-    branch_to origin at to row.number condition true disp areas old memory (ap (λ (c : ℕ). holds c old.icc) (sym first) ∙ holding) (not_always condition (λ eight. some (first ∙ eight))) reach number) i
-
--- kind 36, which is taken always
-pub always_turns : (row : Row) (origin at to : ℕ) (old : Registers) → row.kind ≡ 36 → holds row.rs1 old.icc ≡ true → row.rs1 ≡ 8 → word_address origin to ≡ (word_address origin at + 4 * row.number) % 2 ^ 32
-    → (i : Instr) (areas : List Area) (memory : Memory) → IsRowOf row i → executed i areas (at_place origin at old) memory ≡ done (at_place origin to old) memory
-always_turns row origin at to old is holding always reach i areas memory = of_annulling (λ i. executed i areas (at_place origin at old) memory ≡ done (at_place origin to old) memory) row is (λ condition disp first number.
-    always_to origin at to row.number condition disp areas old memory (ap (λ (c : ℕ). holds c old.icc) (sym first) ∙ holding) (sym first ∙ always) reach number) i
-
--- kind 36, which is not taken
-pub skipping_turns : (row : Row) (origin at : ℕ) (old : Registers) → row.kind ≡ 36 → holds row.rs1 old.icc ≡ false
-    → (i : Instr) (areas : List Area) (memory : Memory) → IsRowOf row i → executed i areas (at_place origin at old) memory ≡ done (at_place origin (at + 2) old) memory
-skipping_turns row origin at old is holding i areas memory = of_annulling (λ i. executed i areas (at_place origin at old) memory ≡ done (at_place origin (at + 2) old) memory) row is (λ condition disp first number.
-    skipped_to origin at condition disp areas old memory (ap (λ (c : ℕ). holds c old.icc) (sym first) ∙ holding)) i
-
--- kind 34
-pub call_turns : (row : Row) (origin at to : ℕ) (old new : Registers) → row.kind ≡ 34 → new ≡ with_register old 15 (word_address origin at) → word_address origin to ≡ (word_address origin at + 4 * row.number) % 2 ^ 32
-    → (i : Instr) (areas : List Area) (memory : Memory) → IsRowOf row i → executed i areas (at_place origin at old) memory ≡ done (at_slot origin (at + 1) to new) memory
-call_turns row origin at to old new is left reach (instr.Call disp) areas memory (kind, number) = call_to origin at to row.number disp areas old new memory left reach number
-call_turns row origin at to old new is left reach (instr.Branch condition annul disp) areas memory (kind, first, number) = absurd (branch_apart annul row.kind kind (omega (arith, is)) (omega (arith, is)))
-call_turns row origin at to old new is left reach (instr.Sethi rd imm) areas memory (kind, result, first, second, number) = absurd (omega (arith, is, kind))
-call_turns row origin at to old new is left reach (instr.Arith operation rd rs1 source) areas memory does = absurd (arith_rare operation row.kind does.work (omega (arith, is)) (omega (arith, is)))
-call_turns row origin at to old new is left reach (instr.ReadY rd) areas memory (kind, result) = absurd (omega (arith, is, kind))
-call_turns row origin at to old new is left reach instr.Barrier areas memory kind = absurd (omega (arith, is, kind))
-call_turns row origin at to old new is left reach (instr.WriteY rs1 source) areas memory does = absurd (omega (arith, is, does.work))
-call_turns row origin at to old new is left reach (instr.Jump rd rs1 source) areas memory does = absurd (omega (arith, is, does.work))
-call_turns row origin at to old new is left reach (instr.Trap condition rs1 source) areas memory does = absurd (trap_apart condition row.kind does.work (omega (arith, is)))
-call_turns row origin at to old new is left reach instr.Flush areas memory kind = absurd (omega (arith, is, kind))
-call_turns row origin at to old new is left reach (instr.Save rd rs1 source) areas memory does = absurd (omega (arith, is, does.work))
-call_turns row origin at to old new is left reach (instr.Restore rd rs1 source) areas memory does = absurd (omega (arith, is, does.work))
-call_turns row origin at to old new is left reach (instr.Mem operation rd rs1 source) areas memory does = absurd (transfer_apart operation row.kind does.work (omega (arith, is)) (omega (arith, is)))
-call_turns row origin at to old new is left reach instr.Privileged areas memory kind = absurd (omega (arith, is, kind))
-call_turns row origin at to old new is left reach instr.Float areas memory kind = absurd (omega (arith, is, kind))
-call_turns row origin at to old new is left reach instr.Coproc areas memory kind = absurd (omega (arith, is, kind))
-call_turns row origin at to old new is left reach instr.Illegal areas memory kind = absurd (omega (arith, is, kind))
-
--- kind 35
-pub jump_turns : (row : Row) (origin at to : ℕ) (old new : Registers) → row.kind ≡ 35 → (target : ℕ) → ((source : Src) → HasSource source row → target ≡ sum_of row.rs1 source old) → target % 4 ≡ 0 → word_address origin to ≡ target → new ≡ with_register old row.rd (word_address origin at)
-    → (i : Instr) (areas : List Area) (memory : Memory) → IsRowOf row i → executed i areas (at_place origin at old) memory ≡ done (at_slot origin (at + 1) to new) memory
-jump_turns row origin at to old new is goal sums aligned reach left (instr.Call disp) areas memory (kind, number) = absurd (omega (arith, is, kind))
-jump_turns row origin at to old new is goal sums aligned reach left (instr.Branch condition annul disp) areas memory (kind, first, number) = absurd (branch_apart annul row.kind kind (omega (arith, is)) (omega (arith, is)))
-jump_turns row origin at to old new is goal sums aligned reach left (instr.Sethi rd imm) areas memory (kind, result, first, second, number) = absurd (omega (arith, is, kind))
-jump_turns row origin at to old new is goal sums aligned reach left (instr.Arith operation rd rs1 source) areas memory does = absurd (arith_rare operation row.kind does.work (omega (arith, is)) (omega (arith, is)))
-jump_turns row origin at to old new is goal sums aligned reach left (instr.ReadY rd) areas memory (kind, result) = absurd (omega (arith, is, kind))
-jump_turns row origin at to old new is goal sums aligned reach left instr.Barrier areas memory kind = absurd (omega (arith, is, kind))
-jump_turns row origin at to old new is goal sums aligned reach left (instr.WriteY rs1 source) areas memory does = absurd (omega (arith, is, does.work))
-jump_turns row origin at to old new is goal sums aligned reach left (instr.Jump rd rs1 source) areas memory does =
-    let sum : goal ≡ sum_of rs1 source old = sums source does.second ∙ ap (λ (r : ℕ). sum_of r source old) does.first in
-    jump_to origin at to rd rs1 source areas old new memory (left ∙ ap (λ (r : ℕ). with_register old r (word_address origin at)) does.result) (reach ∙ sum) (ap (λ (n : ℕ). n % 4) (sym sum) ∙ aligned)
-jump_turns row origin at to old new is goal sums aligned reach left (instr.Trap condition rs1 source) areas memory does = absurd (trap_apart condition row.kind does.work (omega (arith, is)))
-jump_turns row origin at to old new is goal sums aligned reach left instr.Flush areas memory kind = absurd (omega (arith, is, kind))
-jump_turns row origin at to old new is goal sums aligned reach left (instr.Save rd rs1 source) areas memory does = absurd (omega (arith, is, does.work))
-jump_turns row origin at to old new is goal sums aligned reach left (instr.Restore rd rs1 source) areas memory does = absurd (omega (arith, is, does.work))
-jump_turns row origin at to old new is goal sums aligned reach left (instr.Mem operation rd rs1 source) areas memory does = absurd (transfer_apart operation row.kind does.work (omega (arith, is)) (omega (arith, is)))
-jump_turns row origin at to old new is goal sums aligned reach left instr.Privileged areas memory kind = absurd (omega (arith, is, kind))
-jump_turns row origin at to old new is goal sums aligned reach left instr.Float areas memory kind = absurd (omega (arith, is, kind))
-jump_turns row origin at to old new is goal sums aligned reach left instr.Coproc areas memory kind = absurd (omega (arith, is, kind))
-jump_turns row origin at to old new is goal sums aligned reach left instr.Illegal areas memory kind = absurd (omega (arith, is, kind))
-
 -- a trap of the call's number, which is taken always
 trap_calling : (condition rs1 number : ℕ) (source : Src) (core : Registers) → condition ≡ 8 → number ≡ sum_of rs1 source core → number % 128 ≡ 112 → trap_turn condition rs1 source core ≡ Call
 unfolding trap_turn trap_type holds holds_below_eight
@@ -248,34 +144,95 @@ trap_to condition rs1 pc npc number source areas core memory always sum is =
     ap (λ (t : Turn). keeping_memory memory (record { turn = t; core = left_by t (placed pc npc core) }))
     (trap_calling condition rs1 number source (placed pc npc core) always (sum ∙ sym (sum_of-placed rs1 source core pc npc)) is)
 
--- a trap's kind says whether it is taken always
-always_trap : (condition k : ℕ) → k ≡ kind_of_trap condition → k ≡ 37 → condition ≡ 8
-always_trap condition k is taken = at (condition == 8) refl is
-  where
-    at : (always : Bool) → (condition == 8) ≡ always → k ≡ (if always then 37 else other) → condition ≡ 8
-    at true holding same = grind (arith, nat_tests)
-    at false holding same = absurd (omega (arith, same, taken))
+-- a branch on condition 8 is taken always
+always : (core : Registers) → holds 8 core.icc ≡ true
+unfolding holds holds_below_eight
+always core = refl
 
--- kind 37
-pub trap_calls : (row : Row) (origin at number : ℕ) (old : Registers) → row.kind ≡ 37 → ((source : Src) → HasSource source row → number ≡ sum_of row.rs1 source old) → number % 128 ≡ 112
-    → (i : Instr) (areas : List Area) (memory : Memory) → IsRowOf row i → executed i areas (at_place origin at old) memory ≡ calling (at_place origin at old) memory
-trap_calls row origin at number old is sums calls (instr.Call disp) areas memory (kind, n) = absurd (omega (arith, is, kind))
-trap_calls row origin at number old is sums calls (instr.Branch condition true disp) areas memory (kind, first, n) = absurd (omega (arith, is, kind))
-trap_calls row origin at number old is sums calls (instr.Branch condition false disp) areas memory (kind, first, n) = absurd (omega (arith, is, kind))
-trap_calls row origin at number old is sums calls (instr.Sethi rd imm) areas memory (kind, result, first, second, n) = absurd (omega (arith, is, kind))
-trap_calls row origin at number old is sums calls (instr.Arith operation rd rs1 source) areas memory does = absurd (arith_rare operation row.kind does.work (omega (arith, is)) (omega (arith, is)))
-trap_calls row origin at number old is sums calls (instr.ReadY rd) areas memory (kind, result) = absurd (omega (arith, is, kind))
-trap_calls row origin at number old is sums calls instr.Barrier areas memory kind = absurd (omega (arith, is, kind))
-trap_calls row origin at number old is sums calls (instr.WriteY rs1 source) areas memory does = absurd (omega (arith, is, does.work))
-trap_calls row origin at number old is sums calls (instr.Jump rd rs1 source) areas memory does = absurd (omega (arith, is, does.work))
-trap_calls row origin at number old is sums calls (instr.Trap condition rs1 source) areas memory does =
-    trap_to condition rs1 (word_address origin at) (word_address origin (at + 1)) number source areas old memory (always_trap condition row.kind does.work is)
-    (sums source does.second ∙ ap (λ (r : ℕ). sum_of r source old) does.first) calls
-trap_calls row origin at number old is sums calls instr.Flush areas memory kind = absurd (omega (arith, is, kind))
-trap_calls row origin at number old is sums calls (instr.Save rd rs1 source) areas memory does = absurd (omega (arith, is, does.work))
-trap_calls row origin at number old is sums calls (instr.Restore rd rs1 source) areas memory does = absurd (omega (arith, is, does.work))
-trap_calls row origin at number old is sums calls (instr.Mem operation rd rs1 source) areas memory does = absurd (transfer_apart operation row.kind does.work (omega (arith, is)) (omega (arith, is)))
-trap_calls row origin at number old is sums calls instr.Privileged areas memory kind = absurd (omega (arith, is, kind))
-trap_calls row origin at number old is sums calls instr.Float areas memory kind = absurd (omega (arith, is, kind))
-trap_calls row origin at number old is sums calls instr.Coproc areas memory kind = absurd (omega (arith, is, kind))
-trap_calls row origin at number old is sums calls instr.Illegal areas memory kind = absurd (omega (arith, is, kind))
+-- a row that goes by a displacement
+taken_row : (row : Row) (i : Instr) (origin at displacement : ℕ) (areas : List Area) (old new : Registers) (memory : Memory) → new ≡ old
+    → executed i areas (at_place origin at old) memory ≡ done (at_slot origin (at + 1) (at + row.number) old) memory → displacement ≡ row.number
+    → executed i areas (at_place origin at old) memory ≡ done (at_slot origin (at + 1) (at + displacement) new) memory
+taken_row row i origin at displacement areas old new memory left is same =
+    is ∙ ap (λ (n : ℕ). done (at_slot origin (at + 1) (at + n) old) memory) (sym same) ∙ ap (λ (r : Registers). done (at_slot origin (at + 1) (at + displacement) r) memory) (sym left)
+
+pub taken_so : (d : Does) (row : Row) (i : Instr) (origin at displacement : ℕ) (areas : List Area) (old new : Registers) (memory : Memory) → DoesSo d row i → IsFormed d row → register_at old 0 ≡ 0
+    → HasTaken d row origin at displacement old new → executed i areas (at_place origin at old) memory ≡ done (at_slot origin (at + 1) (at + displacement) new) memory
+taken_so BranchesAlways row i origin at displacement areas old new memory so formed zero (left, same) = taken_row row i origin at displacement areas old new memory left
+    (ap (λ (j : Instr). executed j areas (at_place origin at old) memory) so.is ∙ branch_to origin at (at + row.number) row.number 8 false so.displacement areas old memory (always old) refl (address_at origin at row.number) so.number) same
+taken_so Branches row i origin at displacement areas old new memory so formed zero (holding, left, same) = taken_row row i origin at displacement areas old new memory left
+    (ap (λ (j : Instr). executed j areas (at_place origin at old) memory) so.is ∙ branch_to origin at (at + row.number) row.number row.rs1 false so.displacement areas old memory holding refl (address_at origin at row.number) so.number) same
+taken_so Annuls row i origin at displacement areas old new memory (so, some) formed zero (holding, left, same) = taken_row row i origin at displacement areas old new memory left
+    (ap (λ (j : Instr). executed j areas (at_place origin at old) memory) so.is ∙ branch_to origin at (at + row.number) row.number row.rs1 true so.displacement areas old memory holding (not_always row.rs1 some) (address_at origin at row.number) so.number) same
+taken_so Calls row i origin at displacement areas old new memory so formed zero (left, same) =
+    ap (λ (j : Instr). executed j areas (at_place origin at old) memory) so.is
+    ∙ call_to origin at (at + row.number) row.number so.displacement areas old new memory left (address_at origin at row.number) so.number
+    ∙ ap (λ (n : ℕ). done (at_slot origin (at + 1) (at + n) new) memory) (sym same)
+taken_so Jumps row i origin at displacement areas old new memory so formed zero (left, target) =
+    let sum = address_is Sum so.source row old formed so.second zero in
+    ap (λ (j : Instr). executed j areas (at_place origin at old) memory) so.is
+    ∙ jump_to origin at (at + displacement) (register_of row.rd) row.rs1 so.source areas old new memory left (target.there ∙ sum) (ap (λ (n : ℕ). n % 4) (sym sum) ∙ target.aligned)
+taken_so Unmade row i origin at displacement areas old new memory so formed zero is = absurd is
+taken_so Leaves row i origin at displacement areas old new memory so formed zero is = absurd is
+taken_so Idles row i origin at displacement areas old new memory so formed zero is = absurd is
+taken_so (Works operation form) row i origin at displacement areas old new memory so formed zero is = absurd is
+taken_so (Compares form) row i origin at displacement areas old new memory so formed zero is = absurd is
+taken_so (Sets form) row i origin at displacement areas old new memory so formed zero is = absurd is
+taken_so (Moves operation form) row i origin at displacement areas old new memory so formed zero is = absurd is
+taken_so ReadsY row i origin at displacement areas old new memory so formed zero is = absurd is
+taken_so WritesY row i origin at displacement areas old new memory so formed zero is = absurd is
+taken_so Saves row i origin at displacement areas old new memory so formed zero is = absurd is
+taken_so Restores row i origin at displacement areas old new memory so formed zero is = absurd is
+taken_so AnnulsAlways row i origin at displacement areas old new memory so formed zero is = absurd is
+taken_so Traps row i origin at displacement areas old new memory so formed zero is = absurd is
+
+-- a row whose delay slot is annulled
+pub jumped_so : (d : Does) (row : Row) (i : Instr) (origin at displacement : ℕ) (areas : List Area) (old : Registers) (memory : Memory) → DoesSo d row i
+    → HasJumped d row displacement old → executed i areas (at_place origin at old) memory ≡ done (at_place origin (at + displacement) old) memory
+jumped_so Annuls row i origin at displacement areas old memory (so, some) (holding, same) =
+    ap (λ (j : Instr). executed j areas (at_place origin at old) memory) so.is ∙ skipped_to origin at row.rs1 so.displacement areas old memory holding
+    ∙ ap (λ (n : ℕ). done (at_place origin (at + n) old) memory) (sym same)
+jumped_so AnnulsAlways row i origin at displacement areas old memory so same =
+    ap (λ (j : Instr). executed j areas (at_place origin at old) memory) so.is
+    ∙ always_to origin at (at + row.number) row.number 8 so.displacement areas old memory (always old) refl (address_at origin at row.number) so.number
+    ∙ ap (λ (n : ℕ). done (at_place origin (at + n) old) memory) (sym same)
+jumped_so Unmade row i origin at displacement areas old memory so is = absurd is
+jumped_so Leaves row i origin at displacement areas old memory so is = absurd is
+jumped_so Idles row i origin at displacement areas old memory so is = absurd is
+jumped_so (Works operation form) row i origin at displacement areas old memory so is = absurd is
+jumped_so (Compares form) row i origin at displacement areas old memory so is = absurd is
+jumped_so (Sets form) row i origin at displacement areas old memory so is = absurd is
+jumped_so (Moves operation form) row i origin at displacement areas old memory so is = absurd is
+jumped_so ReadsY row i origin at displacement areas old memory so is = absurd is
+jumped_so WritesY row i origin at displacement areas old memory so is = absurd is
+jumped_so Saves row i origin at displacement areas old memory so is = absurd is
+jumped_so Restores row i origin at displacement areas old memory so is = absurd is
+jumped_so Calls row i origin at displacement areas old memory so is = absurd is
+jumped_so Jumps row i origin at displacement areas old memory so is = absurd is
+jumped_so BranchesAlways row i origin at displacement areas old memory so is = absurd is
+jumped_so Branches row i origin at displacement areas old memory so is = absurd is
+jumped_so Traps row i origin at displacement areas old memory so is = absurd is
+
+-- a trap that calls the hypervisor
+pub called_so : (d : Does) (row : Row) (i : Instr) (origin at : ℕ) (areas : List Area) (old : Registers) (memory : Memory) → DoesSo d row i → IsFormed d row → register_at old 0 ≡ 0
+    → HasCalled d row old → executed i areas (at_place origin at old) memory ≡ calling (at_place origin at old) memory
+called_so Traps row i origin at areas old memory so formed zero is =
+    ap (λ (j : Instr). executed j areas (at_place origin at old) memory) so.is
+    ∙ trap_to 8 row.rs1 (word_address origin at) (word_address origin (at + 1)) (address_so Sum row old) so.source areas old memory refl (address_is Sum so.source row old formed so.second zero) is
+called_so Unmade row i origin at areas old memory so formed zero is = absurd is
+called_so Leaves row i origin at areas old memory so formed zero is = absurd is
+called_so Idles row i origin at areas old memory so formed zero is = absurd is
+called_so (Works operation form) row i origin at areas old memory so formed zero is = absurd is
+called_so (Compares form) row i origin at areas old memory so formed zero is = absurd is
+called_so (Sets form) row i origin at areas old memory so formed zero is = absurd is
+called_so (Moves operation form) row i origin at areas old memory so formed zero is = absurd is
+called_so ReadsY row i origin at areas old memory so formed zero is = absurd is
+called_so WritesY row i origin at areas old memory so formed zero is = absurd is
+called_so Saves row i origin at areas old memory so formed zero is = absurd is
+called_so Restores row i origin at areas old memory so formed zero is = absurd is
+called_so Calls row i origin at areas old memory so formed zero is = absurd is
+called_so Jumps row i origin at areas old memory so formed zero is = absurd is
+called_so BranchesAlways row i origin at areas old memory so formed zero is = absurd is
+called_so Branches row i origin at areas old memory so formed zero is = absurd is
+called_so Annuls row i origin at areas old memory so formed zero is = absurd is
+called_so AnnulsAlways row i origin at areas old memory so formed zero is = absurd is

@@ -1,10 +1,10 @@
-pub mod Codes
 pub mod Coming
 pub mod Effects
+pub mod Keeping
+pub mod Moves
 pub mod PlacedLemmas
 pub mod Places
 pub mod RunsLemmas
 pub mod Shifts
 pub mod Steps
 pub mod TurnLemmas
-pub mod TurningTerms

@@ -1,138 +1,131 @@
-//! One word of a run.
+//! One word of a block.
 
-ghost use Rattle.std.specs.Prelude.{◌≡◌, ◌+◌, ◌<◌, ◌≤◌};
-ghost use Rattle.guest_bus.specs.Memory.{Memory};
-ghost use Rattle.guest_bus.specs.Words.{AreWords};
-ghost use Rattle.sparc_step.specs.Registers.{Registers};
-ghost use Rattle.fast_loop.specs.lemmas.Codes.{IsPlaceBefore};
-ghost use Rattle.fast_loop.specs.lemmas.Coming.{HasRoom, IsCame};
-ghost use Rattle.fast_loop.specs.Runs.{AreSteps};
-ghost use Rattle.fast_loop.specs.lemmas.Places.{at_place, at_slot};
+ghost use Rattle.std.specs.Prelude.{◌≡◌, ◌<◌, false, length, slice_get, Some};
+ghost use Rattle.predecode.specs.declared.rows.Row.{Row as Placed};
+ghost use Rattle.std.specs.Bool.{OnTrue};
+ghost use Rattle.fast_loop.specs.lemmas.Coming.{IsCame, IsOn, IsSlotDone};
+ghost use Rattle.fast_loop.specs.lemmas.Keeping.{AreRowsOf, IsAhead};
 
 use crate::places::address;
 use crate::shifting::shift;
 use crate::simple::{Step, execute};
-use crate::turning::{Goal, turn};
-use guest_bus::Words;
-use predecode::{HasRows, kinds};
+use guest_bus::HasWords;
+use predecode::Row;
 use sparc_step::Processor;
+use xm_base::proof;
 
 /// What came of a word.
 #[derive(Clone, Copy, Debug)]
 pub(crate) enum Came {
     /// It was done, and the next word follows.
     Next,
+    /// It and the branch after it were done, and the word after that follows.
+    Passed,
     /// It was done, and the word at a displacement from its place follows.
     Jump(u32),
     /// It and the one in its delay slot were done, and the word at a displacement from its place follows.
     Turn(u32),
     /// It was done. The one in its delay slot follows, and then the word at a displacement from its own place.
     Slot(u32),
+    /// It, the branch after it and the one in the delay slot were done, and the word at a displacement from the branch follows.
+    PairTurn(u32),
+    /// It and the branch after it were done. The one in the delay slot follows, and then the word at a displacement from the branch.
+    PairSlot(u32),
     /// It calls the hypervisor. It was not done, and nothing changed.
     Calls,
     /// It was not done, and nothing changed.
     Stays,
 }
 
-/// Does the word at a place, and the one in its delay slot, where the run does not stop before that.
+/// Does the word at a place of a block, the branch after it where both are a pair, and the one in the delay slot.
 #[inline(always)]
-pub(crate) fn one<B: HasRows>(
+pub(crate) fn one<B: HasWords>(
     own: &mut Processor,
+    rows: &[Row],
     bus: &mut B,
-    words: Words,
+    origin: u32,
     at: usize,
-    stop: usize,
 ) -> Came
-    requires place { IsPlaceBefore words at stop }
-    requires numbered { B.numbered (B.areas bus.old) (B.others bus.old) words }
-    ensures came { IsCame result words.origin at (B.areas bus.old) own.old own.new (B.memory bus.old) (B.memory bus.new) }
-    ensures room { HasRoom result at stop }
+    requires ahead { IsAhead rows.now at }
+    requires rows { AreRowsOf rows.now (B.areas bus.old) (B.memory bus.old) origin }
+    ensures came { IsCame result origin at (B.areas bus.old) own.old own.new (B.memory bus.old) (B.memory bus.new) }
+    ensures on { IsOn result rows.now at }
+    ensures rows { AreRowsOf rows.now (B.areas bus.old) (B.memory bus.new) origin }
     ensures areas { B.areas bus.new ≡ B.areas bus.old }
     ensures others { B.others bus.new ≡ B.others bus.old }
 {
-    match execute(own, bus, words, at) {
+    proof! { let _zero = own.get(0); }
+    match execute(own, rows, bus, origin, at, true, false) {
         Step::Next => Came::Next,
-        Step::Taken(displacement) => after_slot(own, bus, words, at, stop, displacement),
-        Step::Shifts => {
-            let row = *bus.row(words, at);
-            if shift(own, bus, row, address(words, at)) {
-                Came::Next
+        Step::Passed => {
+            proof! { let _then = own.get(0); }
+            Came::Passed
+        }
+        Step::Compared => {
+            proof! { let _then = own.get(0); }
+            let displacement = number_at(rows, at + 1);
+            if in_slot(own, rows, bus, origin, at + 2) {
+                Came::PairTurn(displacement)
             } else {
-                Came::Stays
+                Came::PairSlot(displacement)
             }
         }
-        Step::Stays => {
-            let row = bus.row(words, at);
-            match turn(own, row, words, at) {
-                Goal::AfterSlot(displacement) => after_slot(
-                    own,
-                    bus,
-                    words,
-                    at,
-                    stop,
-                    displacement,
-                ),
-                Goal::Now(displacement) => Came::Jump(displacement),
-                Goal::Calls => Came::Calls,
-                Goal::Stays => {
-                    look(bus, words, at);
-                    Came::Stays
-                }
-            }
-        }
-    }
-}
-
-// Does the word in the delay slot of a place, where the run does not stop before it.
-#[inline(always)]
-fn after_slot<B: HasRows>(
-    own: &mut Processor,
-    bus: &mut B,
-    words: Words,
-    at: usize,
-    stop: usize,
-    displacement: u32,
-) -> Came
-    requires place { IsPlaceBefore words at stop }
-    requires numbered { B.numbered (B.areas bus.old) (B.others bus.old) words }
-    ensures came { (core : Registers) (memory : Memory) → AreSteps 1 (B.areas bus.old) (at_place words.origin at core) memory (at_slot words.origin (at + 1) (at + displacement) own.old) (B.memory bus.old) → IsCame result words.origin at (B.areas bus.old) core own.new memory (B.memory bus.new) }
-    ensures room { HasRoom result at stop }
-    ensures areas { B.areas bus.new ≡ B.areas bus.old }
-    ensures others { B.others bus.new ≡ B.others bus.old }
-{
-    if at + 1 >= stop {
-        return Came::Slot(displacement);
-    }
-    match execute(own, bus, words, at + 1) {
-        Step::Next => Came::Turn(displacement),
-        Step::Taken(_) => Came::Slot(displacement),
-        Step::Shifts => {
-            let row = *bus.row(words, at + 1);
-            if shift(own, bus, row, address(words, at + 1)) {
+        Step::Taken(displacement) => {
+            if in_slot(own, rows, bus, origin, at + 1) {
                 Came::Turn(displacement)
             } else {
                 Came::Slot(displacement)
             }
         }
-        Step::Stays => {
-            look(bus, words, at + 1);
-            Came::Slot(displacement)
+        Step::Jumped(displacement) => Came::Jump(displacement),
+        Step::Calls => Came::Calls,
+        Step::Shifts => {
+            if shift(own, rows, bus, origin, at) {
+                Came::Next
+            } else {
+                Came::Stays
+            }
         }
+        Step::Stays => Came::Stays,
     }
 }
 
-// Makes the row of a place, where it is empty.
+// Does the word in a delay slot. The answer is whether it did.
 #[inline(always)]
-fn look<B: HasRows>(bus: &mut B, words: Words, at: usize)
-    requires words { AreWords words }
-    requires numbered { B.numbered (B.areas bus.old) (B.others bus.old) words }
-    requires from { words.begin ≤ at }
-    requires under { at < words.end }
-    ensures memory { B.memory bus.new ≡ B.memory bus.old }
+fn in_slot<B: HasWords>(
+    own: &mut Processor,
+    rows: &[Row],
+    bus: &mut B,
+    origin: u32,
+    at: usize,
+) -> bool
+    requires place { at < length rows.now }
+    requires rows { AreRowsOf rows.now (B.areas bus.old) (B.memory bus.old) origin }
+    ensures done { OnTrue result (IsSlotDone origin at (B.areas bus.old) own.old own.new (B.memory bus.old) (B.memory bus.new)) }
+    ensures registers { result ≡ false → own.new ≡ own.old }
+    ensures memory { result ≡ false → B.memory bus.new ≡ B.memory bus.old }
+    ensures rows { AreRowsOf rows.now (B.areas bus.old) (B.memory bus.new) origin }
     ensures areas { B.areas bus.new ≡ B.areas bus.old }
     ensures others { B.others bus.new ≡ B.others bus.old }
 {
-    if bus.row(words, at).kind == kinds::EMPTY {
-        bus.make(address(words, at));
+    proof! { let _zero = own.get(0); }
+    match execute(own, rows, bus, origin, at, false, true) {
+        Step::Next => true,
+        Step::Shifts => shift(own, rows, bus, origin, at),
+        Step::Passed => true,
+        Step::Compared => true,
+        Step::Taken(_) => false,
+        Step::Jumped(_) => false,
+        Step::Calls => false,
+        Step::Stays => false,
     }
+}
+
+// The number of the row of a place.
+#[inline(always)]
+fn number_at(rows: &[Row], at: usize) -> u32
+    requires { at < length rows.now }
+    ensures { (row : Placed) → slice_get rows.now at ≡ Some row → result ≡ row.number }
+{
+    rows[at].number
 }

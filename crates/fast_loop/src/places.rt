@@ -1,44 +1,40 @@
 //! Words by their places.
 
 ghost use Rattle.std.specs.Prelude.{◌≡◌, ℕ, ◌+◌, ◌*◌, ◌%◌, ◌^◌, ◌<◌};
-ghost use Rattle.guest_bus.specs.Words.{AreWords, word_address};
-
-use guest_bus::Words;
+ghost use Rattle.guest_bus.specs.Words.{word_address};
 
 /// The address of the word at a place.
 #[inline(always)]
 #[tactic(auto, unfolding(guest_bus::specs::Words::word_address))]
-pub(crate) fn address(words: Words, place: usize) -> u32
-    requires { AreWords words }
-    ensures value { result ≡ word_address words.origin place }
+pub(crate) fn address(origin: u32, place: usize) -> u32
+    requires { origin % 4 ≡ 0 }
+    ensures value { result ≡ word_address origin place }
     ensures aligned { result % 4 ≡ 0 }
 {
-    words
-        .origin
-        .wrapping_add(4 * ((place % 0x4000_0000) as u32))
+    origin.wrapping_add(4 * ((place % 0x4000_0000) as u32))
 }
 
 /// The place of the word at an address, whether or not it is one of the words.
 #[inline(always)]
 #[tactic(auto, unfolding(guest_bus::specs::Words::word_address))]
-pub(crate) fn place_of(words: Words, address: u32) -> usize
-    requires words { AreWords words }
+pub(crate) fn place_of(origin: u32, address: u32) -> usize
+    requires origin { origin % 4 ≡ 0 }
     requires aligned { address % 4 ≡ 0 }
-    ensures value { word_address words.origin result ≡ address }
+    ensures value { word_address origin result ≡ address }
     ensures few { result < 2 ^ 33 }
 {
-    (address.wrapping_sub(words.origin) >> 2) as usize
+    (address.wrapping_sub(origin) >> 2) as usize
 }
 
 /// The address of the word after the one at a place.
 #[inline(always)]
 #[tactic(auto, unfolding(guest_bus::specs::Words::word_address))]
-pub(crate) fn address_after(words: Words, place: usize) -> u32
-    requires { AreWords words }
-    ensures value { result ≡ word_address words.origin (place + 1) }
+pub(crate) fn address_after(origin: u32, place: usize) -> u32
+    requires { origin % 4 ≡ 0 }
+    ensures value { result ≡ word_address origin (place + 1) }
     ensures aligned { result % 4 ≡ 0 }
 {
-    address(words, place).wrapping_add(4)
+    address(origin, place).wrapping_add(4)
 }
 
 /// The displacement from the word at an address to the one at another.

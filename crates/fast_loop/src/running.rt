@@ -1,21 +1,28 @@
 //! Straight runs.
 
-ghost use Rattle.std.specs.Prelude.{◌≡◌, ◌+◌, ◌^◌, ◌<◌, ◌≤◌, false};
+ghost use Rattle.std.specs.Prelude.{◌≡◌, ◌+◌, ◌-◌, ◌^◌, ◌<◌, ◌≤◌, ◌%◌, false, length};
 ghost use Rattle.std.specs.Bool.{OnTrue};
-ghost use Rattle.guest_bus.specs.Words.{AreWords};
-ghost use Rattle.fast_loop.specs.lemmas.Codes.{RunStopsAt};
 ghost use Rattle.fast_loop.specs.Runs.{AreSteps, IsCall};
+ghost use Rattle.fast_loop.specs.lemmas.Keeping.{AreLengths, AreRowsOf};
 ghost use Rattle.fast_loop.specs.lemmas.Places.{at_place, at_slot};
 
-use crate::one::{Came, one};
+use crate::blocks::block;
+use crate::careful::carefully;
+use crate::parts::{Part, PartEnd};
 use crate::places::{address, address_after, distance, place_of};
-use guest_bus::Words;
-use predecode::HasRows;
+use guest_bus::HasWords;
+use predecode::{Kind, Row};
 use sparc_step::Processor;
 
 // Each run is shorter, so that places and steps are small numbers. The rest of a number is found faster than the least of two, and what
 // it leaves is done by the runs after it.
 const MOST: u64 = 0x1000_0000;
+
+/// The length of a block that is not known.
+pub const UNKNOWN: u8 = 255;
+
+/// The length of a block that is done word by word.
+pub const SINGLE: u8 = 254;
 
 /// How a run ended.
 #[derive(Clone, Copy, Debug)]
@@ -24,133 +31,167 @@ pub struct RunEnd {
     pub went: u64,
     /// Whether the one after them is known to call the hypervisor. It was not done.
     pub calls: bool,
-}
-
-impl RunEnd {
-    // This many, up to one that is left to others.
-    #[inline(always)]
-    fn left(went: u64) -> RunEnd
-        ensures went { result.went ≡ went }
-        ensures calls { result.calls ≡ false }
-    {
-        RunEnd { went, calls: false }
-    }
+    /// Whether more rows are wanted where it ended.
+    pub unmade: bool,
 }
 
 /// Instructions, at most this many, up to the first that is left to others: one that traps or calls, whose access is refused, that
-/// needs a window spilled or filled by a search, or that stands away from the words that have rows.
+/// needs a window spilled or filled by a search, that writes a word with a row, or that has no row. The rows are those of the words from
+/// an address on, and the lengths those of the blocks that begin at their places.
 #[inline(always)]
-pub fn run<B: HasRows>(own: &mut Processor, bus: &mut B, most: u64) -> RunEnd
-    // The answered number of steps, which all went, and the registers and the memory that they leave; no more steps
-    // than are asked for.
+pub fn run_rows<B: HasWords>(
+    own: &mut Processor,
+    rows: &[Row],
+    lengths: &[u8],
+    bus: &mut B,
+    origin: u32,
+    most: u64,
+) -> RunEnd
+    // Called with rows of the words from an address on, and with lengths of the blocks that begin at them, where these are known.
+    requires rows { AreRowsOf rows.now (B.areas bus.old) (B.memory bus.old) origin }
+    requires lengths { AreLengths lengths.now rows.now }
+    // The answered number of steps, which all went, and the registers and the memory that they leave; no more steps than are asked for.
     ensures steps { AreSteps result.went (B.areas bus.old) own.old (B.memory bus.old) own.new (B.memory bus.new) }
     ensures few { result.went ≤ most }
-    // Where it reports a call, the step that would be next is one: it calls the hypervisor, and leaves the registers at
-    // the next instruction and the memory as it is; fewer steps than are asked for went before it.
+    // Where it reports a call, the step that would be next is one; fewer steps than are asked for went before it.
     ensures room { OnTrue result.calls (result.went < most) }
     ensures call { OnTrue result.calls (IsCall (B.areas bus.old) own.new (B.memory bus.new)) }
+    // The rows are still those of the words.
+    ensures rows { AreRowsOf rows.now (B.areas bus.new) (B.memory bus.new) origin }
     // Areas and the memories of others are as before.
     ensures areas { B.areas bus.new ≡ B.areas bus.old }
     ensures others { B.others bus.new ≡ B.others bus.old }
 {
     let pc = own.pc();
     if own.npc() != pc.wrapping_add(4) {
-        return RunEnd::left(0);
+        return RunEnd {
+            went: 0,
+            calls: false,
+            unmade: false,
+        };
     }
-    let words = bus.numbered();
-    run_in(own, bus, words, place_of(words, pc), most % MOST)
+    let from = place_of(origin, pc);
+    run_in(own, rows, lengths, bus, origin, from, most % MOST)
 }
 
-// The same over words that have rows, from a place on.
+// The same from a place on.
 #[inline(always)]
-fn run_in<B: HasRows>(
+fn run_in<B: HasWords>(
     own: &mut Processor,
+    rows: &[Row],
+    lengths: &[u8],
     bus: &mut B,
-    words: Words,
+    origin: u32,
     from: usize,
     most: u64,
 ) -> RunEnd
-    requires words { AreWords words }
-    requires numbered { B.numbered (B.areas bus.old) (B.others bus.old) words }
+    requires rows { AreRowsOf rows.now (B.areas bus.old) (B.memory bus.old) origin }
+    requires lengths { AreLengths lengths.now rows.now }
     requires near { from < 2 ^ 33 }
     requires most { most < 2 ^ 32 }
-    ensures steps { AreSteps result.went (B.areas bus.old) (at_place words.origin from own.old) (B.memory bus.old) own.new (B.memory bus.new) }
+    ensures steps { AreSteps result.went (B.areas bus.old) (at_place origin from own.old) (B.memory bus.old) own.new (B.memory bus.new) }
     ensures few { result.went ≤ most }
     ensures room { OnTrue result.calls (result.went < most) }
     ensures call { OnTrue result.calls (IsCall (B.areas bus.old) own.new (B.memory bus.new)) }
+    ensures rows { AreRowsOf rows.now (B.areas bus.new) (B.memory bus.new) origin }
     ensures areas { B.areas bus.new ≡ B.areas bus.old }
     ensures others { B.others bus.new ≡ B.others bus.old }
 {
     let mut at = from;
-    // The place where the steps that are left would end, and the place where the run stops.
+    // The place where the steps that are left would end.
     let mut limit = from + most as usize;
-    let mut stop = stop_at(words, at, limit);
-    while at < stop {
-        match one(own, bus, words, at, stop) {
-            Came::Next => at += 1,
-            Came::Jump(displacement) => {
-                let distance = distance(displacement);
-                limit = limit.wrapping_add(distance).wrapping_sub(1);
-                at = at.wrapping_add(distance);
-                stop = stop_at(words, at, limit);
+    while at < rows.len() {
+        let left = limit.wrapping_sub(at);
+        let length = lengths[at];
+        let part = if extended(length) < left {
+            block(own, rows, bus, origin, at, limit)
+        } else {
+            if left == 0 || length == UNKNOWN {
+                return ended(own, origin, at, most - left as u64, false, left > 0);
             }
-            Came::Turn(displacement) => {
-                let distance = distance(displacement);
-                limit = limit.wrapping_add(distance).wrapping_sub(2);
-                at = at.wrapping_add(distance);
-                stop = stop_at(words, at, limit);
+            carefully(own, rows, bus, origin, at, limit)
+        };
+        at = part.at;
+        limit = part.limit;
+        match part.end {
+            PartEnd::Goes => {}
+            PartEnd::Slot(displacement) => {
+                let went = most - limit.wrapping_sub(at) as u64;
+                return ended_in_slot(own, rows, origin, at, displacement, went);
             }
-            Came::Slot(displacement) => {
-                stand_in_slot(own, words, at, displacement);
-                return RunEnd::left(most - (limit - (at + 1)) as u64);
+            PartEnd::Calls => {
+                let went = most - limit.wrapping_sub(at) as u64;
+                return ended(own, origin, at, went, true, false);
             }
-            Came::Calls => return ended(own, words, at, most - (limit - at) as u64, true),
-            Came::Stays => return ended(own, words, at, most - (limit - at) as u64, false),
+            PartEnd::Stays => {
+                let went = most - limit.wrapping_sub(at) as u64;
+                return ended(own, origin, at, went, false, is_empty(rows, at));
+            }
         }
     }
     let went = most - limit.wrapping_sub(at) as u64;
-    ended(own, words, at, went, false)
+    ended(own, origin, at, went, false, went < most)
+}
+
+// What the steps that are left are compared with: the length of a block less 1, or a number that is not below any, where it is none.
+#[inline(always)]
+fn extended(length: u8) -> usize
+    ensures known { length < 128 → result ≡ length }
+    ensures none { 128 ≤ length → 2 ^ 63 ≤ result }
+{
+    usize::from(length ^ 0x80).wrapping_sub(0x80)
+}
+
+// Whether a place has no row yet.
+#[inline(always)]
+fn is_empty(rows: &[Row], at: usize) -> bool {
+    at >= rows.len() || matches!(rows[at].kind, Kind::Empty)
 }
 
 // The end of a run before the word at a place, after this many.
 #[inline(always)]
-fn ended(own: &mut Processor, words: Words, at: usize, went: u64, calls: bool) -> RunEnd
-    requires words { AreWords words }
-    ensures at { own.new ≡ at_place words.origin at own.old }
+fn ended(
+    own: &mut Processor,
+    origin: u32,
+    at: usize,
+    went: u64,
+    calls: bool,
+    unmade: bool,
+) -> RunEnd
+    requires { origin % 4 ≡ 0 }
+    ensures at { own.new ≡ at_place origin at own.old }
     ensures went { result.went ≡ went }
     ensures calls { result.calls ≡ calls }
 {
-    stand(own, words, at);
-    RunEnd { went, calls }
+    own.place(address(origin, at), address_after(origin, at));
+    RunEnd {
+        went,
+        calls,
+        unmade,
+    }
 }
 
-// The program counters at the word of a place.
+// The end of a run before the word at the place of a delay slot, after which a displacement from the word before it follows.
 #[inline(always)]
-fn stand(own: &mut Processor, words: Words, at: usize)
-    requires words { AreWords words }
-    ensures { own.new ≡ at_place words.origin at own.old }
+fn ended_in_slot(
+    own: &mut Processor,
+    rows: &[Row],
+    origin: u32,
+    at: usize,
+    displacement: u32,
+    went: u64,
+) -> RunEnd
+    requires origin { origin % 4 ≡ 0 }
+    requires some { 0 < at }
+    ensures at { own.new ≡ at_slot origin at (at - 1 + displacement) own.old }
+    ensures went { result.went ≡ went }
+    ensures calls { result.calls ≡ false }
 {
-    own.place(address(words, at), address_after(words, at));
-}
-
-// The program counters at the word of the delay slot after a place, from which a displacement follows.
-#[inline(always)]
-fn stand_in_slot(own: &mut Processor, words: Words, at: usize, displacement: u32)
-    requires words { AreWords words }
-    ensures { own.new ≡ at_slot words.origin (at + 1) (at + displacement) own.old }
-{
-    let to = at.wrapping_add(distance(displacement));
-    own.place(address_after(words, at), address(words, to));
-}
-
-// The place where a run at a place stops: 0 where that is before the words, and no later than the place where it is after them.
-#[inline(always)]
-fn stop_at(words: Words, at: usize, limit: usize) -> usize
-    ensures { RunStopsAt words at limit result }
-{
-    if words.begin <= at {
-        words.end.min(limit)
-    } else {
-        0
+    let to = (at - 1).wrapping_add(distance(displacement));
+    own.place(address(origin, at), address(origin, to));
+    RunEnd {
+        went,
+        calls: false,
+        unmade: is_empty(rows, at),
     }
 }

@@ -1,4 +1,4 @@
 pub mod KeptLemmas
-pub mod KindsTerms
-pub mod RowsLemmas
+pub mod Reached
+pub mod RowTerms
 pub mod Sources

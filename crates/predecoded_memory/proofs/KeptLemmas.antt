@@ -3,10 +3,10 @@ use Rattle.std.proofs.Common.{◌≡◌, ◌≢◌, ◌⊎◌, ℕ, suc, ◌+◌
 use Rattle.std.specs.Bool.{OnTrue}
 use Rattle.std.specs.FinMap.{empty}
 use Rattle.std.specs.Int.{byte_len, to_be_bytes}
-use Rattle.std.specs.Prelude.{All, OnErr, OnOk, bit_xor, min, slice_get}
+use Rattle.std.specs.Prelude.{◌-◌, All, OnErr, OnOk, bit_xor, min, slice_get, slice_index}
 use Rattle.std.proofs.lemmas.Bool.{cases_eq, cases_lt}
 use Rattle.std.proofs.lemmas.List.{get_or-set_other, get_or-set_same}
-use Rattle.std.proofs.lemmas.Option.{slice_get_read}
+use Rattle.std.proofs.lemmas.Option.{same_Some, slice_get-get_or, slice_get_read, slice_get_within}
 use Rattle.guest_bus.specs.Access.{access_fault, after_store, memory_unless_refused, store_fault, width_of}
 use Rattle.guest_bus.specs.lemmas.AccessLemmas.{length-bytes_high_first, length-bytes_of}
 use Rattle.guest_bus.specs.Memory.{Area, Memory, byte_at, is_writable, with_bytes}
@@ -15,31 +15,31 @@ use Rattle.guest_bus.specs.declared.bus.BusFault.{BusFault}
 use Rattle.guest_bus.specs.declared.bus.Size.{Size}
 use Rattle.guest_memory.specs.Flips.{with_flipped}
 use Rattle.guest_memory.specs.Memories.{AreMemories, ArePlaced, IsPlaced, Memories, areas_at, map_at, with_map, with_selected}
-use Rattle.predecoded_memory.specs.lemmas.SharesTerms.{AreEmptied, AreReached, IsReached, WasEmptied, emptied, word_after, words_written}
-use Rattle.predecoded_memory.specs.Shares.{AreKept, ArePartRows, AreUnmade, first_address, lowest}
-use Rattle.predecode.specs.Kept.{AreKeptRows, IsKeptRow}
-use Rattle.predecode.specs.Kinds.{unmade}
+use Rattle.predecode.specs.lemmas.Reached.{IsReached, reached_or_apart, word_after, words_fit, words_written}
+use Rattle.predecoded_memory.specs.lemmas.SharesTerms.{AreEmptied, AreReached, WasEmptied, emptied}
+use Rattle.predecoded_memory.specs.Shares.{AreKept, AreLengths, ArePairs, ArePartRows, AreUnmade, EndsIn, first_address, lowest, made_of}
+use Rattle.predecode.specs.Kept.{AreKeptRows, IsBranchOn, IsKeptRow}
+use Rattle.predecode.specs.Kinds.{is_exit, is_unmade}
 use Rattle.predecode.specs.lemmas.KeptLemmas.{empty_kept, kept_apart}
 use Rattle.predecode.specs.Rows.{AreRegisterNumbers}
 use Rattle.predecode.specs.declared.rows.Row.{Row}
 use Rattle.predecoded_memory.specs.declared.share.PartRows.{PartRows}
-use Rattle.predecoded_memory.proofs.ShareLemmas.{reached_or_apart, words_fit}
+use Rattle.predecoded_memory.proofs.EmptiedLemmas.{no_pair}
 
 -- the registers of a row that is emptied
 emptied_numbers : (row : Row) → AreRegisterNumbers row → AreRegisterNumbers (emptied row)
 emptied_numbers row numbers = record {
-  rd = numbers.rd;
+  rd = tt;
   rs1 = numbers.rs1;
   rs2 = numbers.rs2;
-  condition = λ is. absurd (omega (arith, is));
-  annulling = λ is. absurd (omega (arith, is));
-  held = λ few not_one not_two. absurd (omega (arith, few));
+  condition = tt;
+  form = tt;
 }
 
 -- an emptied row is kept of any word
 emptied_kept : (row before : Row) (areas : List Area) (memory : Memory) (address : ℕ) → row ≡ emptied before → AreRegisterNumbers before → IsKeptRow row areas memory address
 emptied_kept row before areas memory address is numbers =
-    empty_kept row areas memory address (ap (λ (r : Row). r.kind) is) (subst (λ (r : Row). AreRegisterNumbers r) (sym is) (emptied_numbers before numbers))
+    empty_kept row areas memory address (ap (λ (r : Row). is_unmade r.kind) is) (subst (λ (r : Row). AreRegisterNumbers r) (sym is) (emptied_numbers before numbers))
 
 -- rows of which some are emptied are kept where they were
 pub still_kept : (begin end : ℕ) (rows new : List Row) (base share : ℕ) (areas : List Area) (memory : Memory) (first : ℕ) → AreEmptied begin end rows new → AreKeptRows rows base share areas memory first → AreKeptRows new base share areas memory first
@@ -53,9 +53,42 @@ still_kept begin end rows new base share areas memory first are kept k row below
 pub still_unmade : (begin end : ℕ) (rows new : List Row) (base top share : ℕ) → AreEmptied begin end rows new → AreUnmade rows base top share → AreUnmade new base top share
 still_unmade begin end rows new base top share are free k row from below there = at (are.each (base + k) row there)
   where
-    at : ((slice_get rows (base + k) ≡ Some row) × ((base + k < begin) ⊎ (end ≤ base + k))) ⊎ WasEmptied rows (base + k) row → row.kind ≡ unmade
+    at : ((slice_get rows (base + k) ≡ Some row) × ((base + k < begin) ⊎ (end ≤ base + k))) ⊎ WasEmptied rows (base + k) row → is_unmade row.kind ≡ true
     at (inl was) = free k row from below was.0
-    at (inr was) = ap (λ (r : Row). r.kind) was.is
+    at (inr was) = ap (λ (r : Row). is_unmade r.kind) was.is
+
+-- each row of a pair that is left stands before its branch
+pub still_pairs : (begin end : ℕ) (rows new : List Row) (base top : ℕ) → AreEmptied begin end rows new → ArePairs rows base top → ArePairs new base top
+still_pairs begin end rows new base top are pairs k row condition below there pair = at (are.each (base + k) row there)
+  where
+    at : ((slice_get rows (base + k) ≡ Some row) × ((base + k < begin) ⊎ (end ≤ base + k))) ⊎ WasEmptied rows (base + k) row → (k + 1 < top) × IsBranchOn (Some condition) (slice_get new (base + k + 1))
+    at (inl was) = let old = pairs k row condition below was.0 pair in (old.0, are.pairs (base + k) row condition there pair old.1)
+    at (inr was) = absurd (no_pair row was.before condition was.is pair)
+
+-- an exit that is emptied is an exit
+still_ends : (begin end : ℕ) (rows new : List Row) (base count from to : ℕ) → AreEmptied begin end rows new → EndsIn rows base count from to → EndsIn new base count from to
+still_ends begin end rows new base count from to are ends = record {
+  place = ends.place;
+  from = ends.from;
+  under = ends.under;
+  within = ends.within;
+  row = get_or new (base + ends.place) ends.row;
+  there = there;
+  exit = at (are.each (base + ends.place) (get_or new (base + ends.place) ends.row) there);
+}
+  where
+    there : slice_get new (base + ends.place) ≡ Some (get_or new (base + ends.place) ends.row)
+    there = slice_get-get_or new (base + ends.place) ends.row (omega (arith, slice_get_within rows (base + ends.place) ends.row ends.there, are.counted))
+
+    at : ((slice_get rows (base + ends.place) ≡ Some (get_or new (base + ends.place) ends.row)) × ((base + ends.place < begin) ⊎ (end ≤ base + ends.place))) ⊎ WasEmptied rows (base + ends.place) (get_or new (base + ends.place) ends.row)
+        → is_exit (get_or new (base + ends.place) ends.row).kind ≡ true
+    at (inl was) = ap (λ (r : Row). is_exit r.kind) (same_Some (get_or new (base + ends.place) ends.row) ends.row (sym was.0 ∙ ends.there)) ∙ ends.exit
+    at (inr was) = ap (λ (r : Row). is_exit r.kind) was.is
+
+-- so lengths are still those of blocks
+pub still_lengths : (begin end : ℕ) (rows new : List Row) (lengths : List ℕ) (base share count : ℕ) → AreEmptied begin end rows new → AreLengths lengths rows base share count → AreLengths lengths new base share count
+still_lengths begin end rows new lengths base share count are known k below short =
+    still_ends begin end rows new base count k (k + slice_index lengths (base + k) + 1) are (known k below short)
 
 -- rows of a share are kept of the memory with other bytes, where those of the words with these bytes are emptied or were empty
 pub written_kept : (rows new : List Row) (base share top place count : ℕ) (areas : List Area) (memory : Memory) (first start : ℕ) (bytes : List ℕ) → AreReached base top place count rows new → AreUnmade rows base top share
@@ -154,23 +187,31 @@ pub first_low : (areas : List Area) → ArePlaced areas → first_address areas 
 first_low [] placed = omega arith
 first_low (area ∷ areas) placed = lowest_low area.start areas (omega (arith, (placed.each 0 area (omega arith)).ends))
 
--- the rows of the current partition
-pub part_at : (m : Memories) (rows : List Row) (parts : List PartRows) (share top : ℕ) (own : PartRows) (p : ℕ) (part : PartRows) → AreKept m rows parts share top own → p < length m.areas → part ≡ get_or parts p part → ArePartRows share (p * share) (areas_at p m) part
-part_at m rows parts share top own p part is below here = is.known.each p part (slice_get_read parts (length parts) p part refl (omega (arith, below, is.known.counted)) here)
+-- where the rows of a partition are
+pub listed_at : (m : Memories) (rows : List Row) (lengths : List ℕ) (parts : List PartRows) (share top : ℕ) (own : PartRows) (p : ℕ) (part : PartRows) → AreKept m rows lengths parts share top own → p < length m.areas → part ≡ get_or parts p part → slice_get parts p ≡ Some part
+listed_at m rows lengths parts share top own p part is below here = slice_get_read parts (length parts) p part refl (omega (arith, below, is.known.counted)) here
+
+pub part_at : (m : Memories) (rows : List Row) (lengths : List ℕ) (parts : List PartRows) (share top : ℕ) (own : PartRows) (p : ℕ) (part : PartRows) → AreKept m rows lengths parts share top own → p < length m.areas → part ≡ get_or parts p part → ArePartRows share (p * share) (areas_at p m) part
+part_at m rows lengths parts share top own p part is below here = is.known.each p part (listed_at m rows lengths parts share top own p part is below here)
 
 -- all rows are kept where one memory is another
-pub mapped_kept : (old : Memories) (map : Memory) (rows new : List Row) (parts : List PartRows) (share top : ℕ) (own : PartRows) (p begin end : ℕ) → AreKept old rows parts share top own → AreMemories (with_map p map old) → AreEmptied begin end rows new
-    → p < length old.areas → AreKeptRows new (p * share) share (areas_at p old) map (first_address (areas_at p old)) → AreKept (with_map p map old) new parts share top own
-mapped_kept old map rows new parts share top own p begin end is are emptied below mine = record {
+pub mapped_kept : (old : Memories) (map : Memory) (rows new : List Row) (lengths : List ℕ) (parts : List PartRows) (share top : ℕ) (own : PartRows) (p begin end : ℕ) → AreKept old rows lengths parts share top own → AreMemories (with_map p map old) → AreEmptied begin end rows new
+    → p < length old.areas → AreKeptRows new (p * share) share (areas_at p old) map (first_address (areas_at p old)) → AreKept (with_map p map old) new lengths parts share top own
+mapped_kept old map rows new lengths parts share top own p begin end is are emptied below mine = record {
   are = are;
   shared = is.shared;
   whole = emptied.counted ∙ is.whole;
   few = omega (arith, emptied.counted, is.few);
+  measured = is.measured ∙ sym emptied.counted;
   known = is.known;
   current = is.current;
+  listed = is.listed;
   each = λ q within. ⊎_elim (same q) (other q within) (cases_eq q p);
+  pairs = λ q within. still_pairs begin end rows new (q * share) top emptied (is.pairs q within);
+  ends = λ q part there. still_lengths begin end rows new lengths (q * share) share (made_of top part) emptied (is.ends q part there);
   high = is.high;
   free = λ q within. still_unmade begin end rows new (q * share) top share emptied (is.free q within);
+  past = λ q part there. still_unmade begin end rows new (q * share) (part.words.end - part.words.begin) share emptied (is.past q part there);
 }
   where
     here : map_at p (with_map p map old) ≡ map
@@ -187,63 +228,73 @@ mapped_kept old map rows new parts share top own p begin end is are emptied belo
         (still_kept begin end rows new (q * share) share (areas_at q old) (map_at q old) (first_address (areas_at q old)) emptied (is.each q within))
 
 -- where another partition is selected
-pub selected_kept : (old : Memories) (rows : List Row) (parts : List PartRows) (share top : ℕ) (own : PartRows) (p : ℕ) (part : PartRows) → AreKept old rows parts share top own → AreMemories (with_selected p old) → ArePartRows share (p * share) (areas_at p old) part → AreKept (with_selected p old) rows parts share top part
-selected_kept old rows parts share top own p part is are part_is = record {
+pub selected_kept : (old : Memories) (rows : List Row) (lengths : List ℕ) (parts : List PartRows) (share top : ℕ) (own : PartRows) (p : ℕ) (part : PartRows) → AreKept old rows lengths parts share top own → AreMemories (with_selected p old) → ArePartRows share (p * share) (areas_at p old) part → slice_get parts p ≡ Some part → AreKept (with_selected p old) rows lengths parts share top part
+selected_kept old rows lengths parts share top own p part is are part_is there = record {
   are = are;
   shared = is.shared;
   whole = is.whole;
   few = is.few;
+  measured = is.measured;
   known = is.known;
   current = part_is;
+  listed = there;
   each = is.each;
+  pairs = is.pairs;
+  ends = is.ends;
   high = is.high;
   free = is.free;
+  past = is.past;
 }
 
 -- and where some are emptied
-pub some_kept : (old : Memories) (rows new : List Row) (parts : List PartRows) (share top : ℕ) (own : PartRows) (begin end : ℕ) → AreKept old rows parts share top own → AreEmptied begin end rows new → AreKept old new parts share top own
-some_kept old rows new parts share top own begin end is emptied = record {
+pub some_kept : (old : Memories) (rows new : List Row) (lengths : List ℕ) (parts : List PartRows) (share top : ℕ) (own : PartRows) (begin end : ℕ) → AreKept old rows lengths parts share top own → AreEmptied begin end rows new → AreKept old new lengths parts share top own
+some_kept old rows new lengths parts share top own begin end is emptied = record {
   are = is.are;
   shared = is.shared;
   whole = emptied.counted ∙ is.whole;
   few = omega (arith, emptied.counted, is.few);
+  measured = is.measured ∙ sym emptied.counted;
   known = is.known;
   current = is.current;
+  listed = is.listed;
   each = λ q within. still_kept begin end rows new (q * share) share (areas_at q old) (map_at q old) (first_address (areas_at q old)) emptied (is.each q within);
+  pairs = λ q within. still_pairs begin end rows new (q * share) top emptied (is.pairs q within);
+  ends = λ q part there. still_lengths begin end rows new lengths (q * share) share (made_of top part) emptied (is.ends q part there);
   high = is.high;
   free = λ q within. still_unmade begin end rows new (q * share) top share emptied (is.free q within);
+  past = λ q part there. still_unmade begin end rows new (q * share) (part.words.end - part.words.begin) share emptied (is.past q part there);
 }
 
 -- what a copy leaves
-pub copied_kept : {E : Type 0} (result : Result (Unit {0}) E) (old other : Memories) (rows new : List Row) (parts : List PartRows) (share top : ℕ) (own : PartRows) (p address : ℕ) (bytes : List ℕ)
-    → AreKept old rows parts share top own → p < length old.areas → address < 2 ^ 32 → AreReached (p * share) top (word_after (first_address (areas_at p old)) address) (length bytes / 4 + 2) rows new
-    → OnOk result (other ≡ with_map p (with_bytes (map_at p old) address bytes) old) → OnErr result (other ≡ old) → AreMemories other → AreKept other new parts share top own
-copied_kept (Ok done) old other rows new parts share top own p address bytes is below small reached written unchanged are =
+pub copied_kept : {E : Type 0} (result : Result (Unit {0}) E) (old other : Memories) (rows new : List Row) (lengths : List ℕ) (parts : List PartRows) (share top : ℕ) (own : PartRows) (p address : ℕ) (bytes : List ℕ)
+    → AreKept old rows lengths parts share top own → p < length old.areas → address < 2 ^ 32 → AreReached (p * share) top (word_after (first_address (areas_at p old)) address) (length bytes / 4 + 2) rows new
+    → OnOk result (other ≡ with_map p (with_bytes (map_at p old) address bytes) old) → OnErr result (other ≡ old) → AreMemories other → AreKept other new lengths parts share top own
+copied_kept (Ok done) old other rows new lengths parts share top own p address bytes is below small reached written unchanged are =
     let placed = is.are.placed p [] below in
     let counted : address % 4 + length bytes ≤ 4 * (length bytes / 4 + 2) = omega arith in
-    subst (λ (m : Memories). AreKept m new parts share top own) (sym written)
-    (mapped_kept old (with_bytes (map_at p old) address bytes) rows new parts share top own p (p * share + reached.begin) (p * share + reached.end) is (subst (λ (m : Memories). AreMemories m) written are) reached.done below
+    subst (λ (m : Memories). AreKept m new lengths parts share top own) (sym written)
+    (mapped_kept old (with_bytes (map_at p old) address bytes) rows new lengths parts share top own p (p * share + reached.begin) (p * share + reached.end) is (subst (λ (m : Memories). AreMemories m) written are) reached.done below
     (written_kept rows new (p * share) share top (word_after (first_address (areas_at p old)) address) (length bytes / 4 + 2) (areas_at p old) (map_at p old) (first_address (areas_at p old)) address bytes reached (is.free p below)
     (λ k. reached_or_apart (first_address (areas_at p old)) address (length bytes / 4 + 2) (length bytes) k (first_whole (areas_at p old) placed) (first_low (areas_at p old) placed) small counted) (is.each p below)))
-copied_kept (Err fault) old other rows new parts share top own p address bytes is below small reached written unchanged are =
-    subst (λ (m : Memories). AreKept m new parts share top own) (sym unchanged)
-    (some_kept old rows new parts share top own (p * share + reached.begin) (p * share + reached.end) is reached.done)
+copied_kept (Err fault) old other rows new lengths parts share top own p address bytes is below small reached written unchanged are =
+    subst (λ (m : Memories). AreKept m new lengths parts share top own) (sym unchanged)
+    (some_kept old rows new lengths parts share top own (p * share + reached.begin) (p * share + reached.end) is reached.done)
 
 -- what the flip of a bit leaves
-pub flipped_kept : (old other : Memories) (rows new : List Row) (parts : List PartRows) (share top : ℕ) (own : PartRows) (p address bit : ℕ) → AreKept old rows parts share top own → p < length old.areas → address < 2 ^ 32
-    → AreReached (p * share) top (word_after (first_address (areas_at p old)) address) 1 rows new → other ≡ with_map p (with_flipped address bit (map_at p old)) old → AreMemories other → AreKept other new parts share top own
-flipped_kept old other rows new parts share top own p address bit is below small reached flipped are =
+pub flipped_kept : (old other : Memories) (rows new : List Row) (lengths : List ℕ) (parts : List PartRows) (share top : ℕ) (own : PartRows) (p address bit : ℕ) → AreKept old rows lengths parts share top own → p < length old.areas → address < 2 ^ 32
+    → AreReached (p * share) top (word_after (first_address (areas_at p old)) address) 1 rows new → other ≡ with_map p (with_flipped address bit (map_at p old)) old → AreMemories other → AreKept other new lengths parts share top own
+flipped_kept old other rows new lengths parts share top own p address bit is below small reached flipped are =
     let placed = is.are.placed p [] below in
     let counted : address % 4 + 1 ≤ 4 * 1 = omega arith in
-    subst (λ (m : Memories). AreKept m new parts share top own) (sym flipped)
-    (mapped_kept old (with_flipped address bit (map_at p old)) rows new parts share top own p (p * share + reached.begin) (p * share + reached.end) is (subst (λ (m : Memories). AreMemories m) flipped are) reached.done below
+    subst (λ (m : Memories). AreKept m new lengths parts share top own) (sym flipped)
+    (mapped_kept old (with_flipped address bit (map_at p old)) rows new lengths parts share top own p (p * share + reached.begin) (p * share + reached.end) is (subst (λ (m : Memories). AreMemories m) flipped are) reached.done below
     (written_kept rows new (p * share) share top (word_after (first_address (areas_at p old)) address) 1 (areas_at p old) (map_at p old) (first_address (areas_at p old)) address (bit_xor (byte_at (map_at p old) address) (2 ^ bit) ∷ []) reached (is.free p below)
     (λ k. reached_or_apart (first_address (areas_at p old)) address 1 1 k (first_whole (areas_at p old) placed) (first_low (areas_at p old) placed) small counted) (is.each p below)))
 
 -- what a reload leaves
-pub reloaded_kept : (old other : Memories) (map : Memory) (rows new : List Row) (parts : List PartRows) (share top : ℕ) (own : PartRows) (p : ℕ) → AreKept old rows parts share top own → p < length old.areas → AreReached (p * share) top 0 top rows new
-    → other ≡ with_map p map old → AreMemories other → AreKept other new parts share top own
-reloaded_kept old other map rows new parts share top own p is below reached written are =
-    subst (λ (m : Memories). AreKept m new parts share top own) (sym written)
-    (mapped_kept old map rows new parts share top own p (p * share + reached.begin) (p * share + reached.end) is (subst (λ (m : Memories). AreMemories m) written are) reached.done below
+pub reloaded_kept : (old other : Memories) (map : Memory) (rows new : List Row) (lengths : List ℕ) (parts : List PartRows) (share top : ℕ) (own : PartRows) (p : ℕ) → AreKept old rows lengths parts share top own → p < length old.areas → AreReached (p * share) top 0 top rows new
+    → other ≡ with_map p map old → AreMemories other → AreKept other new lengths parts share top own
+reloaded_kept old other map rows new lengths parts share top own p is below reached written are =
+    subst (λ (m : Memories). AreKept m new lengths parts share top own) (sym written)
+    (mapped_kept old map rows new lengths parts share top own p (p * share + reached.begin) (p * share + reached.end) is (subst (λ (m : Memories). AreMemories m) written are) reached.done below
     (all_kept rows new (p * share) share top (areas_at p old) (map_at p old) map (first_address (areas_at p old)) reached (is.free p below) (is.each p below)))

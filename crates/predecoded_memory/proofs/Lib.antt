@@ -2,5 +2,10 @@ pub mod EmptiedLemmas
 pub mod ShareLemmas
 pub mod KeptLemmas
 pub mod SelectedLemmas
-pub mod NumberedLemmas
 pub mod FirstLemmas
+pub mod PutLemmas
+pub mod MakingLemmas
+pub mod PairedLemmas
+pub mod MadeLemmas
+pub mod GoingLemmas
+pub mod PreparedLemmas

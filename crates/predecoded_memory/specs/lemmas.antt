@@ -1,1 +1,2 @@
 pub mod SharesTerms
+pub mod MakingTerms

@@ -1,10 +1,12 @@
 //! Rows that are emptied.
 
-ghost use Rattle.std.specs.Prelude.{◌≡◌, ◌+◌, ◌^◌, ◌≤◌, ◌<◌, ℕ, length};
-ghost use Rattle.predecoded_memory.specs.lemmas.SharesTerms.{AreEmptied, AreReached, IsReached, with_empty, words_written};
+ghost use Rattle.std.specs.Prelude.{◌≡◌, ◌+◌, ◌^◌, ◌≤◌, ◌<◌, ◌↔◌, ℕ, IsTrue, length};
+ghost use Rattle.predecode.specs.declared.kinds.Kind.TheVariants.{Branch};
+ghost use Rattle.predecode.specs.lemmas.Reached.{IsReached, words_written};
+ghost use Rattle.predecoded_memory.specs.lemmas.SharesTerms.{AreEmptied, AreGone, AreReached, IsLone, with_empty};
 
 use guest_bus::Size;
-use predecode::{Row, kinds};
+use predecode::{Kind, Row};
 
 // The number of words in the address space.
 const WORDS: usize = 0x4000_0000;
@@ -16,7 +18,39 @@ fn empty_row(rows: &mut [Row], number: usize)
     requires { number < length rows.old }
     ensures { rows.new ≡ with_empty number rows.old }
 {
-    rows[number].kind = kinds::EMPTY;
+    rows[number].kind = Kind::Empty;
+}
+
+// Whether the row is that of a branch that may go on to the next word and annuls nothing.
+fn is_branch(row: Row) -> bool
+    ensures { IsTrue result ↔ (row.kind ≡ Branch) }
+{
+    matches!(row.kind, Kind::Branch)
+}
+
+// Empties the row before a number, where it may be the first of a pair: no branch is.
+fn empty_before(rows: &mut [Row], begin: usize)
+    requires { begin ≤ length rows.old }
+    ensures { IsLone begin rows.old rows.new }
+{
+    if begin > 0 {
+        let before = begin - 1;
+        if !is_branch(rows[before]) {
+            empty_row(rows, before);
+        }
+    }
+}
+
+// Empties this many rows from a number on, and no others.
+fn empty_from(rows: &mut [Row], begin: usize, count: usize)
+    requires { begin + count ≤ length rows.old }
+    ensures { AreGone begin (begin + count) rows.old rows.new }
+{
+    let mut done = 0;
+    while done < count {
+        empty_row(rows, begin + done);
+        done += 1;
+    }
 }
 
 // Empties this many rows from a number on.
@@ -25,10 +59,9 @@ fn empty_rows(rows: &mut [Row], begin: usize, count: usize)
     requires { begin + count ≤ length rows.old }
     ensures { AreEmptied begin (begin + count) rows.old rows.new }
 {
-    let mut done = 0;
-    while done < count {
-        empty_row(rows, begin + done);
-        done += 1;
+    if count > 0 {
+        empty_before(rows, begin);
+        empty_from(rows, begin, count);
     }
 }
 

@@ -2,6 +2,7 @@
 #![tactic(auto)]
 
 mod emptied;
+mod making;
 mod predecoded;
 mod share;
 

@@ -1,19 +1,24 @@
 //! The memories of all partitions, with rows of their words.
 
 ghost use Rattle.std.specs.Prelude.{◌≡◌, ◌*◌, ◌+◌, ◌<◌, ◌≤◌, true, All, IfOk, IfSome, Ok, OnErr, OnOk, length, map, slice_set};
+ghost use Rattle.std.specs.Bool.{OnTrue};
+ghost use Rattle.fast_loop.specs.Runs.{AreSteps, IsCall};
 ghost use Rattle.guest_bus.specs.Access.{fetched};
 ghost use Rattle.guest_bus.specs.Memory.{all_from, bytes_at, is_readable, is_writable, with_bytes};
 ghost use Rattle.guest_memory.specs.Flips.{with_flipped};
 ghost use Rattle.guest_memory.specs.Loading.{LiesInAreas, area_of, areas_with_image, memory_areas, zeros_in};
 ghost use Rattle.guest_memory.specs.Memories.{AreMemories, ArePlaced, SameElsewhere, answer_by, areas_at, first_refused, map_at, others_of, with_map, with_selected};
 ghost use Rattle.predecoded_memory.specs.lemmas.SharesTerms.{AreEmpty};
-ghost use Rattle.predecoded_memory.specs.Shares.{AreParts, ArePartRows, LieNumbered, first_address, highest, lowest, span_of, widest};
+ghost use Rattle.predecoded_memory.specs.Shares.{AreParts, ArePartRows, first_address, highest, lowest, span_of, widest};
 
 use crate::emptied::{empty_stored, empty_words};
+use crate::making::{lengths_of, prepared};
 use crate::share::{PartRows, numbered, share_for, word_after};
-use guest_bus::{Bus, BusFault, HasWords, Size, Words};
+use fast_loop::{RunEnd, Runs, run_rows};
+use guest_bus::{Bus, BusFault, HasWords, Size};
 use guest_memory::{Outside, Ram};
-use predecode::{HasRows, Row, row_for};
+use predecode::Row;
+use sparc_step::Processor;
 use std::alloc::{AllocError, Global};
 use std::marker::Model;
 use xef_images::Xef;
@@ -27,6 +32,8 @@ pub struct PredecodedRam {
     ram: Ram,
     // Those of a partition stand one after the other, and after those of the partitions before it.
     rows: Vec<Row>,
+    // For each row the length of the block that begins there, as `fast_loop` has it.
+    lengths: Vec<u8>,
     // Where those of each partition are.
     parts: Vec<PartRows>,
     // The number of words of each partition that have rows: no more than the widest has.
@@ -49,7 +56,7 @@ impl Model for PredecodedRam {
 
     ghost view = { λ kept. kept.ram };
 
-    ghost invariant = { λ kept. AreKept kept.ram kept.rows.items kept.parts.items kept.share kept.top kept.own };
+    ghost invariant = { λ kept. AreKept kept.ram kept.rows.items kept.lengths.items kept.parts.items kept.share kept.top kept.own };
 }
 
 impl PredecodedRam {
@@ -66,10 +73,12 @@ impl PredecodedRam {
         let share = share_for(described.len(), widest(described));
         let parts = rows_of(alloc, described, share)?;
         let rows = empty_rows(alloc, described.len() * share)?;
+        let lengths = lengths_of(alloc, described.len() * share)?;
         let own = parts[0];
         Ok(PredecodedRam {
             ram,
             rows,
+            lengths,
             parts,
             share,
             top: 0,
@@ -207,19 +216,53 @@ impl PredecodedRam {
         proof! { let _now = self.ram.selected(); }
     }
 
-    // The row of the word that stands at an address is kept, where there is one.
-    fn keep(&mut self, address: u32, word: u32)
-        requires { fetched (areas_at self.old.selected self.old) (map_at self.old.selected self.old) address ≡ Ok word }
+    // Instructions of the selected partition, by the rows that there are.
+    #[inline(always)]
+    fn go(&mut self, own: &mut Processor, most: u64) -> RunEnd
+        ensures steps { AreSteps result.went (areas_at self.old.selected self.old) own.old (map_at self.old.selected self.old) own.new (map_at self.new.selected self.new) }
+        ensures few { result.went ≤ most }
+        ensures room { OnTrue result.calls (result.went < most) }
+        ensures call { OnTrue result.calls (IsCall (areas_at self.old.selected self.old) own.new (map_at self.new.selected self.new)) }
+        ensures areas { areas_at self.new.selected self.new ≡ areas_at self.old.selected self.old }
+        ensures others { others_of self.new ≡ others_of self.old }
+    {
+        let begin = self.own.words.begin;
+        let end = (begin + self.top).min(self.own.words.end);
+        let ran = run_rows(
+            own,
+            &self.rows[begin..end],
+            &self.lengths[begin..end],
+            &mut self.ram,
+            self.own.first,
+            most,
+        );
+        proof! { let _now = self.ram.selected(); }
+        ran
+    }
+
+    // Makes the rows of the block that begins at an address, where its words have rows.
+    #[cold]
+    #[inline(never)]
+    fn prepare(&mut self, address: u32)
         ensures { self.new ≡ self.old }
     {
-        if address >= self.own.first {
-            let offset = address - self.own.first;
-            let place = (offset >> 2) as usize;
-            if offset % 4 == 0 && place < self.share {
-                put_row(&mut self.rows, self.own.words.begin + place, row_for(word));
-                self.top = self.top.max(place + 1);
-            }
+        if address < self.own.first {
+            return;
         }
+        let place = word_after(self.own.first, address);
+        let begin = self.own.words.begin;
+        let end = self.own.words.end;
+        if begin + place >= end {
+            return;
+        }
+        let top = prepared(
+            &mut self.rows[begin..end],
+            &mut self.lengths[begin..end],
+            &mut self.ram,
+            self.own.first,
+            place,
+        );
+        self.top = self.top.max(top);
     }
 }
 
@@ -272,36 +315,16 @@ impl HasWords for PredecodedRam {
     }
 }
 
-impl HasRows for PredecodedRam {
-    ghost numbered = { LieNumbered };
-
+impl Runs for PredecodedRam {
+    // The rows that are wanted are there when it is called again.
     #[inline(always)]
-    fn numbered(&self) -> Words {
-        self.own.words
-    }
-
-    #[inline(always)]
-    fn row(&self, words: Words, place: usize) -> &Row {
-        &self.rows[place]
-    }
-
-    #[cold]
-    #[inline(never)]
-    fn make(&mut self, address: u32) {
-        let found = self.ram.fetch(address);
-        proof! { let _now = self.ram.selected(); }
-        if let Ok(word) = found {
-            self.keep(address, word);
+    fn run(&mut self, own: &mut Processor, most: u64) -> RunEnd {
+        let ran = self.go(own, most);
+        if ran.unmade {
+            self.prepare(own.pc());
         }
+        ran
     }
-}
-
-// A row more, in the place of another.
-fn put_row(rows: &mut [Row], number: usize, row: Row)
-    requires { number < length rows.old }
-    ensures { rows.new ≡ slice_set rows.old number row }
-{
-    rows[number] = row;
 }
 
 // This many rows, all of them empty.
@@ -414,4 +437,25 @@ fn lowest(from: u32, areas: &[Area]) -> u32
         least = least.min(area.start);
     }
     least
+}
+
+impl PredecodedRam {
+    /// Writes bytes to a partition's memory from an address on, in areas that may only be read, too.
+    pub fn put(&mut self, p: PartId, address: u32, bytes: &[u8])
+        // Called for a partition that exists, and for a range of addresses each of which is in one of its areas.
+        requires partition { p < length self.old.areas }
+        requires readable { all_from (is_readable (areas_at p self.old)) address (length bytes.now) ≡ true }
+        // As `Ram::put`: the bytes are written, and no other byte changes. A word of them is executed as the new word.
+        ensures value { self.new ≡ with_map p (with_bytes (map_at p self.old) address bytes.now) self.old }
+        // No other partition's memory changes.
+        ensures others { SameElsewhere p self.old self.new }
+    {
+        let part = self.parts[usize::from(p)];
+        let place = word_after(part.first, address);
+        // The bytes begin and end within words.
+        let count = bytes.len() / 4 + 2;
+        empty_words(&mut self.rows, part.words.begin, self.top, place, count);
+        self.ram.put(p, address, bytes);
+        proof! { let _now = self.ram.selected(); }
+    }
 }

@@ -3,7 +3,7 @@
 ghost use Rattle.std.specs.Prelude.{◌≡◌, ◌*◌, ◌+◌, ◌-◌, ◌%◌, ◌^◌, ◌≤◌, ◌<◌};
 ghost use Rattle.guest_bus.specs.Words.{AreWords, word_address};
 ghost use Rattle.predecoded_memory.specs.Shares.{AreNumbered, share_for};
-ghost use Rattle.predecoded_memory.specs.lemmas.SharesTerms.{word_after};
+ghost use Rattle.predecode.specs.lemmas.Reached.{word_after};
 
 use guest_bus::Words;
 
@@ -30,7 +30,7 @@ pub(crate) fn share_for(count: usize, wide: usize) -> usize
 
 /// How many words after the first one another stands, by its address.
 #[inline(always)]
-#[tactic(auto, unfolding(crate::specs::lemmas::SharesTerms::word_after))]
+#[tactic(auto, unfolding(predecode::specs::lemmas::Reached::word_after))]
 pub(crate) fn word_after(first: u32, address: u32) -> usize
     ensures value { result ≡ word_after first address }
     ensures few { result < 2 ^ 30 }

@@ -5,10 +5,10 @@ use Rattle.std.proofs.lemmas.Bool.{cases_lt}
 use Rattle.std.proofs.lemmas.List.{places, same_lists}
 use Rattle.std.proofs.lemmas.Slice.{take-put_mid_below}
 use Rattle.std.specs.List.{CopiedTo, SameBelow, SameFrom}
-use Rattle.std.specs.Prelude.{get_or, ℕ, ◌+◌, ◌-◌, ◌*◌, ◌%◌, ◌<◌, ◌≤◌, List, length, take, drop, slice_index}
+use Rattle.std.specs.Prelude.{get_or, ℕ, ◌+◌, ◌-◌, ◌*◌, ◌%◌, ◌<◌, ◌≤◌, List, ◌++◌, length, take, drop, slice_index}
 use Rattle.sparc_step.specs.Cached.{listed_below, own_place, windows_with, word_at}
 use Rattle.sparc_step.specs.lemmas.CachedLemmas.{get_or-part, get_or-put_mid, get_or-put_mid_other, get_or-rest, get_or-table, length-part, length-put_mid, length-rest, length-table, lies_or, table-of, table-same, word_at-ins, word_at-other, word_at-own}
-use Rattle.sparc_step.specs.Registers.{ins_place, locals_place, with_locals_and_ins}
+use Rattle.sparc_step.specs.Registers.{ins_place, locals_and_ins, locals_place, with_locals_and_ins}
 
 -- a place of one block of sixteen is none of another
 other_block : (a b k : ℕ) → a ≢ b → 16 * a ≤ k → k < 16 * a + 16 → (k < 16 * b) ⊎ (16 * b + 16 ≤ k)
@@ -271,3 +271,36 @@ moved_eight old new from to source target counted copied below above = same_list
         default new k d small
         ∙ lies_or to 8 k (inside k) (apart k)
         ∙ sym (default put k d (omega (arith, whole, counted)))
+
+-- a part of a list that is put where it was
+same_part : (xs : List ℕ) (from count : ℕ) → from + count ≤ length xs → put_mid from count xs (take count (drop from xs)) ≡ xs
+same_part xs from count fits = same_lists _ _ (grind (arith, places)) (λ k d h. grind (arith, places))
+
+front_part : (count : ℕ) (xs ys : List ℕ) → length xs ≡ count → take count (xs ++ ys) ≡ xs
+front_part count xs ys counted = same_lists _ _ (grind (arith, places)) (λ k d h. grind (arith, places))
+
+back_part : (count : ℕ) (xs ys : List ℕ) → length xs ≡ count → drop count (xs ++ ys) ≡ ys
+back_part count xs ys counted = same_lists _ _ (grind (arith, places)) (λ k d h. grind (arith, places))
+
+-- the locals and ins of a window, put where they were
+pub put_back : (windows : List ℕ) (window : ℕ) → length windows ≡ 128 → window < 8 → with_locals_and_ins windows window (locals_and_ins windows window) ≡ windows
+unfolding with_locals_and_ins locals_and_ins
+put_back windows window whole small =
+    ap (put_mid (ins_place window) 8 (put_mid (locals_place window) 8 windows (take 8 (locals ++ ins)))) (back_part 8 locals ins eight)
+    ∙ ap (λ (xs : List ℕ). put_mid (ins_place window) 8 (put_mid (locals_place window) 8 windows xs) ins) (front_part 8 locals ins eight)
+    ∙ ap (λ (xs : List ℕ). put_mid (ins_place window) 8 xs ins) (same_part windows (locals_place window) 8 (omega (arith, whole, small)))
+    ∙ same_part windows (ins_place window) 8 (omega (arith, whole, small))
+  where
+    locals : List ℕ
+    locals = take 8 (drop (locals_place window) windows)
+
+    ins : List ℕ
+    ins = take 8 (drop (ins_place window) windows)
+
+    eight : length locals ≡ 8
+    eight = length-part windows (locals_place window) 8 (omega (arith, whole, small))
+
+-- the windows with what is cached are eight
+pub all_windows : (window : ℕ) (cached windows : List ℕ) → length (windows_with window cached windows) ≡ 128
+unfolding windows_with
+all_windows window cached windows = length-table (word_at window cached windows) 128

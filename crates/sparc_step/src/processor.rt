@@ -334,6 +334,20 @@ impl Processor {
         self.cwp = below;
     }
 
+    /// Enters the window above, which is valid: what a RESTORE does.
+    #[inline(always)]
+    #[tactic(auto, unfolding(crate::specs::Registers::in_window, crate::specs::Cached::gathered))]
+    pub fn enter_above(&mut self)
+        // Called where the window above is not the invalid one.
+        requires valid { (self.old.cwp + 1) % 8 ≢ self.old.inv }
+        ensures { self.new ≡ in_window self.old ((self.old.cwp + 1) % 8) }
+    {
+        let above = (self.cwp + 1) % 8;
+        let words = self.saved(above);
+        go_above(&mut self.cached, &mut self.windows, self.cwp, above, &words);
+        self.cwp = above;
+    }
+
     /// Enters the window above, which is the invalid one, with its locals and after them its ins: what a RESTORE does whose window is
     /// filled. The window above it becomes the invalid one.
     #[inline(always)]
@@ -517,6 +531,21 @@ fn go_below(cached: &mut [u32], windows: &mut [u32], window: u8, below: u8)
     copy_words(windows, 16 * usize::from((window + 1) % 8), cached, 24, 8);
     move_eight(cached, 8, 24);
     copy_words(cached, 8, windows, 16 * usize::from(below), 16);
+}
+
+// Takes the window above to hand, whose locals and ins are these.
+#[inline(always)]
+fn go_above(cached: &mut [u32], windows: &mut [u32], window: u8, above: u8, words: &[u32])
+    requires cached { length cached.old ≡ 33 }
+    requires windows { length windows.old ≡ 128 }
+    requires words { words.now ≡ locals_and_ins (windows_with window cached.old windows.old) above }
+    requires counted { length words.now ≡ 16 }
+    requires window { window < 8 }
+    requires above { above ≡ (window + 1) % 8 }
+    ensures windows { windows_with above cached.new windows.new ≡ windows_with window cached.old windows.old }
+    ensures globals { take 8 cached.new ≡ take 8 cached.old }
+{
+    go_filled(cached, windows, window, above, words);
 }
 
 // Takes the window above to hand with other locals and ins. Its outs are the ins of the one that is cached, and stay in hand.

@@ -1,5 +1,5 @@
 -- Registers at other program counters: work on registers is the same wherever it stands.
-use Rattle.std.proofs.Common.{◌≡◌, ◌≢◌, ℕ, ◌+◌, ◌*◌, ◌/◌, ◌%◌, ◌^◌, ◌<◌, ◌≤◌, Bool, true, false, refl, ap, ◌∙◌, arith}
+use Rattle.std.proofs.Common.{◌≡◌, ℕ, ◌+◌, ◌*◌, ◌/◌, ◌%◌, ◌^◌, ◌<◌, Bool, true, false, refl, ap, ◌∙◌, arith}
 use Rattle.std.proofs.lemmas.Bool.Decides.{nat_tests}
 use Rattle.std.specs.Prelude.{◌==◌, if◌then◌else◌, nat_lt, slice_set, bit_and, bit_or, bit_xor}
 use Rattle.std.specs.Int.{w32, bit_not}
@@ -13,8 +13,7 @@ use Rattle.sparc_step.specs.Operands.{sum_of, value_of}
 use Rattle.sparc_step.specs.Outcome.{RegisterOutcome, went, with_result, with_result_and_codes}
 use Rattle.sparc_step.specs.Registers.{Registers, advanced, place_in_windows, placed, register_at, with_icc, with_register, with_y}
 use Rattle.sparc_step.specs.Words.{difference, quotient, shifted_arithmetically, shifted_left, shifted_right, signed_product, signed_quotient, sum}
-use Rattle.fast_loop.specs.lemmas.Effects.{worked_by_kind}
-use Rattle.predecode.specs.Kinds.{row_kind_of, other}
+use Rattle.fast_loop.specs.lemmas.Effects.{MayDivide, worked}
 
 -- a register is the same
 pub register_at-placed : (core : Registers) (pc npc r : ℕ) → register_at (placed pc npc core) r ≡ register_at core r
@@ -99,47 +98,46 @@ wide_coded-placed : (core : Registers) (pc npc rd low high icc : ℕ) → with_r
 wide_coded-placed core pc npc rd low high icc =
     ap (with_result_and_codes rd low icc) (with_y-placed core pc npc high) ∙ with_codes-placed (with_y core high) pc npc rd low icc
 
--- what work on registers leaves, by its kind
-pub worked-placed : (operation : Arith) (rd a b pc npc : ℕ) (core : Registers) → row_kind_of operation ≢ other → (28 ≤ row_kind_of operation → row_kind_of operation < 30 → 0 < b)
-    → arith_outcome operation rd a b (placed pc npc core) ≡ went (placed npc ((npc + 4) % 2 ^ 32) (worked_by_kind (row_kind_of operation) rd a b core))
-unfolding worked_by_kind
-worked-placed arith.Add rd a b pc npc core is some = ap went (with_result-placed core pc npc rd (sum a b false))
-worked-placed arith.And rd a b pc npc core is some = ap went (with_result-placed core pc npc rd (bit_and a b))
-worked-placed arith.Or rd a b pc npc core is some = ap went (with_result-placed core pc npc rd (bit_or a b))
-worked-placed arith.Xor rd a b pc npc core is some = ap went (with_result-placed core pc npc rd (bit_xor a b))
-worked-placed arith.Sub rd a b pc npc core is some = ap went (with_result-placed core pc npc rd (difference a b false))
-worked-placed arith.AndN rd a b pc npc core is some = ap went (with_result-placed core pc npc rd (bit_and a (bit_not w32 b)))
-worked-placed arith.OrN rd a b pc npc core is some = ap went (with_result-placed core pc npc rd (bit_or a (bit_not w32 b)))
-worked-placed arith.XNor rd a b pc npc core is some = ap went (with_result-placed core pc npc rd (bit_not w32 (bit_xor a b)))
-worked-placed arith.UMul rd a b pc npc core is some = ap went (wide-placed core pc npc rd (a * b % 2 ^ 32) (a * b / 2 ^ 32))
-worked-placed arith.SMul rd a b pc npc core is some = ap went (wide-placed core pc npc rd (signed_product a b % 2 ^ 32) (signed_product a b / 2 ^ 32))
-worked-placed arith.UDiv rd a b pc npc core is some =
-    divided b pc npc rd (quotient (dividend (placed pc npc core) a) b) core _ (some (omega arith) (omega arith))
+-- what work on registers leaves
+pub worked-placed : (operation : Arith) (rd a b pc npc : ℕ) (core : Registers) → MayDivide operation b
+    → arith_outcome operation rd a b (placed pc npc core) ≡ went (placed npc ((npc + 4) % 2 ^ 32) (worked operation rd a b core))
+worked-placed arith.Add rd a b pc npc core is = ap went (with_result-placed core pc npc rd (sum a b false))
+worked-placed arith.And rd a b pc npc core is = ap went (with_result-placed core pc npc rd (bit_and a b))
+worked-placed arith.Or rd a b pc npc core is = ap went (with_result-placed core pc npc rd (bit_or a b))
+worked-placed arith.Xor rd a b pc npc core is = ap went (with_result-placed core pc npc rd (bit_xor a b))
+worked-placed arith.Sub rd a b pc npc core is = ap went (with_result-placed core pc npc rd (difference a b false))
+worked-placed arith.AndN rd a b pc npc core is = ap went (with_result-placed core pc npc rd (bit_and a (bit_not w32 b)))
+worked-placed arith.OrN rd a b pc npc core is = ap went (with_result-placed core pc npc rd (bit_or a (bit_not w32 b)))
+worked-placed arith.XNor rd a b pc npc core is = ap went (with_result-placed core pc npc rd (bit_not w32 (bit_xor a b)))
+worked-placed arith.UMul rd a b pc npc core is = ap went (wide-placed core pc npc rd (a * b % 2 ^ 32) (a * b / 2 ^ 32))
+worked-placed arith.SMul rd a b pc npc core is = ap went (wide-placed core pc npc rd (signed_product a b % 2 ^ 32) (signed_product a b / 2 ^ 32))
+worked-placed arith.UDiv rd a b pc npc core is =
+    divided b pc npc rd (quotient (dividend (placed pc npc core) a) b) core _ is
     ∙ ap (λ (n : ℕ). went (placed npc ((npc + 4) % 2 ^ 32) (with_register core rd (quotient n b)))) (dividend-placed core pc npc a)
-worked-placed arith.SDiv rd a b pc npc core is some =
-    divided b pc npc rd (signed_quotient (dividend (placed pc npc core) a) b) core _ (some (omega arith) (omega arith))
+worked-placed arith.SDiv rd a b pc npc core is =
+    divided b pc npc rd (signed_quotient (dividend (placed pc npc core) a) b) core _ is
     ∙ ap (λ (n : ℕ). went (placed npc ((npc + 4) % 2 ^ 32) (with_register core rd (signed_quotient n b)))) (dividend-placed core pc npc a)
-worked-placed arith.AddCc rd a b pc npc core is some = ap went (with_codes-placed core pc npc rd (sum a b false) (codes_of_sum a b false))
-worked-placed arith.AndCc rd a b pc npc core is some = ap went (with_codes-placed core pc npc rd (bit_and a b) (codes_of_result (bit_and a b) false))
-worked-placed arith.OrCc rd a b pc npc core is some = ap went (with_codes-placed core pc npc rd (bit_or a b) (codes_of_result (bit_or a b) false))
-worked-placed arith.SubCc rd a b pc npc core is some = ap went (with_codes-placed core pc npc rd (difference a b false) (codes_of_difference a b false))
-worked-placed arith.Sll rd a b pc npc core is some = ap went (with_result-placed core pc npc rd (shifted_left a b))
-worked-placed arith.Srl rd a b pc npc core is some = ap went (with_result-placed core pc npc rd (shifted_right a b))
-worked-placed arith.Sra rd a b pc npc core is some = ap went (with_result-placed core pc npc rd (shifted_arithmetically a b))
-worked-placed arith.AddX rd a b pc npc core is some = ap (λ (i : ℕ). went (with_result rd (sum a b (carry i)) (placed pc npc core))) (icc-placed core pc npc) ∙ ap went (with_result-placed core pc npc rd (sum a b (carry core.icc)))
-worked-placed arith.SubX rd a b pc npc core is some = ap (λ (i : ℕ). went (with_result rd (difference a b (carry i)) (placed pc npc core))) (icc-placed core pc npc) ∙ ap went (with_result-placed core pc npc rd (difference a b (carry core.icc)))
-worked-placed arith.XorCc rd a b pc npc core is some = ap went (with_codes-placed core pc npc rd (bit_xor a b) (codes_of_result (bit_xor a b) false))
-worked-placed arith.AndNCc rd a b pc npc core is some = ap went (with_codes-placed core pc npc rd (bit_and a (bit_not w32 b)) (codes_of_result (bit_and a (bit_not w32 b)) false))
-worked-placed arith.OrNCc rd a b pc npc core is some = ap went (with_codes-placed core pc npc rd (bit_or a (bit_not w32 b)) (codes_of_result (bit_or a (bit_not w32 b)) false))
-worked-placed arith.XNorCc rd a b pc npc core is some = ap went (with_codes-placed core pc npc rd (bit_not w32 (bit_xor a b)) (codes_of_result (bit_not w32 (bit_xor a b)) false))
-worked-placed arith.AddXCc rd a b pc npc core is some = ap (λ (i : ℕ). went (with_result_and_codes rd (sum a b (carry i)) (codes_of_sum a b (carry i)) (placed pc npc core))) (icc-placed core pc npc) ∙ ap went (with_codes-placed core pc npc rd (sum a b (carry core.icc)) (codes_of_sum a b (carry core.icc)))
-worked-placed arith.UMulCc rd a b pc npc core is some = ap went (wide_coded-placed core pc npc rd (a * b % 2 ^ 32) (a * b / 2 ^ 32) (codes_of_result (a * b % 2 ^ 32) false))
-worked-placed arith.SMulCc rd a b pc npc core is some = ap went (wide_coded-placed core pc npc rd (signed_product a b % 2 ^ 32) (signed_product a b / 2 ^ 32) (codes_of_result (signed_product a b % 2 ^ 32) false))
-worked-placed arith.SubXCc rd a b pc npc core is some = ap (λ (i : ℕ). went (with_result_and_codes rd (difference a b (carry i)) (codes_of_difference a b (carry i)) (placed pc npc core))) (icc-placed core pc npc) ∙ ap went (with_codes-placed core pc npc rd (difference a b (carry core.icc)) (codes_of_difference a b (carry core.icc)))
-worked-placed arith.UDivCc rd a b pc npc core is some = absurd (is refl)
-worked-placed arith.SDivCc rd a b pc npc core is some = absurd (is refl)
-worked-placed arith.TAddCc rd a b pc npc core is some = absurd (is refl)
-worked-placed arith.TSubCc rd a b pc npc core is some = absurd (is refl)
-worked-placed arith.TAddCcTv rd a b pc npc core is some = absurd (is refl)
-worked-placed arith.TSubCcTv rd a b pc npc core is some = absurd (is refl)
-worked-placed arith.MulSCc rd a b pc npc core is some = absurd (is refl)
+worked-placed arith.AddCc rd a b pc npc core is = ap went (with_codes-placed core pc npc rd (sum a b false) (codes_of_sum a b false))
+worked-placed arith.AndCc rd a b pc npc core is = ap went (with_codes-placed core pc npc rd (bit_and a b) (codes_of_result (bit_and a b) false))
+worked-placed arith.OrCc rd a b pc npc core is = ap went (with_codes-placed core pc npc rd (bit_or a b) (codes_of_result (bit_or a b) false))
+worked-placed arith.SubCc rd a b pc npc core is = ap went (with_codes-placed core pc npc rd (difference a b false) (codes_of_difference a b false))
+worked-placed arith.Sll rd a b pc npc core is = ap went (with_result-placed core pc npc rd (shifted_left a b))
+worked-placed arith.Srl rd a b pc npc core is = ap went (with_result-placed core pc npc rd (shifted_right a b))
+worked-placed arith.Sra rd a b pc npc core is = ap went (with_result-placed core pc npc rd (shifted_arithmetically a b))
+worked-placed arith.AddX rd a b pc npc core is = ap (λ (i : ℕ). went (with_result rd (sum a b (carry i)) (placed pc npc core))) (icc-placed core pc npc) ∙ ap went (with_result-placed core pc npc rd (sum a b (carry core.icc)))
+worked-placed arith.SubX rd a b pc npc core is = ap (λ (i : ℕ). went (with_result rd (difference a b (carry i)) (placed pc npc core))) (icc-placed core pc npc) ∙ ap went (with_result-placed core pc npc rd (difference a b (carry core.icc)))
+worked-placed arith.XorCc rd a b pc npc core is = ap went (with_codes-placed core pc npc rd (bit_xor a b) (codes_of_result (bit_xor a b) false))
+worked-placed arith.AndNCc rd a b pc npc core is = ap went (with_codes-placed core pc npc rd (bit_and a (bit_not w32 b)) (codes_of_result (bit_and a (bit_not w32 b)) false))
+worked-placed arith.OrNCc rd a b pc npc core is = ap went (with_codes-placed core pc npc rd (bit_or a (bit_not w32 b)) (codes_of_result (bit_or a (bit_not w32 b)) false))
+worked-placed arith.XNorCc rd a b pc npc core is = ap went (with_codes-placed core pc npc rd (bit_not w32 (bit_xor a b)) (codes_of_result (bit_not w32 (bit_xor a b)) false))
+worked-placed arith.AddXCc rd a b pc npc core is = ap (λ (i : ℕ). went (with_result_and_codes rd (sum a b (carry i)) (codes_of_sum a b (carry i)) (placed pc npc core))) (icc-placed core pc npc) ∙ ap went (with_codes-placed core pc npc rd (sum a b (carry core.icc)) (codes_of_sum a b (carry core.icc)))
+worked-placed arith.UMulCc rd a b pc npc core is = ap went (wide_coded-placed core pc npc rd (a * b % 2 ^ 32) (a * b / 2 ^ 32) (codes_of_result (a * b % 2 ^ 32) false))
+worked-placed arith.SMulCc rd a b pc npc core is = ap went (wide_coded-placed core pc npc rd (signed_product a b % 2 ^ 32) (signed_product a b / 2 ^ 32) (codes_of_result (signed_product a b % 2 ^ 32) false))
+worked-placed arith.SubXCc rd a b pc npc core is = ap (λ (i : ℕ). went (with_result_and_codes rd (difference a b (carry i)) (codes_of_difference a b (carry i)) (placed pc npc core))) (icc-placed core pc npc) ∙ ap went (with_codes-placed core pc npc rd (difference a b (carry core.icc)) (codes_of_difference a b (carry core.icc)))
+worked-placed arith.UDivCc rd a b pc npc core is = absurd is
+worked-placed arith.SDivCc rd a b pc npc core is = absurd is
+worked-placed arith.TAddCc rd a b pc npc core is = absurd is
+worked-placed arith.TSubCc rd a b pc npc core is = absurd is
+worked-placed arith.TAddCcTv rd a b pc npc core is = absurd is
+worked-placed arith.TSubCcTv rd a b pc npc core is = absurd is
+worked-placed arith.MulSCc rd a b pc npc core is = absurd is

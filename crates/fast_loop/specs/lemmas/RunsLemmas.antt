@@ -19,7 +19,7 @@ pub no_steps : (areas : List Area) (core : Registers) (memory : Memory) → AreS
 no_steps areas core memory = record { went = refl; registers = refl; bytes = refl }
 
 -- an instruction that goes needs no window
-settled-went : (areas : List Area) (core : Registers) (memory : Memory) (after : Registers) (new : Memory) → turned areas core memory ≡ done after new → settled areas core memory ≡ done after new
+pub settled-went : (areas : List Area) (core : Registers) (memory : Memory) (after : Registers) (new : Memory) → turned areas core memory ≡ done after new → settled areas core memory ≡ done after new
 unfolding settled
 settled-went areas core memory after new is = ap (λ (t : Turned). answered t.turn t areas core memory) is
 

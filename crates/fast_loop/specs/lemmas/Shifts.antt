@@ -7,13 +7,13 @@ use Rattle.sparc_step.specs.Execution.{done}
 use Rattle.sparc_step.specs.Registers.{Registers, placed}
 use Rattle.virt_traps.specs.Moves.{filled, move_made, spilled}
 use Rattle.virt_traps.specs.Settled.{settled}
-use Rattle.predecode.specs.Rows.{IsRowOf, as_done}
+use Rattle.predecode.specs.Rows.{IsRowOf}
 use Rattle.predecode.specs.declared.rows.Row.{Row}
 
 -- the word at an address goes on to the next one, with the spill or fill that it needs
 abbrev pub IsShift : Row → ℕ → List Area → Registers → Registers → Memory → Memory → Type 0
 IsShift row pc areas old new memory after =
-    (npc word : ℕ) → fetched areas memory pc ≡ Ok word → IsRowOf row (as_done (decoded word))
+    (npc word : ℕ) → fetched areas memory pc ≡ Ok word → IsRowOf row (decoded word)
     → settled areas (placed pc npc old) memory ≡ done (placed npc ((npc + 4) % 2 ^ 32) new) after
 
 -- a spill that a SAVE needs, which leaves the word at an address

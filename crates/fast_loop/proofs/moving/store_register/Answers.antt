@@ -1,12 +1,11 @@
-use Rattle.std.proofs.Common.{refl, ◌∙◌}
-use Rattle.std.proofs.lemmas.Bool.{OnTrue_at, OnTrue_from}
-use Rattle.sparc_step.specs.Registers.{Registers, register_at}
-use Rattle.predecode.specs.lemmas.KindsTerms.{store_by_size}
-use Rattle.fast_loop.specs.lemmas.PlacedLemmas.{register_at-placed}
-use Rattle.fast_loop.proofs.TransferLemmas.{store-IsTransferred, store_row}
+use Rattle.std.proofs.Common.{subst, ℕ, arith}
+use Rattle.predecode.specs.lemmas.Reached.{word_after}
+use Rattle.sparc_step.specs.Registers.{register_at}
+use Rattle.fast_loop.specs.lemmas.Moves.{HaveNoRows}
+use Rattle.fast_loop.proofs.KeptLemmas.{single_rows}
 use Rattle.fast_loop.proofs.moving.store_register.Goals as goal
 
-pub returns-clause-done : goal.returns-clause-done
-returns-clause-done g c = OnTrue_from c.store.result _ (λ yes.
-    store-IsTransferred (store_by_size c.args.size) c.args.size (λ (core : Registers). register_at core c.args.rd) c.args.rd c.args.address c.from-value.result (g.B.Bus.areas c.args.bus.now) c.args.own.now c.args.own.now (g.B.Bus.memory c.args.bus.now) (g.B.Bus.memory c.store.new.bus)
-    (λ core. store_row c.args.size c.args.rd c.args.address (g.B.Bus.areas c.args.bus.now) core (g.B.Bus.memory c.args.bus.now) c.requires.size) (λ pc npc. register_at-placed c.args.own.now pc npc c.args.rd) (c.from-value.ensures ∙ c.get.ensures.value) (OnTrue_at yes c.store.ensures.free) c.store.ensures.memory refl)
+pub returns-then-store_word-clause-rows : goal.returns-then-store_word-clause-rows
+returns-then-store_word-clause-rows g c =
+    single_rows c.args.rows.now (g.B.Bus.areas c.args.bus.now) (g.B.Bus.memory c.args.bus.now) (g.B.Bus.memory c.store_word.new.bus) c.args.origin c.args.address c.args.size (register_at c.args.own.now c.args.rd) c.requires.size
+    (subst (λ (n : ℕ). HaveNoRows c.args.rows.now n 1) c.word_after.ensures.value (c.has_row.ensures c.if-has_row.false)) (omega (arith, c.ranges.address)) c.if-store_word.ensures.stored c.requires.rows

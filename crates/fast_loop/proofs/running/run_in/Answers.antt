@@ -1,35 +1,59 @@
-use Rattle.std.proofs.Common.{◌∙◌}
-use Rattle.fast_loop.specs.declared.one.Came.TheVariants.{Next, Jump, Turn}
-use Rattle.fast_loop.proofs.ComingLemmas.{same_came}
-use Rattle.fast_loop.proofs.RunningLemmas.{call_met, jumped_on, some_left, turned_on, went_on}
+use Rattle.std.proofs.Common.{◌<◌, ◌^◌, arith, ap, ◌∙◌}
+use Rattle.fast_loop.specs.lemmas.Coming.{IsPart}
+use Rattle.fast_loop.proofs.RunningLemmas.{ended_called, ended_left, ended_slot, part_rows, same_part, went_on}
 use Rattle.fast_loop.proofs.running.run_in.Goals as goal
-
-pub loop-at-preserved-in-Next : goal.loop-at-preserved-in-Next
-loop-at-preserved-in-Next g c = record {
-  running = went_on c.args.words (g.B.Bus.areas c.args.bus.now) c.args.from c.args.most c.loop-at.at c.loop-at.limit c.loop-at.stop c.args.own.now (g.B.Bus.memory c.args.bus.now) c.loop-at.own c.one.new.own (g.B.Bus.memory c.loop-at.bus) (g.B.Bus.memory c.one.new.bus) c.loop-at.invariant.running c.loop-at-test.true (same_came (Next) c.args.words.origin c.loop-at.at (g.B.Bus.areas c.loop-at.bus) (g.B.Bus.areas c.args.bus.now) c.loop-at.own c.one.new.own (g.B.Bus.memory c.loop-at.bus) (g.B.Bus.memory c.one.new.bus) c.loop-at.invariant.areas c.in-Next.ensures.came);
-  areas = c.one.ensures.areas ∙ c.loop-at.invariant.areas;
-  others = c.one.ensures.others ∙ c.loop-at.invariant.others;
-}
-
-pub loop-at-preserved-in-Jump : goal.loop-at-preserved-in-Jump
-loop-at-preserved-in-Jump g c = record {
-  running = jumped_on c.args.words (g.B.Bus.areas c.args.bus.now) c.args.from c.args.most c.loop-at.at c.loop-at.limit c.loop-at.stop c.in-Jump.displacement c.distance-distance.result c.stop_at-stop-in-Jump.result c.args.own.now (g.B.Bus.memory c.args.bus.now) c.loop-at.own c.one.new.own (g.B.Bus.memory c.loop-at.bus) (g.B.Bus.memory c.one.new.bus) c.loop-at.invariant.running c.loop-at-test.true c.distance-distance.ensures (same_came (Jump c.in-Jump.displacement) c.args.words.origin c.loop-at.at (g.B.Bus.areas c.loop-at.bus) (g.B.Bus.areas c.args.bus.now) c.loop-at.own c.one.new.own (g.B.Bus.memory c.loop-at.bus) (g.B.Bus.memory c.one.new.bus) c.loop-at.invariant.areas c.in-Jump.ensures.came) c.stop_at-stop-in-Jump.ensures;
-  areas = c.one.ensures.areas ∙ c.loop-at.invariant.areas;
-  others = c.one.ensures.others ∙ c.loop-at.invariant.others;
-}
+use Rattle.fast_loop.proofs.running.run_in.Goals.{then-extended-left, else-extended-left+else-left-eq0+else-length}
 
 pub loop-at-preserved : goal.loop-at-preserved
-loop-at-preserved g c = record {
-  running = turned_on c.args.words (g.B.Bus.areas c.args.bus.now) c.args.from c.args.most c.loop-at.at c.loop-at.limit c.loop-at.stop c.in-Turn.displacement c.distance-distance-in-Turn.result c.stop_at-stop-in-Turn.result c.args.own.now (g.B.Bus.memory c.args.bus.now) c.loop-at.own c.one.new.own (g.B.Bus.memory c.loop-at.bus) (g.B.Bus.memory c.one.new.bus) c.loop-at.invariant.running c.loop-at-test.true c.distance-distance-in-Turn.ensures c.in-Turn.ensures.room (same_came (Turn c.in-Turn.displacement) c.args.words.origin c.loop-at.at (g.B.Bus.areas c.loop-at.bus) (g.B.Bus.areas c.args.bus.now) c.loop-at.own c.one.new.own (g.B.Bus.memory c.loop-at.bus) (g.B.Bus.memory c.one.new.bus) c.loop-at.invariant.areas c.in-Turn.ensures.came) c.stop_at-stop-in-Turn.ensures;
-  areas = c.one.ensures.areas ∙ c.loop-at.invariant.areas;
-  others = c.one.ensures.others ∙ c.loop-at.invariant.others;
-}
+loop-at-preserved g c =
+    let came : IsPart c.if-extended-left.part c.args.origin c.loop-at.at c.loop-at.limit (g.B.Bus.areas c.args.bus.now) c.loop-at.own c.if-extended-left.own (g.B.Bus.memory c.loop-at.bus) (g.B.Bus.memory c.if-extended-left.bus) =
+    elim c.if-extended-left.branch [
+      | then-extended-left w ↦ same_part c.if-extended-left.part w.block-part.result c.args.origin c.loop-at.at c.loop-at.limit (g.B.Bus.areas c.args.bus.now) (g.B.Bus.areas c.loop-at.bus) c.loop-at.own c.if-extended-left.own w.block-part.new.own (g.B.Bus.memory c.loop-at.bus) (g.B.Bus.memory c.if-extended-left.bus) (g.B.Bus.memory w.block-part.new.bus) c.loop-at.invariant.areas w.part-is w.own-is (ap (λ b. g.B.Bus.memory b) w.bus-is) w.block-part.ensures.part
+      | else-extended-left+else-left-eq0+else-length w ↦ same_part c.if-extended-left.part w.carefully-part.result c.args.origin c.loop-at.at c.loop-at.limit (g.B.Bus.areas c.args.bus.now) (g.B.Bus.areas c.loop-at.bus) c.loop-at.own c.if-extended-left.own w.carefully-part.new.own (g.B.Bus.memory c.loop-at.bus) (g.B.Bus.memory c.if-extended-left.bus) (g.B.Bus.memory w.carefully-part.new.bus) c.loop-at.invariant.areas w.part-is w.own-is (ap (λ b. g.B.Bus.memory b) w.bus-is) w.carefully-part.ensures.part
+    ] in
+    let under : c.loop-at.at < 2 ^ 31 = omega (arith, c.loop-at-test.true, c.requires.rows.inside) in
+    record {
+      running = went_on c.args.origin c.args.from c.args.most c.loop-at.at c.loop-at.limit (g.B.Bus.areas c.args.bus.now) c.args.own.now c.loop-at.own c.if-extended-left.own (g.B.Bus.memory c.args.bus.now) (g.B.Bus.memory c.loop-at.bus) (g.B.Bus.memory c.if-extended-left.bus) c.loop-at.invariant.running under c.requires.most c.if-extended-left.part came c.in-Goes.is;
+      rows = elim c.if-extended-left.branch [
+        | then-extended-left w ↦ part_rows c.args.rows.now (g.B.Bus.areas c.if-extended-left.bus) (g.B.Bus.areas c.loop-at.bus) (g.B.Bus.memory c.if-extended-left.bus) (g.B.Bus.memory w.block-part.new.bus) c.args.origin (ap (λ b. g.B.Bus.areas b) w.bus-is ∙ w.block-part.ensures.areas) (ap (λ b. g.B.Bus.memory b) w.bus-is) w.block-part.ensures.rows
+        | else-extended-left+else-left-eq0+else-length w ↦ part_rows c.args.rows.now (g.B.Bus.areas c.if-extended-left.bus) (g.B.Bus.areas c.loop-at.bus) (g.B.Bus.memory c.if-extended-left.bus) (g.B.Bus.memory w.carefully-part.new.bus) c.args.origin (ap (λ b. g.B.Bus.areas b) w.bus-is ∙ w.carefully-part.ensures.areas) (ap (λ b. g.B.Bus.memory b) w.bus-is) w.carefully-part.ensures.rows
+      ];
+      areas = elim c.if-extended-left.branch [
+        | then-extended-left w ↦ ap (λ b. g.B.Bus.areas b) w.bus-is ∙ w.block-part.ensures.areas ∙ c.loop-at.invariant.areas
+        | else-extended-left+else-left-eq0+else-length w ↦ ap (λ b. g.B.Bus.areas b) w.bus-is ∙ w.carefully-part.ensures.areas ∙ c.loop-at.invariant.areas
+      ];
+      others = elim c.if-extended-left.branch [
+        | then-extended-left w ↦ ap (λ b. g.B.Bus.others b) w.bus-is ∙ w.block-part.ensures.others ∙ c.loop-at.invariant.others
+        | else-extended-left+else-left-eq0+else-length w ↦ ap (λ b. g.B.Bus.others b) w.bus-is ∙ w.carefully-part.ensures.others ∙ c.loop-at.invariant.others
+      ];
+    }
 
-pub returns-in-Calls-clause-room : goal.returns-in-Calls-clause-room
-returns-in-Calls-clause-room g c =
-    let room = some_left c.args.words (g.B.Bus.areas c.args.bus.now) c.args.from c.args.most c.loop-at.at c.loop-at.limit c.loop-at.stop c.args.own.now (g.B.Bus.memory c.args.bus.now) c.loop-at.own (g.B.Bus.memory c.loop-at.bus) c.loop-at.invariant.running c.loop-at-test.true in
-    rw (c.ended.ensures.calls, c.ended.ensures.went) room
+pub returns-in-Slot-clause-steps : goal.returns-in-Slot-clause-steps
+returns-in-Slot-clause-steps g c =
+    let came : IsPart c.if-extended-left.part c.args.origin c.loop-at.at c.loop-at.limit (g.B.Bus.areas c.args.bus.now) c.loop-at.own c.if-extended-left.own (g.B.Bus.memory c.loop-at.bus) (g.B.Bus.memory c.if-extended-left.bus) =
+    elim c.if-extended-left.branch [
+      | then-extended-left w ↦ same_part c.if-extended-left.part w.block-part.result c.args.origin c.loop-at.at c.loop-at.limit (g.B.Bus.areas c.args.bus.now) (g.B.Bus.areas c.loop-at.bus) c.loop-at.own c.if-extended-left.own w.block-part.new.own (g.B.Bus.memory c.loop-at.bus) (g.B.Bus.memory c.if-extended-left.bus) (g.B.Bus.memory w.block-part.new.bus) c.loop-at.invariant.areas w.part-is w.own-is (ap (λ b. g.B.Bus.memory b) w.bus-is) w.block-part.ensures.part
+      | else-extended-left+else-left-eq0+else-length w ↦ same_part c.if-extended-left.part w.carefully-part.result c.args.origin c.loop-at.at c.loop-at.limit (g.B.Bus.areas c.args.bus.now) (g.B.Bus.areas c.loop-at.bus) c.loop-at.own c.if-extended-left.own w.carefully-part.new.own (g.B.Bus.memory c.loop-at.bus) (g.B.Bus.memory c.if-extended-left.bus) (g.B.Bus.memory w.carefully-part.new.bus) c.loop-at.invariant.areas w.part-is w.own-is (ap (λ b. g.B.Bus.memory b) w.bus-is) w.carefully-part.ensures.part
+    ] in
+    let under : c.loop-at.at < 2 ^ 31 = omega (arith, c.loop-at-test.true, c.requires.rows.inside) in
+    ended_slot c.args.origin c.args.from c.args.most c.loop-at.at c.loop-at.limit (g.B.Bus.areas c.args.bus.now) c.args.own.now c.loop-at.own c.if-extended-left.own (g.B.Bus.memory c.args.bus.now) (g.B.Bus.memory c.loop-at.bus) (g.B.Bus.memory c.if-extended-left.bus) c.loop-at.invariant.running under c.requires.most c.if-extended-left.part came c.in-Slot.displacement c.ended_in_slot.result.went c.ended_in_slot.new.own c.in-Slot.is c.ended_in_slot.ensures.went c.ended_in_slot.ensures.at
 
-pub returns-in-Calls-clause-call : goal.returns-in-Calls-clause-call
-returns-in-Calls-clause-call g c = rw c.ended.ensures.calls (
-    call_met c.args.words.origin c.loop-at.at (g.B.Bus.areas c.loop-at.bus) (g.B.Bus.areas c.args.bus.now) c.loop-at.own c.one.new.own c.ended.new.own (g.B.Bus.memory c.loop-at.bus) (g.B.Bus.memory c.one.new.bus) c.loop-at.invariant.areas c.in-Calls.ensures.came c.ended.ensures.at)
+pub returns-in-Calls-clause-steps : goal.returns-in-Calls-clause-steps
+returns-in-Calls-clause-steps g c =
+    let came : IsPart c.if-extended-left.part c.args.origin c.loop-at.at c.loop-at.limit (g.B.Bus.areas c.args.bus.now) c.loop-at.own c.if-extended-left.own (g.B.Bus.memory c.loop-at.bus) (g.B.Bus.memory c.if-extended-left.bus) =
+    elim c.if-extended-left.branch [
+      | then-extended-left w ↦ same_part c.if-extended-left.part w.block-part.result c.args.origin c.loop-at.at c.loop-at.limit (g.B.Bus.areas c.args.bus.now) (g.B.Bus.areas c.loop-at.bus) c.loop-at.own c.if-extended-left.own w.block-part.new.own (g.B.Bus.memory c.loop-at.bus) (g.B.Bus.memory c.if-extended-left.bus) (g.B.Bus.memory w.block-part.new.bus) c.loop-at.invariant.areas w.part-is w.own-is (ap (λ b. g.B.Bus.memory b) w.bus-is) w.block-part.ensures.part
+      | else-extended-left+else-left-eq0+else-length w ↦ same_part c.if-extended-left.part w.carefully-part.result c.args.origin c.loop-at.at c.loop-at.limit (g.B.Bus.areas c.args.bus.now) (g.B.Bus.areas c.loop-at.bus) c.loop-at.own c.if-extended-left.own w.carefully-part.new.own (g.B.Bus.memory c.loop-at.bus) (g.B.Bus.memory c.if-extended-left.bus) (g.B.Bus.memory w.carefully-part.new.bus) c.loop-at.invariant.areas w.part-is w.own-is (ap (λ b. g.B.Bus.memory b) w.bus-is) w.carefully-part.ensures.part
+    ] in
+    let under : c.loop-at.at < 2 ^ 31 = omega (arith, c.loop-at-test.true, c.requires.rows.inside) in
+    ended_called c.args.origin c.args.from c.args.most c.loop-at.at c.loop-at.limit (g.B.Bus.areas c.args.bus.now) c.args.own.now c.loop-at.own c.if-extended-left.own (g.B.Bus.memory c.args.bus.now) (g.B.Bus.memory c.loop-at.bus) (g.B.Bus.memory c.if-extended-left.bus) c.loop-at.invariant.running under c.requires.most c.if-extended-left.part came c.ended-in-Calls.result.went c.ended-in-Calls.new.own c.in-Calls.is c.ended-in-Calls.ensures.went c.ended-in-Calls.ensures.at
+
+pub returns-in-Stays-clause-steps : goal.returns-in-Stays-clause-steps
+returns-in-Stays-clause-steps g c =
+    let came : IsPart c.if-extended-left.part c.args.origin c.loop-at.at c.loop-at.limit (g.B.Bus.areas c.args.bus.now) c.loop-at.own c.if-extended-left.own (g.B.Bus.memory c.loop-at.bus) (g.B.Bus.memory c.if-extended-left.bus) =
+    elim c.if-extended-left.branch [
+      | then-extended-left w ↦ same_part c.if-extended-left.part w.block-part.result c.args.origin c.loop-at.at c.loop-at.limit (g.B.Bus.areas c.args.bus.now) (g.B.Bus.areas c.loop-at.bus) c.loop-at.own c.if-extended-left.own w.block-part.new.own (g.B.Bus.memory c.loop-at.bus) (g.B.Bus.memory c.if-extended-left.bus) (g.B.Bus.memory w.block-part.new.bus) c.loop-at.invariant.areas w.part-is w.own-is (ap (λ b. g.B.Bus.memory b) w.bus-is) w.block-part.ensures.part
+      | else-extended-left+else-left-eq0+else-length w ↦ same_part c.if-extended-left.part w.carefully-part.result c.args.origin c.loop-at.at c.loop-at.limit (g.B.Bus.areas c.args.bus.now) (g.B.Bus.areas c.loop-at.bus) c.loop-at.own c.if-extended-left.own w.carefully-part.new.own (g.B.Bus.memory c.loop-at.bus) (g.B.Bus.memory c.if-extended-left.bus) (g.B.Bus.memory w.carefully-part.new.bus) c.loop-at.invariant.areas w.part-is w.own-is (ap (λ b. g.B.Bus.memory b) w.bus-is) w.carefully-part.ensures.part
+    ] in
+    let under : c.loop-at.at < 2 ^ 31 = omega (arith, c.loop-at-test.true, c.requires.rows.inside) in
+    ended_left c.args.origin c.args.from c.args.most c.loop-at.at c.loop-at.limit (g.B.Bus.areas c.args.bus.now) c.args.own.now c.loop-at.own c.if-extended-left.own (g.B.Bus.memory c.args.bus.now) (g.B.Bus.memory c.loop-at.bus) (g.B.Bus.memory c.if-extended-left.bus) c.loop-at.invariant.running under c.requires.most c.if-extended-left.part came c.ended-in-Stays.result.went c.ended-in-Stays.new.own c.in-Stays.is c.ended-in-Stays.ensures.went c.ended-in-Stays.ensures.at

@@ -14,4 +14,4 @@ returns-in-Some-clause-done g c = λ here.
     shift_filled c.args.row.now here (g.B.Bus.areas c.args.bus.now) c.args.own.now c.enter_filled.new.own (g.B.Bus.memory c.args.bus.now) c.in-Some.words c.requires.kind c.requires.registers needed
     (filled_by c.args.own.now.inv c.get.result (g.B.Bus.areas c.args.bus.now) c.args.own.now (with_saved c.args.own.now c.args.own.now.inv c.in-Some.words) (window_filled c.args.own.now c.in-Some.words) (g.B.Bus.memory c.args.bus.now) c.in-Some.words
     refl needed c.enter_filled.ensures.whole c.enter_filled.ensures.counted c.get.ensures.value c.in-Some.ensures.words c.in-Some.ensures.free refl refl)
-    c.enter_filled.ensures.apart c.enter_filled.ensures.done
+    c.enter_filled.ensures.apart c.enter_filled.ensures.zero c.enter_filled.ensures.done

@@ -1,15 +1,7 @@
-use Rattle.std.proofs.Common.{◌+◌, ◌<◌, List, length, arith, subst, sym}
-use Rattle.predecoded_memory.specs.lemmas.SharesTerms.{AreEmptied}
-use Rattle.predecoded_memory.proofs.EmptiedLemmas.{more_emptied, one_emptied}
-use Rattle.predecode.specs.declared.rows.Row.{Row}
+use Rattle.std.proofs.Common.{◌+◌}
+use Rattle.predecoded_memory.proofs.EmptiedLemmas.{then_emptied}
 use Rattle.predecoded_memory.proofs.emptied.empty_rows.Goals as goal
 
-pub loop-done-preserved : goal.loop-done-preserved
-loop-done-preserved c =
-    let below : c.args.begin + c.loop-done.done < length c.loop-done.rows = omega (arith, c.loop-done.invariant.emptied.counted, c.loop-done-test.true, c.requires) in
-    record {
-      few = omega (arith, c.loop-done-test.true);
-      emptied = more_emptied c.args.begin (c.args.begin + c.loop-done.done) (c.args.begin + (c.loop-done.done + 1)) c.args.rows.now c.loop-done.rows c.empty_row.new.rows (omega arith) (omega arith) c.loop-done.invariant.emptied
-          (subst (λ (r : List Row). AreEmptied (c.args.begin + c.loop-done.done) (c.args.begin + (c.loop-done.done + 1)) c.loop-done.rows r) (sym c.empty_row.ensures)
-          (one_emptied c.loop-done.rows (c.args.begin + c.loop-done.done) (c.args.begin + (c.loop-done.done + 1)) below (omega arith)));
-    }
+pub returns-then-count-gt0 : goal.returns-then-count-gt0
+returns-then-count-gt0 c =
+    then_emptied c.args.begin (c.args.begin + c.args.count) c.args.rows.now c.empty_before.new.rows c.empty_from.new.rows c.empty_before.ensures c.empty_from.ensures

@@ -1,4 +1,4 @@
-use Rattle.std.proofs.Common.{◌≡◌, ℕ, ◌*◌, ◌<◌, ◌≤◌, List, map, length, All, ap, ◌∙◌, arith, refl, subst, sym}
+use Rattle.std.proofs.Common.{◌≡◌, ℕ, ◌*◌, ◌<◌, ◌≤◌, List, map, length, replicate, All, ap, ◌∙◌, arith, refl, subst, sym}
 use Rattle.std.proofs.lemmas.List.{length-map}
 use Rattle.std.proofs.lemmas.Option.{slice_get_read}
 use Rattle.guest_bus.specs.Memory.{Area}
@@ -30,5 +30,6 @@ invariant_of-result c =
     let selected = ap (λ (m : Memories). m.selected) c.in_ok-ram.ensures.value in
     let known = subst (λ (all : List (List Area)). AreParts c.share_for-share.result all c.in_ok-parts.parts.items) (sym areas) c.in_ok-parts.ensures in
     let some : 0 < length c.in_ok-parts.parts.items = omega (arith, c.selected-zeros.ensures.memories.selected, selected, known.counted) in
-    first_kept c.in_ok-ram.ram c.in_ok-rows.rows.items c.in_ok-parts.parts.items c.share_for-share.result c.index-own.result.now c.selected-zeros.ensures.memories selected c.in_ok-rows.ensures.empty (c.in_ok-rows.ensures.counted ∙ ap (λ (n : ℕ). n * c.share_for-share.result) (sym counted))
+    first_kept c.in_ok-ram.ram c.in_ok-rows.rows.items c.in_ok-lengths.lengths.items c.in_ok-parts.parts.items c.share_for-share.result c.index-own.result.now c.selected-zeros.ensures.memories selected c.in_ok-rows.ensures.empty (c.in_ok-rows.ensures.counted ∙ ap (λ (n : ℕ). n * c.share_for-share.result) (sym counted))
+    (c.in_ok-lengths.ensures ∙ ap (λ (n : ℕ). replicate n 255) (sym c.in_ok-rows.ensures.counted))
     (c.share_for-share.ensures ∙ ap (share_for (length c.parts_of-described.result.now)) wide ∙ ap (λ (n : ℕ). share_for n (widest 0 c.in_ok-ram.ram.areas)) (sym counted)) known (slice_get_read c.in_ok-parts.parts.items (length c.in_ok-parts.parts.items) 0 c.index-own.result.now refl some c.index-own.ensures)

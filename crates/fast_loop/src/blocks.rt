@@ -1,0 +1,65 @@
+//! Words of a block, within whose length the steps that are left do not end.
+
+ghost use Rattle.std.specs.Prelude.{◌≡◌, ◌<◌, ◌≤◌, ◌^◌, length};
+ghost use Rattle.fast_loop.specs.lemmas.Coming.{IsMoved, IsPart};
+ghost use Rattle.fast_loop.specs.lemmas.Keeping.{AreRowsOf, IsAheadWithin};
+
+use crate::one::{Came, one};
+use crate::parts::{Part, PartEnd};
+use crate::places::distance;
+use guest_bus::HasWords;
+use predecode::Row;
+use sparc_step::Processor;
+
+/// The words of a block from a place on, up to one that goes elsewhere or is left to others.
+#[inline(always)]
+pub(crate) fn block<B: HasWords>(
+    own: &mut Processor,
+    rows: &[Row],
+    bus: &mut B,
+    origin: u32,
+    from: usize,
+    limit: usize,
+) -> Part
+    requires ahead { IsAheadWithin rows.now from limit }
+    requires rows { AreRowsOf rows.now (B.areas bus.old) (B.memory bus.old) origin }
+    requires limit { limit < 2 ^ 34 }
+    ensures part { IsPart result origin from limit (B.areas bus.old) own.old own.new (B.memory bus.old) (B.memory bus.new) }
+    ensures rows { AreRowsOf rows.now (B.areas bus.old) (B.memory bus.new) origin }
+    ensures areas { B.areas bus.new ≡ B.areas bus.old }
+    ensures others { B.others bus.new ≡ B.others bus.old }
+{
+    let mut at = from;
+    loop {
+        match one(own, rows, bus, origin, at) {
+            Came::Next => at += 1,
+            Came::Passed => at += 2,
+            Came::Jump(displacement) => return moved(at, limit, 1, displacement),
+            Came::Turn(displacement) => return moved(at, limit, 2, displacement),
+            Came::PairTurn(displacement) => return moved(at + 1, limit, 2, displacement),
+            Came::Slot(displacement) => {
+                return Part::of(at + 1, limit, PartEnd::Slot(displacement));
+            }
+            Came::PairSlot(displacement) => {
+                return Part::of(at + 2, limit, PartEnd::Slot(displacement));
+            }
+            Came::Calls => return Part::of(at, limit, PartEnd::Calls),
+            Came::Stays => return Part::of(at, limit, PartEnd::Stays),
+        }
+    }
+}
+
+/// The part that ends where the word at a displacement from a place follows, this many steps after that place.
+#[inline(always)]
+pub(crate) fn moved(at: usize, limit: usize, count: usize, displacement: u32) -> Part
+    requires some { 0 < count }
+    requires few { count < 3 }
+    ensures { IsMoved result at limit count displacement }
+{
+    let distance = distance(displacement);
+    Part::of(
+        at.wrapping_add(distance),
+        limit.wrapping_add(distance).wrapping_sub(count),
+        PartEnd::Goes,
+    )
+}
