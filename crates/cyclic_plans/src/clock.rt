@@ -39,6 +39,19 @@ impl PlanClock {
         }
     }
 
+    /// The clock of a system that goes on: the plan that runs, the tick with which its frame began, and the plan that is
+    /// asked for.
+    pub fn resumed(plan: u8, frame_start: u64, asked: Option<u8>) -> PlanClock
+        // The clock with these values.
+        ensures value { result ≡ record { plan = plan; frame_start = frame_start; asked = asked } }
+    {
+        PlanClock {
+            plan,
+            frame_start,
+            asked,
+        }
+    }
+
     /// The number of the plan that runs.
     pub fn plan(&self) -> u8
         ensures value { result ≡ self.now.plan }

@@ -1,8 +1,9 @@
 //! The clocks of one partition.
 
 ghost use Rattle.std.specs.Prelude.{◌≡◌, ◌↔◌, ◌+◌, ◌^◌, ◌<◌, ◌<ℤ◌, ◌⊎◌, ◌||◌, None, pos, is_some, unsigned_abs, IfSome, IsErr, IsNone, OnErr, OnOk};
+ghost use Rattle.std.specs.Option.{ForSome};
 ghost use Rattle.virt_clocks.specs.Flips.{flipped_timer};
-ghost use Rattle.virt_clocks.specs.Clocks.{AreTimers, IsFirstDue, NoneCounted, armed, is_due, lesser, looked_at, next_due, no_clocks, ticks_until, timer_of, with_timer};
+ghost use Rattle.virt_clocks.specs.Clocks.{AreTimers, IsFirstDue, IsTimer, NoneCounted, armed, is_due, lesser, looked_at, next_due, no_clocks, ticks_until, timer_of, with_timer};
 
 use crate::flip::flipped_timer;
 use crate::timer::{
@@ -38,6 +39,25 @@ impl Clocks {
             execution: 0,
             hardware_timer: None,
             execution_timer: None,
+        }
+    }
+
+    /// The clocks of a partition that goes on: how many ticks it ran, and its timers.
+    pub fn resumed(
+        execution: u64,
+        hardware_timer: Option<Timer>,
+        execution_timer: Option<Timer>,
+    ) -> Clocks
+        // Called with timers that can be set: a deadline of 1 to 2^63 - 1, and an interval below 2^63.
+        requires hardware { ForSome hardware_timer IsTimer }
+        requires execution { ForSome execution_timer IsTimer }
+        // The clocks with these values.
+        ensures value { result ≡ record { execution = execution; hardware_timer = hardware_timer; execution_timer = execution_timer } }
+    {
+        Clocks {
+            execution,
+            hardware_timer,
+            execution_timer,
         }
     }
 

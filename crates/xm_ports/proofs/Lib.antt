@@ -1,4 +1,5 @@
 pub mod ChangedLemmas
 pub mod ChannelLemmas
+pub mod FilledLemmas
 pub mod PortLemmas
 pub mod TableLemmas

@@ -1,4 +1,5 @@
 pub mod Channels
+pub mod Contents
 pub mod Kept
 pub mod Ports
 pub mod Stored

@@ -1,9 +1,11 @@
 //! A channel of either kind.
 
-ghost use Rattle.std.specs.Prelude.{◌≡◌, ◌↔◌, ℕ, ◌≤◌, ◌++◌, IfOk, IfSome, IsErr, IfNone, OnErr, OnOk, drop, length, option_map};
-ghost use Rattle.xm_ports.specs.Channels.{IsQueuing, IsSampling, cleared, empty, first_message, messages_of, most_of, put, sample_of, shape_of, first_taken};
+ghost use Rattle.std.specs.Prelude.{◌≡◌, ◌↔◌, ℕ, ◌≤◌, ◌++◌, IfOk, IfSome, IsErr, IfNone, OnErr, OnOk, drop, length, map, option_map, slice_get};
+ghost use Rattle.xm_ports.specs.Channels.{IsQueuing, IsSampling, Queuing as Queued, Sampling as Sampled, Suits, cleared, empty, first_message, messages_of, most_of, put, sample_of, shape_of, first_taken};
+ghost use Rattle.xm_ports.specs.Contents.{content_of};
 ghost use Rattle.xm_ports.specs.Stored.{channel_content, channel_shape};
 
+use crate::content::{ContentValue, SampleValue};
 use crate::queuing::{Full, QueuingChannel};
 use crate::sampling::{Sample, SamplingChannel};
 use std::alloc::Global;
@@ -31,6 +33,62 @@ impl Channel {
             ChanKind::Queuing { most } => {
                 let state = QueuingChannel::new(alloc, most, chan.length)?;
                 Ok(Channel::Queuing(state))
+            }
+        }
+    }
+
+    /// A configured channel that holds this.
+    pub(crate) fn resumed(
+        alloc: Global,
+        chan: &Chan,
+        content: &ContentValue,
+    ) -> Result<Channel, Memory>
+        requires { Suits (shape_of chan.now) (content_of content.now) }
+        ensures shape { IfOk result (λ channel. channel_shape channel ≡ shape_of chan.now) }
+        ensures content { IfOk result (λ channel. channel_content channel ≡ content_of content.now) }
+    {
+        let mut channel = Channel::new(alloc, chan)?;
+        channel.fill(content);
+        Ok(channel)
+    }
+
+    // An empty channel holds this.
+    fn fill(&mut self, content: &ContentValue)
+        requires suits { Suits (channel_shape self.old) (content_of content.now) }
+        requires empty { channel_content self.old ≡ empty (channel_shape self.old) }
+        ensures shape { channel_shape self.new ≡ channel_shape self.old }
+        ensures content { channel_content self.new ≡ content_of content.now }
+    {
+        match content {
+            ContentValue::Sampling(sample) => self.fill_sample(sample),
+            ContentValue::Queuing(messages) => self.fill_queue(messages),
+        }
+    }
+
+    // An empty sampling channel holds this message, where it is one.
+    fn fill_sample(&mut self, sample: &Option<SampleValue>)
+        requires suits { Suits (channel_shape self.old) (Sampled sample.now) }
+        requires empty { channel_content self.old ≡ empty (channel_shape self.old) }
+        ensures shape { channel_shape self.new ≡ channel_shape self.old }
+        ensures content { channel_content self.new ≡ Sampled sample.now }
+    {
+        match sample {
+            Some(sample) => self.put_sampling(&sample.bytes, sample.time),
+            None => {}
+        }
+    }
+
+    // In an empty queue these messages wait.
+    fn fill_queue(&mut self, messages: &[Vec<u8>])
+        requires suits { Suits (channel_shape self.old) (Queued (map (λ message. message.items) messages.now)) }
+        requires empty { channel_content self.old ≡ empty (channel_shape self.old) }
+        ensures shape { channel_shape self.new ≡ channel_shape self.old }
+        ensures content { channel_content self.new ≡ Queued (map (λ message. message.items) messages.now) }
+    {
+        for message in messages {
+            match self.send(message) {
+                Ok(()) => {}
+                Err(_) => unreachable!(),
             }
         }
     }
@@ -82,6 +140,16 @@ impl Channel {
         match self {
             Channel::Sampling(_) => None,
             Channel::Queuing(state) => state.first(),
+        }
+    }
+
+    /// The message at a place of a queue, of which the one that waits longest has 0.
+    pub(crate) fn message(&self, place: usize) -> Option<&[u8]>
+        ensures value { option_map (λ bytes. bytes.now) result ≡ slice_get (messages_of (channel_content self.now)) place }
+    {
+        match self {
+            Channel::Sampling(_) => None,
+            Channel::Queuing(state) => state.message(place),
         }
     }
 

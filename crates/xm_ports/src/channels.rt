@@ -1,11 +1,13 @@
 //! All channels of a system.
 
-ghost use Rattle.std.specs.Prelude.{◌≡◌, ◌↔◌, ℕ, ◌≤◌, All, ◌++◌, IfOk, IfSome, IfNone, IsErr, IsNone, OnErr, OnOk, OnSome, None, drop, length, map, option_map};
+ghost use Rattle.std.specs.Prelude.{◌≡◌, ◌↔◌, ℕ, ◌≤◌, All, ◌++◌, IfOk, IfSome, IfNone, IsErr, IsNone, OnErr, OnOk, OnSome, None, drop, length, map, option_map, slice_get};
 ghost use Rattle.xm_conf.specs.Fits.{IsChan};
+ghost use Rattle.xm_ports.specs.Contents.{EachSuits, content_of};
 ghost use Rattle.xm_ports.specs.Stored.{table_of};
 ghost use Rattle.xm_ports.specs.Channels.{FitsChannel, HasQueue, HasSampling, IsFull, IsTable, all_cleared, content_at, empty, first_message, messages_of, put, sample_of, shape_of, shapes_of, first_taken, with_content};
 
 use crate::channel::Channel;
+use crate::content::ContentValue;
 use crate::queuing::Full;
 use crate::sampling::Sample;
 use std::alloc::Global;
@@ -38,6 +40,24 @@ impl Channels {
         ensures value { IfOk result (λ table. table ≡ record { shapes = shapes_of conf.now; contents = map empty (shapes_of conf.now) }) }
     {
         let channels = made(alloc, chans_of(conf))?;
+        Ok(Channels { channels })
+    }
+
+    /// The channels of a configuration, each with what it holds. All room for messages is taken here: no other call
+    /// needs memory.
+    pub fn resumed(
+        alloc: Global,
+        conf: &Conf,
+        contents: &[ContentValue],
+    ) -> Result<Channels, Memory>
+        // Called with something for each channel that suits it: a message has 1 to as many bytes as the channel says, and
+        // no more wait than the channel says.
+        requires counted { length contents.now ≡ length (shapes_of conf.now) }
+        requires suits { EachSuits (shapes_of conf.now) (map content_of contents.now) }
+        // All channels of a configuration, each holding what is given, with room for all that they will hold.
+        ensures value { IfOk result (λ table. table ≡ record { shapes = shapes_of conf.now; contents = map content_of contents.now }) }
+    {
+        let channels = filled(alloc, chans_of(conf), contents)?;
         Ok(Channels { channels })
     }
 
@@ -90,6 +110,16 @@ impl Channels {
         ensures kept { IsTable self.now }
     {
         self.channels[usize::from(chan)].first()
+    }
+
+    /// The message at a place of a queue, of which the one that waits longest has 0, or `None` after the last. It stays.
+    pub fn message(&self, chan: u8, place: usize) -> Option<&[u8]>
+        // Called for a queue.
+        requires channel { HasQueue chan self.now }
+        // The message of the queue at that place, or none after the last. It stays.
+        ensures value { option_map (λ bytes. bytes.now) result ≡ slice_get (messages_of (content_at chan self.now)) place }
+    {
+        self.channels[usize::from(chan)].message(place)
     }
 
     /// Takes the message that waits longest in a queue, copies it to the beginning of `into`, and answers how many bytes
@@ -156,6 +186,19 @@ fn made(alloc: Global, chans: &[Chan]) -> Result<Vec<Channel>, Memory>
     let mut channels = Vec::with_capacity(alloc, chans.len())?;
     for chan in chans {
         channels.push_reserved(Channel::new(alloc, chan)?);
+    }
+    Ok(channels)
+}
+
+/// Configured channels, each with what it holds.
+fn filled(alloc: Global, chans: &[Chan], contents: &[ContentValue]) -> Result<Vec<Channel>, Memory>
+    requires counted { length contents.now ≡ length chans.now }
+    requires suits { EachSuits (map shape_of chans.now) (map content_of contents.now) }
+    ensures table { IfOk result (λ channels. table_of channels.items ≡ record { shapes = map shape_of chans.now; contents = map content_of contents.now }) }
+{
+    let mut channels = Vec::with_capacity(alloc, chans.len())?;
+    for c in 0..chans.len() {
+        channels.push_reserved(Channel::resumed(alloc, &chans[c], &contents[c])?);
     }
     Ok(channels)
 }

@@ -3,12 +3,14 @@
 
 mod channel;
 mod channels;
+mod content;
 mod ports;
 mod queuing;
 mod room;
 mod sampling;
 
 pub use channels::Channels;
+pub use content::{ContentValue, SampleValue};
 pub use ports::{CreateFault, Ports};
 pub use queuing::Full;
 pub use sampling::Sample;

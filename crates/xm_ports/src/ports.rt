@@ -50,6 +50,14 @@ impl Ports {
         }
     }
 
+    /// The ports of these numbers are made.
+    pub fn resumed(made: [bool; PORTS]) -> Ports
+        // Exactly these ports are made.
+        ensures value { result ≡ made }
+    {
+        Ports { made }
+    }
+
     /// Whether the port of a number is made. A partition has no port of a number above 31.
     pub fn is_made(&self, port: u8) -> bool
         // Whether the port of a number is, never above 31.

@@ -76,6 +76,16 @@ impl QueuingChannel {
         }
     }
 
+    /// The message at a place, of which the one that waits longest has 0.
+    pub(crate) fn message(&self, place: usize) -> Option<&[u8]>
+        ensures value { option_map (λ bytes. bytes.now) result ≡ slice_get self.now.messages place }
+    {
+        match self.waiting.get(place) {
+            Some(room) => Some(room.bytes()),
+            None => None,
+        }
+    }
+
     /// Takes the message that waits longest, and answers how many bytes it has.
     pub(crate) fn receive(&mut self, into: &mut [u8]) -> Option<usize>
         requires { IfSome (slice_get self.old.messages 0) (λ first. length first ≤ length into.old) }

@@ -1,7 +1,7 @@
 //! A ring of entries, each with its number.
 
-ghost use Rattle.std.specs.Prelude.{◌≡◌, ◌<◌, ◌≤◌, ◌⊎◌, ◌↔◌, IfOk, IsNone};
-ghost use Rattle.xm_traces.specs.Ring.{IsKept, entry_at, first_kept, noted, nothing_kept};
+ghost use Rattle.std.specs.Prelude.{◌≡◌, ◌<◌, ◌≤◌, ◌⊎◌, ◌↔◌, IfOk, IsNone, length, min};
+ghost use Rattle.xm_traces.specs.Ring.{IsKept, RING_ENTRIES, entry_at, first_kept, kept_of, noted, nothing_kept};
 
 use circular_buffer::HeapCircularBuffer;
 use std::alloc::Global;
@@ -49,6 +49,22 @@ impl<T: Copy> Ring<T> {
     {
         let entries = HeapCircularBuffer::with_capacity(alloc, RING_ENTRIES)?;
         Ok(Ring { next: 0, entries })
+    }
+
+    /// A ring of which this many entries were noted, and that keeps these, the oldest first. It has room for all that it
+    /// will keep.
+    pub fn resumed(alloc: Global, next: u32, entries: &[T]) -> Result<Ring<T>, Memory>
+        // Called with as many entries as were noted, or 64 where more were.
+        requires { length entries.now ≡ min next RING_ENTRIES }
+        // A ring of this many entries, with those that it keeps.
+        ensures value { IfOk result (λ ring. ring ≡ kept_of next entries.now) }
+    {
+        let mut kept = HeapCircularBuffer::with_capacity(alloc, RING_ENTRIES)?;
+        kept.fill_from_slice(entries);
+        Ok(Ring {
+            next,
+            entries: kept,
+        })
     }
 
     /// Notes an entry, which takes no memory. Where 64 are kept, the oldest goes.
