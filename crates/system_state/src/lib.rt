@@ -25,4 +25,4 @@ pub use inputs::{InputFault, Inputs};
 pub use own_state::PartState;
 pub use reading::read_memory;
 pub use served::{Act, Note, Served};
-pub use sys::{Sys, engine, messages, upsets};
+pub use sys::{Sys, engine, messages, restoring, upsets};

@@ -12,9 +12,8 @@ ghost use Rattle.system_state.specs.Stepping.{IsGone};
 ghost use Rattle.system_state.specs.lemmas.SteppingTerms.{IsMoved};
 
 use crate::gone::Gone;
-use fast_loop::run;
+use fast_loop::Runs;
 use guest_bus::Bus;
-use predecode::HasRows;
 use predecoded_memory::PredecodedRam;
 use sparc_step::{Processor, Turn};
 use virt_traps::{
@@ -146,9 +145,9 @@ pub(crate) fn step_part(core: &mut Processor, ram: &mut PredecodedRam, p: PartId
     gone
 }
 
-// The same over any memory. It stands by itself, so that the compiler has all host registers for the loop.
+// The same over any memory.
 #[inline(never)]
-fn go<B: HasRows>(core: &mut Processor, bus: &mut B, most: u64) -> Gone
+fn go<B: Runs>(core: &mut Processor, bus: &mut B, most: u64) -> Gone
     ensures went { (stepped result.went (B.areas bus.old) core.old (B.memory bus.old)).turn ≡ Turn.Went }
     ensures gone { IsGone result.turn result.went most (B.areas bus.old) (stepped result.went (B.areas bus.old) core.old (B.memory bus.old)) core.new (B.memory bus.new) }
     ensures at { result.pc ≡ (stepped result.went (B.areas bus.old) core.old (B.memory bus.old)).core.pc }
@@ -161,7 +160,7 @@ fn go<B: HasRows>(core: &mut Processor, bus: &mut B, most: u64) -> Gone
 
 // The same with the cached registers. What a straight run leaves to others is a step of its own, but for a call, which the run reports.
 #[inline(always)]
-fn go_cached<B: HasRows>(own: &mut Processor, bus: &mut B, most: u64) -> Gone
+fn go_cached<B: Runs>(own: &mut Processor, bus: &mut B, most: u64) -> Gone
     ensures went { (stepped result.went (B.areas bus.old) own.old (B.memory bus.old)).turn ≡ Turn.Went }
     ensures gone { IsGone result.turn result.went most (B.areas bus.old) (stepped result.went (B.areas bus.old) own.old (B.memory bus.old)) own.new (B.memory bus.new) }
     ensures at { result.pc ≡ (stepped result.went (B.areas bus.old) own.old (B.memory bus.old)).core.pc }
@@ -171,12 +170,13 @@ fn go_cached<B: HasRows>(own: &mut Processor, bus: &mut B, most: u64) -> Gone
 {
     let mut left = most;
     while left > 0 {
-        let ran = run(own, bus, left);
+        let ran = bus.run(own, left);
         left -= ran.went;
         if ran.calls {
             return call_met(own, most - left);
         }
-        if left > 0 {
+        // Where rows were wanted, there may be some now.
+        if left > 0 && !(ran.unmade && ran.went > 0) {
             let pc = own.pc();
             match settle_cached(own, bus) {
                 Turn::Went => left -= 1,

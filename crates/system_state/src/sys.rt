@@ -44,6 +44,7 @@ use xm_ports::{Channels, CreateFault};
 
 pub mod engine;
 pub mod messages;
+pub mod restoring;
 pub mod upsets;
 
 /// How many bytes a message has at most.
