@@ -3,4 +3,5 @@ pub mod FactLemmas
 pub mod ReportLemmas
 pub mod StruckLemmas
 pub mod ComingLemmas
+pub mod ComingTerms
 pub mod Segments

@@ -1,7 +1,8 @@
 //! The lines of a file of upsets that are to come, in the order of their ticks.
 
 ghost use Rattle.std.specs.Prelude.{◌≡◌, ℕ, ◌+◌, ◌<◌, ◌≤◌, [], ◌++◌, length};
-ghost use Rattle.upset_model.specs.Coming.{AreOrdered, count_due};
+ghost use Rattle.upset_model.specs.Coming.{AreOrdered};
+ghost use Rattle.upset_model.specs.lemmas.ComingTerms.{count_due};
 ghost use Rattle.upset_model.specs.Places.{due};
 
 use crate::upset_line::UpsetLine;

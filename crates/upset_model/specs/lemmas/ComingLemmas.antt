@@ -3,7 +3,8 @@ use Rattle.std.proofs.Common.{◌≡◌, ℕ, zero, suc, ◌+◌, ◌<◌, ◌�
 use Rattle.std.specs.Prelude.{◌==◌, if◌then◌else◌, Some, slice_get}
 use Rattle.std.proofs.lemmas.Option.{same_Some}
 use Rattle.std.proofs.lemmas.Bool.Decides.{nat_tests}
-use Rattle.upset_model.specs.Coming.{AreOrdered, count_due}
+use Rattle.upset_model.specs.Coming.{AreOrdered}
+use Rattle.upset_model.specs.lemmas.ComingTerms.{count_due}
 use Rattle.upset_model.specs.Places.{due}
 use Rattle.upset_model.specs.declared.upset_line.UpsetLine.{UpsetLine}
 

@@ -1,5 +1,5 @@
 use Rattle.std.proofs.Common.{◌≡◌, ◌+◌, ◌-◌, ◌≤◌, drop, length}
-use Rattle.upset_model.specs.Coming.{count_due}
+use Rattle.upset_model.specs.lemmas.ComingTerms.{count_due}
 use Rattle.upset_model.proofs.coming.count_due.Given as goal
 
 abbrev pub invariant-loop-count : goal.invariant-loop-count
