@@ -70,6 +70,7 @@ fn is_quiet(note: Note, act: Act) -> bool
 }
 
 // Serves a call that stood at this program counter.
+#[inline(always)]
 fn serve_call(sys: &mut Sys, p: PartId, pc: u32) -> Served
     requires partition { p < length sys.old.machine.parts }
     requires pc { pc % 4 ≡ 0 }

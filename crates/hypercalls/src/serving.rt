@@ -3,7 +3,10 @@
 ghost use Rattle.std.specs.Prelude.{◌≡◌, ◌%◌, ◌<◌, Some, length};
 ghost use Rattle.cyclic_plans.specs.PlanClock.{IsInFrame};
 ghost use Rattle.machine_model.specs.Calls.{by_call, call_of};
+ghost use Rattle.machine_model.specs.Emission.{Unseen};
 ghost use Rattle.machine_model.specs.Hypercalls.{served};
+ghost use Rattle.port_calls.specs.OnPorts.{call_on};
+ghost use Rattle.port_calls.specs.declared.on_ports.PortWork.TheVariants as work;
 ghost use Rattle.span_model.specs.Passes.{part_at};
 ghost use Rattle.sparc_step.specs.Registers.{register_at};
 ghost use Rattle.xm_ports.specs.Channels.{shapes_of};
@@ -62,8 +65,49 @@ fn serve_caller(sys: &mut Sys, site: CallSite) -> Served
     match call_of(argument(sys, site, 0)) {
         None => answer(sys, site, UNKNOWN_CALL),
         // A copy of the site, so that a number that no call has puts nothing into memory.
-        Some(call) => serve_call(sys, CallSite { ..site }, call),
+        Some(call) => serve_known(sys, CallSite { ..site }, call),
     }
+}
+
+// Serves a call of a caller. Those on messages are looked at first, so that their outcomes are copied once less.
+#[inline(always)]
+fn serve_known(sys: &mut Sys, site: CallSite, call: Call) -> Served
+    requires caller { IsCaller site sys.old }
+    requires call { call_of (register_at (caller_of site sys.old).state.core 8) ≡ Some call }
+    requires pc { site.pc % 4 ≡ 0 }
+    requires npc { site.npc % 4 ≡ 0 }
+    requires traces { (part_at site.part sys.old.machine).traces.next < 4294967295 }
+    requires shapes { sys.old.shapes ≡ shapes_of sys.old.machine.system.conf }
+    requires frame { IsInFrame sys.old.machine.system.conf sys.old.machine.clock sys.old.machine.time }
+    ensures { IsServed site.part (caller_of site sys.old).sight (by_call (Some call) (caller_of site sys.old)) result sys.old sys.new }
+{
+    match call {
+        Call::WriteSamplingMessage => send(sys, site, Kind::Sampling),
+        Call::ReadSamplingMessage => receive(sys, site, Kind::Sampling),
+        Call::SendQueuingMessage => send(sys, site, Kind::Queuing),
+        Call::ReceiveQueuingMessage => receive(sys, site, Kind::Queuing),
+        _ => serve_call(sys, site, call),
+    }
+}
+
+// Serves a call that puts a message into the channel of a made port of a kind.
+#[inline(always)]
+fn send(sys: &mut Sys, site: CallSite, kind: Kind) -> Served
+    requires caller { IsCaller site sys.old }
+    requires shapes { sys.old.shapes ≡ shapes_of sys.old.machine.system.conf }
+    ensures { IsServed site.part Unseen (call_on kind work.Send (caller_of site sys.old)) result sys.old sys.new }
+{
+    call_port(sys, site, kind, PortWork::Send)
+}
+
+// Serves a call that reads a message from the channel of a made port of a kind.
+#[inline(always)]
+fn receive(sys: &mut Sys, site: CallSite, kind: Kind) -> Served
+    requires caller { IsCaller site sys.old }
+    requires shapes { sys.old.shapes ≡ shapes_of sys.old.machine.system.conf }
+    ensures { IsServed site.part Unseen (call_on kind work.Receive (caller_of site sys.old)) result sys.old sys.new }
+{
+    call_port(sys, site, kind, PortWork::Receive)
 }
 
 // Serves a call of a caller: the table of all calls.

@@ -364,7 +364,7 @@ fn pass_call(sys: &mut Sys, lines: &mut Lines, span: &mut Span, p: PartId, ticks
 }
 
 // Ends the tick of a call, the last of this many.
-#[inline(never)]
+#[inline(always)]
 fn end_call(
     sys: &mut Sys,
     lines: &mut Lines,
