@@ -63,6 +63,23 @@ module _ (origin from most at limit : ℕ) (areas : List Area) (old here new : R
     end = came.end;
   }
 
+  -- so both are a part
+  by_part : (e : PartEnd) → ArePartSteps e came.count origin at part.at areas here new there after → ArePartSteps e (most - left_at part.at part.limit) origin from part.at areas old new memory after
+  by_part ends.Goes are = (omega (arith, counted, are.0), part_steps (at_place origin part.at new) are.1)
+  by_part (ends.Slot displacement) are = (are.0, part_steps (at_slot origin part.at (part.at - 1 + displacement) new) are.1)
+  by_part ends.Calls are = (part_steps (at_place origin part.at new) are.0, are.1)
+  by_part ends.Stays are = part_steps (at_place origin part.at new) are
+
+  pub part_after : (end : ℕ) → most ≡ end - from → IsPart part origin from end areas old new memory after
+  part_after end is_most = record {
+    count = most - left_at part.at part.limit;
+    steps = by_part part.end came.steps;
+    counted = omega (arith, is_most, came.counted, limit_at at limit most under is.end small is.few, is.few);
+    place = came.place;
+    end = came.end;
+    left = came.left;
+  }
+
   -- it ends
   ended_by : (went : ℕ) (reached ended : Registers) → went ≡ most - left_at part.at part.limit → ended ≡ reached → AreSteps came.count areas (at_place origin at here) there reached after
       → AreSteps went areas (at_place origin from old) memory ended after

@@ -90,9 +90,9 @@ pub(crate) fn one<B: HasWords>(
     }
 }
 
-// Does the word in a delay slot. The answer is whether it did.
+/// Does the word in a delay slot. The answer is whether it did.
 #[inline(always)]
-fn in_slot<B: HasWords>(
+pub(crate) fn in_slot<B: HasWords>(
     own: &mut Processor,
     rows: &[Row],
     bus: &mut B,

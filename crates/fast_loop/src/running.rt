@@ -109,7 +109,7 @@ fn run_in<B: HasWords>(
             if left == 0 || length == UNKNOWN {
                 return ended(own, origin, at, most - left as u64, false, left > 0);
             }
-            carefully(own, rows, bus, origin, at, limit)
+            carefully(own, rows, lengths, bus, origin, at, limit)
         };
         at = part.at;
         limit = part.limit;

@@ -1,16 +1,18 @@
-use Rattle.std.proofs.Common.{◌≡◌, ◌-◌, ◌≤◌}
+use Rattle.std.proofs.Common.{◌≡◌, ◌-◌, ◌<◌, length}
+use Rattle.fast_loop.specs.lemmas.Coming.{left_at}
 use Rattle.fast_loop.specs.lemmas.Keeping.{AreRowsOf}
-use Rattle.fast_loop.proofs.BlockLemmas.{AreWords}
+use Rattle.fast_loop.proofs.RunningLemmas.{IsRunning}
 use Rattle.fast_loop.proofs.careful.careful.Given as goal
 
-abbrev pub invariant-loop-at : goal.invariant-loop-at
-invariant-loop-at g l = record {
-  words : AreWords l.origin l.fn.from l.at (g.B.Bus.areas l.fn.bus) l.fn.own l.own (g.B.Bus.memory l.fn.bus) (g.B.Bus.memory l.bus);
-  rows : AreRowsOf l.rows (g.B.Bus.areas l.fn.bus) (g.B.Bus.memory l.bus) l.origin;
-  reach : l.at ≤ l.stop;
+abbrev pub invariant-loop-part : goal.invariant-loop-part
+invariant-loop-part g l = record {
+  running : IsRunning l.origin l.fn.from (l.end - l.fn.from) l.at l.limit (g.B.Bus.areas l.fn.bus) l.fn.own l.own (g.B.Bus.memory l.fn.bus) (g.B.Bus.memory l.bus);
+  place : l.at < length l.rows;
+  left : 0 < left_at l.at l.limit;
+  rows : AreRowsOf l.rows (g.B.Bus.areas l.bus) (g.B.Bus.memory l.bus) l.origin;
   areas : g.B.Bus.areas l.bus ≡ g.B.Bus.areas l.fn.bus;
   others : g.B.Bus.others l.bus ≡ g.B.Bus.others l.fn.bus;
 }
 
-abbrev pub decreases-loop-at : goal.decreases-loop-at
-decreases-loop-at g l = l.stop - l.at
+abbrev pub decreases-loop-part : goal.decreases-loop-part
+decreases-loop-part g l = left_at l.at l.limit

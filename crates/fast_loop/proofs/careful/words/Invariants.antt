@@ -1,0 +1,16 @@
+use Rattle.std.proofs.Common.{◌≡◌, ◌-◌, ◌≤◌}
+use Rattle.fast_loop.specs.lemmas.Keeping.{AreRowsOf}
+use Rattle.fast_loop.proofs.BlockLemmas.{AreWords}
+use Rattle.fast_loop.proofs.careful.words.Given as goal
+
+abbrev pub invariant-loop-at : goal.invariant-loop-at
+invariant-loop-at g l = record {
+  words : AreWords l.origin l.fn.from l.at (g.B.Bus.areas l.fn.bus) l.fn.own l.own (g.B.Bus.memory l.fn.bus) (g.B.Bus.memory l.bus);
+  rows : AreRowsOf l.rows (g.B.Bus.areas l.fn.bus) (g.B.Bus.memory l.bus) l.origin;
+  reach : l.at ≤ l.stop;
+  areas : g.B.Bus.areas l.bus ≡ g.B.Bus.areas l.fn.bus;
+  others : g.B.Bus.others l.bus ≡ g.B.Bus.others l.fn.bus;
+}
+
+abbrev pub decreases-loop-at : goal.decreases-loop-at
+decreases-loop-at g l = l.stop - l.at
