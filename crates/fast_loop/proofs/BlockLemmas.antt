@@ -9,7 +9,8 @@ use Rattle.predecode.specs.Kinds.{is_exit}
 use Rattle.predecode.specs.declared.rows.Row.{Row}
 use Rattle.fast_loop.specs.Runs.{AreSteps, IsCall}
 use Rattle.fast_loop.specs.lemmas.Coming.{ArePartSteps, IsCame, IsLeft, IsMoved, IsPart, NoExit, left_at}
-use Rattle.fast_loop.specs.lemmas.Keeping.{AreRowsOf, EndsWithin, IsAheadWithin}
+use Rattle.fast_loop.specs.Keeping.{AreRowsOf, EndsWithin}
+use Rattle.fast_loop.specs.lemmas.Ahead.{IsAheadWithin}
 use Rattle.fast_loop.specs.lemmas.Places.{at_place, at_slot}
 use Rattle.fast_loop.specs.lemmas.RunsLemmas.{steps_then}
 use Rattle.fast_loop.proofs.TurningLemmas.{next_address}

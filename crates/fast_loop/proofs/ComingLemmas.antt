@@ -16,7 +16,7 @@ use Rattle.fast_loop.specs.Runs.{AreSteps, IsCall}
 use Rattle.fast_loop.specs.declared.simple.Step.{Step}
 use Rattle.fast_loop.specs.Turning.{calling}
 use Rattle.fast_loop.specs.lemmas.Coming.{IsSlotDone}
-use Rattle.fast_loop.specs.lemmas.Keeping.{AreRowsOf}
+use Rattle.fast_loop.specs.Keeping.{AreRowsOf}
 use Rattle.fast_loop.specs.lemmas.Places.{at_place, at_slot}
 use Rattle.fast_loop.specs.lemmas.RunsLemmas.{no_steps, one_more, one_settled, settled-call, settled-went, steps_then}
 use Rattle.fast_loop.specs.lemmas.Shifts.{IsShift}

@@ -15,7 +15,7 @@ use Rattle.predecode.specs.Kept.{IsKeptRow}
 use Rattle.predecode.specs.lemmas.KeptLemmas.{empty_kept, kept_apart}
 use Rattle.predecode.specs.lemmas.Reached.{IsReached, reached_or_apart, word_after, words_fit, words_written}
 use Rattle.predecode.specs.declared.rows.Row.{Row}
-use Rattle.fast_loop.specs.lemmas.Keeping.{AreRowsOf}
+use Rattle.fast_loop.specs.Keeping.{AreRowsOf}
 use Rattle.fast_loop.specs.lemmas.Moves.{HaveNoRows}
 
 -- where the words that are written have none

@@ -11,7 +11,8 @@ use Rattle.predecode.specs.declared.kinds.Kind.TheVariants.{Branch}
 use Rattle.predecode.specs.declared.rows.Row.{Row}
 use Rattle.fast_loop.specs.Runs.{AreSteps}
 use Rattle.fast_loop.specs.lemmas.Coming.{NoExit}
-use Rattle.fast_loop.specs.lemmas.Keeping.{AreRowsOf, IsAhead}
+use Rattle.fast_loop.specs.Keeping.{AreRowsOf}
+use Rattle.fast_loop.specs.lemmas.Ahead.{IsAhead}
 use Rattle.fast_loop.specs.lemmas.Places.{at_place, at_slot}
 use Rattle.fast_loop.specs.lemmas.RunsLemmas.{steps_then}
 use Rattle.fast_loop.specs.lemmas.Steps.{FollowsBy, HasDone, HasTaken}

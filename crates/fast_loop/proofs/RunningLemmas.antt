@@ -6,7 +6,7 @@ use Rattle.sparc_step.specs.Registers.{Registers, placed}
 use Rattle.predecode.specs.declared.rows.Row.{Row}
 use Rattle.fast_loop.specs.Runs.{AreSteps}
 use Rattle.fast_loop.specs.lemmas.Coming.{ArePartSteps, IsPart, left_at}
-use Rattle.fast_loop.specs.lemmas.Keeping.{AreRowsOf}
+use Rattle.fast_loop.specs.Keeping.{AreRowsOf}
 use Rattle.fast_loop.specs.lemmas.Places.{at_place, at_slot}
 use Rattle.fast_loop.specs.lemmas.RunsLemmas.{steps_then}
 use Rattle.fast_loop.proofs.TurningLemmas.{next_address}

@@ -1,3 +1,4 @@
 pub mod Turning
 pub mod Runs
+pub mod Keeping
 pub mod lemmas

@@ -1,6 +1,6 @@
+pub mod Ahead
 pub mod Coming
 pub mod Effects
-pub mod Keeping
 pub mod Moves
 pub mod PlacedLemmas
 pub mod Places

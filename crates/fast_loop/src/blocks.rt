@@ -2,7 +2,8 @@
 
 ghost use Rattle.std.specs.Prelude.{◌≡◌, ◌<◌, ◌≤◌, ◌^◌, length};
 ghost use Rattle.fast_loop.specs.lemmas.Coming.{IsMoved, IsPart};
-ghost use Rattle.fast_loop.specs.lemmas.Keeping.{AreRowsOf, IsAheadWithin};
+ghost use Rattle.fast_loop.specs.Keeping.{AreRowsOf};
+ghost use Rattle.fast_loop.specs.lemmas.Ahead.{IsAheadWithin};
 
 use crate::one::{Came, one};
 use crate::parts::{Part, PartEnd};

@@ -4,7 +4,7 @@ ghost use Rattle.std.specs.Prelude.{◌≡◌, ◌+◌, ◌<◌, ◌^◌, length
 ghost use Rattle.std.specs.Bool.{OnTrue};
 ghost use Rattle.fast_loop.specs.declared.parts.PartEnd.TheVariants as ends;
 ghost use Rattle.fast_loop.specs.lemmas.Coming.{IsPart, left_at};
-ghost use Rattle.fast_loop.specs.lemmas.Keeping.{AreRowsOf};
+ghost use Rattle.fast_loop.specs.Keeping.{AreRowsOf};
 
 use crate::blocks::moved;
 use crate::one::in_slot;

@@ -12,7 +12,7 @@ ghost use Rattle.sparc_step.specs.Cached.{register_of};
 ghost use Rattle.sparc_step.specs.Registers.{register_at};
 ghost use Rattle.sparc_step.specs.Transfers.{pair_at};
 ghost use Rattle.fast_loop.specs.lemmas.Effects.{IsTransferred, extended_by, load_by_size, store_by_size};
-ghost use Rattle.fast_loop.specs.lemmas.Keeping.{AreRowsOf};
+ghost use Rattle.fast_loop.specs.Keeping.{AreRowsOf};
 ghost use Rattle.fast_loop.specs.lemmas.Moves.{HasMoved, HaveNoRows};
 
 use crate::simple::Step;

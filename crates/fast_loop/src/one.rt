@@ -4,7 +4,8 @@ ghost use Rattle.std.specs.Prelude.{◌≡◌, ◌<◌, false, length, slice_get
 ghost use Rattle.predecode.specs.declared.rows.Row.{Row as Placed};
 ghost use Rattle.std.specs.Bool.{OnTrue};
 ghost use Rattle.fast_loop.specs.lemmas.Coming.{IsCame, IsOn, IsSlotDone};
-ghost use Rattle.fast_loop.specs.lemmas.Keeping.{AreRowsOf, IsAhead};
+ghost use Rattle.fast_loop.specs.Keeping.{AreRowsOf};
+ghost use Rattle.fast_loop.specs.lemmas.Ahead.{IsAhead};
 
 use crate::places::address;
 use crate::shifting::shift;

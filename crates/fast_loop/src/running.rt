@@ -3,7 +3,7 @@
 ghost use Rattle.std.specs.Prelude.{◌≡◌, ◌+◌, ◌-◌, ◌^◌, ◌<◌, ◌≤◌, ◌%◌, false, length};
 ghost use Rattle.std.specs.Bool.{OnTrue};
 ghost use Rattle.fast_loop.specs.Runs.{AreSteps, IsCall};
-ghost use Rattle.fast_loop.specs.lemmas.Keeping.{AreLengths, AreRowsOf};
+ghost use Rattle.fast_loop.specs.Keeping.{AreLengths, AreRowsOf};
 ghost use Rattle.fast_loop.specs.lemmas.Places.{at_place, at_slot};
 
 use crate::blocks::block;

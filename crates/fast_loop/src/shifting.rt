@@ -9,7 +9,7 @@ ghost use Rattle.predecode.specs.Rows.{AreRegisterNumbers};
 ghost use Rattle.predecode.specs.declared.kinds.Kind.TheVariants as kind;
 ghost use Rattle.predecode.specs.declared.rows.Row.{Row as Placed};
 ghost use Rattle.fast_loop.specs.lemmas.Effects.{address_so};
-ghost use Rattle.fast_loop.specs.lemmas.Keeping.{AreRowsOf};
+ghost use Rattle.fast_loop.specs.Keeping.{AreRowsOf};
 ghost use Rattle.fast_loop.specs.lemmas.Shifts.{IsShift, IsSpilled};
 ghost use Rattle.fast_loop.specs.lemmas.Steps.{AreOperands};
 

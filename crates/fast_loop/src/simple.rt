@@ -11,7 +11,7 @@ ghost use Rattle.predecode.specs.Rows.{AreRegisterNumbers, IsResult};
 ghost use Rattle.predecode.specs.declared.rows.Row.{Row as Placed};
 ghost use Rattle.fast_loop.specs.declared.simple.Step.TheVariants.{Taken};
 ghost use Rattle.fast_loop.specs.lemmas.Effects.{first, left_so, operand, set_logical, worked};
-ghost use Rattle.fast_loop.specs.lemmas.Keeping.{AreRowsOf};
+ghost use Rattle.fast_loop.specs.Keeping.{AreRowsOf};
 ghost use Rattle.fast_loop.specs.lemmas.Steps.{AreOperands, IsAlone, IsAnnulled, IsBranched, IsChosen, IsDivided, IsJumped, IsStep, IsStill, IsTrapped};
 
 use crate::moving::{load, load_double, store_double, store_register};

@@ -13,8 +13,8 @@ use Rattle.predecode.specs.lemmas.KeptLemmas.{empty_kept}
 use Rattle.predecode.specs.declared.kinds.Kind.{Kind}
 use Rattle.predecode.specs.declared.kinds.Kind.TheVariants.{Empty}
 use Rattle.predecode.specs.declared.rows.Row.{Row}
-use Rattle.fast_loop.specs.lemmas.Keeping.{AreRowsOf, EndsWithin}
-use Rattle.fast_loop.specs.lemmas.Keeping as loop
+use Rattle.fast_loop.specs.Keeping.{AreRowsOf, EndsWithin}
+use Rattle.fast_loop.specs.Keeping as loop
 use Rattle.predecoded_memory.specs.Shares.{AreKept, EndsIn, first_address, made_of}
 use Rattle.predecoded_memory.specs.declared.share.PartRows.{PartRows}
 use Rattle.predecoded_memory.proofs.EmptiedLemmas.{none_emptied}

@@ -8,7 +8,7 @@ use Rattle.predecode.specs.Kept.{IsBranchOn, IsKeptRow, IsRowFor}
 use Rattle.predecode.specs.Kinds.{follows, is_unmade}
 use Rattle.predecode.specs.lemmas.KeptLemmas.{made_kept}
 use Rattle.predecode.specs.declared.rows.Row.{Row}
-use Rattle.fast_loop.specs.lemmas.Keeping.{AreLengths, AreRowsOf}
+use Rattle.fast_loop.specs.Keeping.{AreLengths, AreRowsOf}
 use Rattle.predecoded_memory.specs.lemmas.MakingTerms.{AreCleared, AreMade}
 use Rattle.predecoded_memory.specs.lemmas.SharesTerms.{row_of_zeros}
 use Rattle.predecoded_memory.proofs.EmptiedLemmas.{get_set_other}

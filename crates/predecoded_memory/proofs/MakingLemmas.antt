@@ -11,7 +11,7 @@ use Rattle.guest_bus.specs.Memory.{Area, Memory}
 use Rattle.predecode.specs.Kept.{IsBranchOn, IsKeptRow}
 use Rattle.predecode.specs.Kinds.{follows, is_unmade}
 use Rattle.predecode.specs.declared.rows.Row.{Row}
-use Rattle.fast_loop.specs.lemmas.Keeping.{AreLengths, AreRowsOf}
+use Rattle.fast_loop.specs.Keeping.{AreLengths, AreRowsOf}
 use Rattle.predecoded_memory.proofs.EmptiedLemmas.{get_set_other, get_set_same}
 use Rattle.predecoded_memory.specs.lemmas.MakingTerms.{AreCleared}
 

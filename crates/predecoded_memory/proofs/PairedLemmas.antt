@@ -17,7 +17,7 @@ use Rattle.predecode.specs.Rows.{AreRegisterNumbers, DoesSo, HasForm, HasSource,
 use Rattle.predecode.specs.declared.kinds.Kind.{Kind}
 use Rattle.predecode.specs.declared.kinds.Kind.TheVariants.{Branch}
 use Rattle.predecode.specs.declared.rows.Row.{Row}
-use Rattle.fast_loop.specs.lemmas.Keeping.{AreLengths, AreRowsOf, EndsWithin}
+use Rattle.fast_loop.specs.Keeping.{AreLengths, AreRowsOf, EndsWithin}
 use Rattle.predecoded_memory.specs.lemmas.MakingTerms.{AreCleared, AreMade, branches, with_kind, with_kind_at}
 use Rattle.predecoded_memory.specs.lemmas.SharesTerms.{row_of_zeros}
 use Rattle.predecoded_memory.proofs.EmptiedLemmas.{get_set_other, get_set_same}

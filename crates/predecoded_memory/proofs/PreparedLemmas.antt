@@ -8,7 +8,7 @@ use Rattle.guest_memory.specs.Memories.{Memories, areas_at, map_at}
 use Rattle.predecode.specs.Kept.{AreKeptRows, IsBranchOn, IsKeptRow}
 use Rattle.predecode.specs.Kinds.{follows}
 use Rattle.predecode.specs.declared.rows.Row.{Row}
-use Rattle.fast_loop.specs.lemmas.Keeping.{EndsWithin}
+use Rattle.fast_loop.specs.Keeping.{EndsWithin}
 use Rattle.predecoded_memory.specs.Shares.{AreKept, ArePairs, AreUnmade, EndsIn, first_address, made_of}
 use Rattle.predecoded_memory.specs.Shares as share
 use Rattle.predecoded_memory.specs.lemmas.MakingTerms.{AreGrown}

@@ -2,7 +2,7 @@
 
 ghost use Rattle.std.specs.Prelude.{◌≡◌, ◌+◌, ◌*◌, ◌^◌, ◌≤◌, ◌<◌, false, true, All, IfOk, None, length, replicate, slice_index_or, slice_set};
 ghost use Rattle.std.specs.Bool.{OnTrue};
-ghost use Rattle.fast_loop.specs.lemmas.Keeping.{AreLengths, AreRowsOf};
+ghost use Rattle.fast_loop.specs.Keeping.{AreLengths, AreRowsOf};
 ghost use Rattle.guest_bus.specs.Access.{fetched};
 ghost use Rattle.guest_memory.specs.Memories.{areas_at, map_at};
 ghost use Rattle.predecode.specs.Kinds.{does, follows, is_unmade};

@@ -4,7 +4,7 @@ use Rattle.guest_bus.specs.Memory.{Area, Memory}
 use Rattle.predecode.specs.Kinds.{Does, Branches, is_exit}
 use Rattle.predecode.specs.declared.kinds.Kind.{Kind}
 use Rattle.predecode.specs.declared.rows.Row.{Row}
-use Rattle.fast_loop.specs.lemmas.Keeping.{AreLengths, AreRowsOf}
+use Rattle.fast_loop.specs.Keeping.{AreLengths, AreRowsOf}
 use Rattle.predecoded_memory.specs.lemmas.SharesTerms.{row_of_zeros}
 
 -- a branch on a condition that annuls nothing

@@ -1,5 +1,5 @@
 use Rattle.std.proofs.Common.{◌≡◌, ◌-◌, length}
-use Rattle.fast_loop.specs.lemmas.Keeping.{AreRowsOf}
+use Rattle.fast_loop.specs.Keeping.{AreRowsOf}
 use Rattle.fast_loop.proofs.BlockLemmas.{InBlock}
 use Rattle.fast_loop.proofs.blocks.block.Given as goal
 

@@ -1,6 +1,6 @@
 use Rattle.std.proofs.Common.{◌≡◌}
 use Rattle.fast_loop.specs.lemmas.Coming.{left_at}
-use Rattle.fast_loop.specs.lemmas.Keeping.{AreRowsOf}
+use Rattle.fast_loop.specs.Keeping.{AreRowsOf}
 use Rattle.fast_loop.proofs.RunningLemmas.{IsRunning}
 use Rattle.fast_loop.proofs.running.run_in.Given as goal
 

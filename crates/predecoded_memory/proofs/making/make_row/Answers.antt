@@ -1,7 +1,7 @@
 use Rattle.std.proofs.Common.{◌≡◌, ◌∙◌, true, slice_index_or, sym, subst}
 use Rattle.guest_memory.specs.Memories.{Memories, areas_at, map_at}
 use Rattle.predecode.specs.Kinds.{is_unmade}
-use Rattle.fast_loop.specs.lemmas.Keeping.{AreRowsOf}
+use Rattle.fast_loop.specs.Keeping.{AreRowsOf}
 use Rattle.predecoded_memory.specs.lemmas.MakingTerms.{AreMade}
 use Rattle.predecoded_memory.specs.lemmas.SharesTerms.{row_of_zeros}
 use Rattle.predecoded_memory.proofs.MadeLemmas.{made_then, row_made}

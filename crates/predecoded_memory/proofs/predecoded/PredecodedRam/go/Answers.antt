@@ -1,7 +1,7 @@
 use Rattle.std.proofs.Common.{◌-◌, ◌≤◌, ℕ, List, take, drop, sym, subst, arith}
 use Rattle.guest_memory.specs.Memories.{areas_at, map_at}
 use Rattle.predecode.specs.declared.rows.Row.{Row}
-use Rattle.fast_loop.specs.lemmas.Keeping.{AreLengths, AreRowsOf}
+use Rattle.fast_loop.specs.Keeping.{AreLengths, AreRowsOf}
 use Rattle.predecoded_memory.specs.Shares.{made_of}
 use Rattle.predecoded_memory.proofs.GoingLemmas.{ran_kept, share_lengths, share_rows}
 use Rattle.predecoded_memory.proofs.predecoded.PredecodedRam.go.Goals as goal

@@ -4,7 +4,7 @@ use Rattle.std.proofs.lemmas.List.{with_items_is}
 use Rattle.std.specs.Vec.{with_items}
 use Rattle.guest_memory.specs.Memories.{Memories, areas_at, map_at}
 use Rattle.predecode.specs.declared.rows.Row.{Row}
-use Rattle.fast_loop.specs.lemmas.Keeping.{AreLengths, AreRowsOf}
+use Rattle.fast_loop.specs.Keeping.{AreLengths, AreRowsOf}
 use Rattle.predecoded_memory.specs.Shares.{AreKept, made_of}
 use Rattle.predecoded_memory.specs.lemmas.MakingTerms.{AreGrown}
 use Rattle.predecoded_memory.proofs.GoingLemmas.{share_lengths, share_rows}

@@ -27,14 +27,3 @@ pub record EndsWithin (rows : List Row) (at end : ℕ) : Type 0 where
 pub record AreLengths (lengths : List ℕ) (rows : List Row) : Type 0 where
   pub counted : length lengths ≡ length rows
   pub each : (k : ℕ) → k < length rows → slice_index lengths k < 128 → EndsWithin rows k (k + slice_index lengths k + 1)
-
--- an exit is ahead of a place
-pub record IsAhead (rows : List Row) (at : ℕ) : Type 0 where
-  pub end : ℕ
-  pub ends : EndsWithin rows at end
-
--- and before a limit of the steps that are left
-pub record IsAheadWithin (rows : List Row) (at limit : ℕ) : Type 0 where
-  pub end : ℕ
-  pub ends : EndsWithin rows at end
-  pub room : end ≤ limit
