@@ -24,11 +24,6 @@ HasForm Sum row = (row.rs2 ≡ 0) ⊎ (row.number ≡ 0)
 HasForm Number row = row.rs2 ≡ 0
 HasForm Register row = row.number ≡ 0
 
--- the row's instruction has these operands
-pub record HasOperands (row : Row) (rs1 : ℕ) (source : Src) : Type 0 where
-  pub first : row.rs1 ≡ rs1
-  pub second : HasSource source row
-
 -- work that sets its register, and does nothing else
 abbrev pub is_plain : Arith → Bool
 is_plain arith.Add = true

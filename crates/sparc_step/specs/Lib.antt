@@ -4,6 +4,7 @@ pub mod Registers
 pub mod Cached
 pub mod Words
 pub mod Conditions
+pub mod Codes
 pub mod Operands
 pub mod Outcome
 pub mod Arithmetic

@@ -1,6 +1,6 @@
 pub mod CachedLemmas
 pub mod CachedTerms
-pub mod CodesTerms
+pub mod CodesLemmas
 pub mod ExecutionTerms
 pub mod HeldLemmas
 pub mod TransfersTerms

@@ -30,7 +30,7 @@ pub(crate) struct Codes {
 
 impl Model for Codes {
     ghost use Rattle.std.specs.Prelude.{ℕ, ◌<◌};
-    ghost use Rattle.sparc_step.specs.lemmas.CodesTerms.{codes_by};
+    ghost use Rattle.sparc_step.specs.Codes.{codes_by};
 
     ghost Value = { ℕ };
 
@@ -41,7 +41,7 @@ impl Model for Codes {
 
 impl Codes {
     /// Codes that are known.
-    #[tactic(auto, unfolding(crate::specs::lemmas::CodesTerms::codes_by))]
+    #[tactic(auto, unfolding(crate::specs::Codes::codes_by))]
     pub(crate) fn of(known: u8) -> Codes
         requires { known < 16 }
         ensures { result ≡ known }
@@ -56,7 +56,7 @@ impl Codes {
 
     /// The codes.
     #[inline(always)]
-    #[tactic(auto, unfolding(crate::specs::lemmas::CodesTerms::codes_by))]
+    #[tactic(auto, unfolding(crate::specs::Codes::codes_by))]
     pub(crate) fn value(&self) -> u8
         ensures value { result ≡ self.now }
         ensures four { result < 16 }
@@ -71,7 +71,7 @@ impl Codes {
 
     /// They become those of a comparison.
     #[inline(always)]
-    #[tactic(auto, unfolding(crate::specs::lemmas::CodesTerms::codes_by), using(crate::specs::lemmas::CodesTerms::difference_below))]
+    #[tactic(auto, unfolding(crate::specs::Codes::codes_by), using(crate::specs::lemmas::CodesLemmas::difference_below))]
     pub(crate) fn compared(&mut self, a: u32, b: u32)
         ensures value { self.new ≡ codes_of_difference a b false }
         ensures four { self.new < 16 }
@@ -83,7 +83,7 @@ impl Codes {
 
     /// They become those of a sum.
     #[inline(always)]
-    #[tactic(auto, unfolding(crate::specs::lemmas::CodesTerms::codes_by), using(crate::specs::lemmas::CodesTerms::sum_below))]
+    #[tactic(auto, unfolding(crate::specs::Codes::codes_by), using(crate::specs::lemmas::CodesLemmas::sum_below))]
     pub(crate) fn added(&mut self, a: u32, b: u32)
         ensures value { self.new ≡ codes_of_sum a b false }
         ensures four { self.new < 16 }
@@ -95,7 +95,7 @@ impl Codes {
 
     /// They become those of a result of logic.
     #[inline(always)]
-    #[tactic(auto, unfolding(crate::specs::lemmas::CodesTerms::codes_by), using(crate::specs::lemmas::CodesTerms::result_below))]
+    #[tactic(auto, unfolding(crate::specs::Codes::codes_by), using(crate::specs::lemmas::CodesLemmas::result_below))]
     pub(crate) fn tested(&mut self, value: u32)
         ensures value { self.new ≡ codes_of_result value false }
         ensures four { self.new < 16 }
@@ -106,7 +106,7 @@ impl Codes {
 
     /// They become known ones.
     #[inline(always)]
-    #[tactic(auto, unfolding(crate::specs::lemmas::CodesTerms::codes_by))]
+    #[tactic(auto, unfolding(crate::specs::Codes::codes_by))]
     pub(crate) fn set(&mut self, known: u8)
         requires { known < 16 }
         ensures { self.new ≡ known }

@@ -1,17 +1,7 @@
--- For proofs and private clauses: condition codes by what set them.
+-- Condition codes are four bits.
 use Rattle.std.proofs.Common.{ℕ, ◌<◌, Bool, true, false, arith}
 use Rattle.sparc_step.specs.Conditions.{condition_codes, codes_of_difference, codes_of_result, codes_of_sum}
-use Rattle.sparc_step.specs.declared.codes.SetBy.{SetBy}
-use Rattle.sparc_step.specs.declared.codes.SetBy.TheVariants.{Known, Difference, Sum, Result}
 
--- the codes that what set them left
-unfoldable pub codes_by : SetBy → ℕ → ℕ → ℕ → ℕ
-codes_by Known known left right = known
-codes_by Difference known left right = codes_of_difference left right false
-codes_by Sum known left right = codes_of_sum left right false
-codes_by Result known left right = codes_of_result left false
-
--- they are four bits
 codes_below : (n z v c : Bool) → condition_codes n z v c < 16
 unfolding condition_codes
 codes_below true true true true = omega arith
