@@ -11,6 +11,7 @@ use crate::one::in_slot;
 use crate::parts::{Part, PartEnd};
 use crate::shifting::shift;
 use crate::simple::{Step, execute};
+use crate::sites::{AfterOne, OneByOne};
 use guest_bus::HasWords;
 use predecode::Row;
 use sparc_step::Processor;
@@ -39,7 +40,7 @@ fn words<B: HasWords>(
     let mut at = from;
     while at < stop {
         proof! { let _zero = own.get(0); }
-        match execute(own, rows, bus, origin, at, false, false) {
+        match execute(own, rows, bus, origin, at, false, false, OneByOne) {
             Step::Next => at += 1,
             Step::Passed => at += 1,
             Step::Compared => at += 1,
@@ -47,7 +48,7 @@ fn words<B: HasWords>(
                 if at + 1 >= stop {
                     return Part::of(at + 1, limit, PartEnd::Slot(displacement));
                 }
-                return if in_slot(own, rows, bus, origin, at + 1) {
+                return if in_slot(own, rows, bus, origin, at + 1, AfterOne) {
                     moved(at, limit, 2, displacement)
                 } else {
                     Part::of(at + 1, limit, PartEnd::Slot(displacement))

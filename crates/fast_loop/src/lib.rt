@@ -15,6 +15,7 @@ mod running;
 mod runs;
 mod shifting;
 mod simple;
+mod sites;
 mod working;
 
 pub use running::{RunEnd, SINGLE, UNKNOWN, run_rows};

@@ -10,6 +10,7 @@ ghost use Rattle.fast_loop.specs.lemmas.Ahead.{IsAhead};
 use crate::places::address;
 use crate::shifting::shift;
 use crate::simple::{Step, execute};
+use crate::sites::{AfterBranch, AfterPair, InBlock};
 use guest_bus::HasWords;
 use predecode::Row;
 use sparc_step::Processor;
@@ -56,7 +57,7 @@ pub(crate) fn one<B: HasWords>(
     ensures others { B.others bus.new ≡ B.others bus.old }
 {
     proof! { let _zero = own.get(0); }
-    match execute(own, rows, bus, origin, at, true, false) {
+    match execute(own, rows, bus, origin, at, true, false, InBlock) {
         Step::Next => Came::Next,
         Step::Passed => {
             proof! { let _then = own.get(0); }
@@ -65,14 +66,14 @@ pub(crate) fn one<B: HasWords>(
         Step::Compared => {
             proof! { let _then = own.get(0); }
             let displacement = number_at(rows, at + 1);
-            if in_slot(own, rows, bus, origin, at + 2) {
+            if in_slot(own, rows, bus, origin, at + 2, AfterPair) {
                 Came::PairTurn(displacement)
             } else {
                 Came::PairSlot(displacement)
             }
         }
         Step::Taken(displacement) => {
-            if in_slot(own, rows, bus, origin, at + 1) {
+            if in_slot(own, rows, bus, origin, at + 1, AfterBranch) {
                 Came::Turn(displacement)
             } else {
                 Came::Slot(displacement)
@@ -93,12 +94,13 @@ pub(crate) fn one<B: HasWords>(
 
 /// Does the word in a delay slot. The answer is whether it did.
 #[inline(always)]
-pub(crate) fn in_slot<B: HasWords>(
+pub(crate) fn in_slot<B: HasWords, S: Copy>(
     own: &mut Processor,
     rows: &[Row],
     bus: &mut B,
     origin: u32,
     at: usize,
+    site: S,
 ) -> bool
     requires place { at < length rows.now }
     requires rows { AreRowsOf rows.now (B.areas bus.old) (B.memory bus.old) origin }
@@ -110,7 +112,7 @@ pub(crate) fn in_slot<B: HasWords>(
     ensures others { B.others bus.new ≡ B.others bus.old }
 {
     proof! { let _zero = own.get(0); }
-    match execute(own, rows, bus, origin, at, false, true) {
+    match execute(own, rows, bus, origin, at, false, true, site) {
         Step::Next => true,
         Step::Shifts => shift(own, rows, bus, origin, at),
         Step::Passed => true,

@@ -368,7 +368,7 @@ fn put_y(own: &mut Processor, row: &Row)
 /// Does what the row of a place says. Where it may, it finds the branch after a comparison, too; in a delay slot it does no instruction
 /// that goes elsewhere.
 #[inline(always)]
-pub(crate) fn execute<B: HasWords>(
+pub(crate) fn execute<B: HasWords, S: Copy>(
     own: &mut Processor,
     rows: &[Row],
     bus: &mut B,
@@ -376,6 +376,7 @@ pub(crate) fn execute<B: HasWords>(
     at: usize,
     paired: bool,
     slot: bool,
+    site: S,
 ) -> Step
     requires place { at < length rows.now }
     requires rows { AreRowsOf rows.now (B.areas bus.old) (B.memory bus.old) origin }
@@ -386,12 +387,12 @@ pub(crate) fn execute<B: HasWords>(
     ensures areas { B.areas bus.new ≡ B.areas bus.old }
     ensures others { B.others bus.new ≡ B.others bus.old }
 {
-    do_row(own, rows, bus, origin, at, &rows[at], paired, slot)
+    do_row(own, rows, bus, origin, at, &rows[at], paired, slot, site)
 }
 
 // The same by the row itself.
 #[inline(always)]
-fn do_row<B: HasWords>(
+fn do_row<B: HasWords, S: Copy>(
     own: &mut Processor,
     rows: &[Row],
     bus: &mut B,
@@ -400,6 +401,7 @@ fn do_row<B: HasWords>(
     row: &Row,
     paired: bool,
     slot: bool,
+    _site: S,
 ) -> Step
     requires registers { AreRegisterNumbers row.now }
     requires rows { AreRowsOf rows.now (B.areas bus.old) (B.memory bus.old) origin }
