@@ -13,7 +13,7 @@ BENCH = f"{ROOT}/bench"
 # Ticks under callgrind, and ticks for the rate.
 COUNTED = (2_000_000, 8_000_000)
 TIMED = (50_000_000, 250_000_000)
-TURNS = 3
+TURNS = 7
 # The guests over which rates are compared. Each is one C file, whose first lines say what it executes, and has no end.
 GUESTS = ["workload", "records", "lists", "copies", "filters", "wide_sums", "doubles", "recursion", "sorts"]
 
