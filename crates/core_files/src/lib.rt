@@ -9,4 +9,4 @@ mod registers;
 mod standing;
 mod whole;
 
-pub use whole::{core_into, core_length};
+pub use whole::{core_into, core_length, head_into};

@@ -1,12 +1,12 @@
 //! The whole core file.
 
-ghost use Rattle.std.specs.Prelude.{◌≡◌, ◌+◌, ◌<◌, ◌≤◌, ◌++◌, ◌∷◌, [], length, map, take};
-ghost use Rattle.std.specs.List.{flat_map, sum_by};
+ghost use Rattle.std.specs.Prelude.{◌≡◌, ◌+◌, ◌<◌, ◌≤◌, length, map, take};
+ghost use Rattle.std.specs.List.{sum_by};
 ghost use Rattle.guest_memory.specs.Loading.{area_of};
-ghost use Rattle.machine_model.specs.CoreFile.{area_bytes, core_file};
-ghost use Rattle.machine_model.specs.Partition.{areas_of};
+ghost use Rattle.machine_model.specs.CoreFile.{core_file};
 ghost use Rattle.machine_model.specs.View.{part_of, view_of};
-ghost use Rattle.system_state.specs.State.{memory_of, part_at};
+ghost use Rattle.system_state.specs.State.{part_at};
+ghost use Rattle.core_files.specs.Head.{core_head};
 ghost use Rattle.core_files.specs.Length.{area_length, core_length_of, head_length};
 
 use crate::areas::put_areas;
@@ -80,11 +80,22 @@ pub fn core_into(sys: &Sys, p: PartId, into: &mut [u8])
     put_areas(into, at, areas, sys, p);
 }
 
+/// Writes what the core file of a partition has before its areas and their number into a slice of 3470 bytes.
+pub fn head_into(sys: &Sys, p: PartId, into: &mut [u8])
+    // Called for a partition that exists and with a slice of that length.
+    requires partition { p < length sys.now.machine.parts }
+    requires size { length into.old ≡ 3470 }
+    // A slice of that length gets exactly the bytes that the defined list has there.
+    ensures head { into.new ≡ core_head (view_of sys.now.machine.system p) (part_at p sys.now.machine) }
+{
+    put_head(into, sys, p);
+}
+
 /// Writes all that stands before the areas and their number, and returns the place after it.
 fn put_head(into: &mut [u8], sys: &Sys, p: PartId) -> usize
     requires partition { p < length sys.now.machine.parts }
     requires room { 3470 ≤ length into.old }
-    ensures text { core_file (view_of sys.now.machine.system p) (part_at p sys.now.machine) ≡ take result into.new ++ length (areas_of (view_of sys.now.machine.system p)) ∷ [] ++ flat_map (area_bytes (memory_of p sys.now.machine)) (areas_of (view_of sys.now.machine.system p)) }
+    ensures text { take result into.new ≡ core_head (view_of sys.now.machine.system p) (part_at p sys.now.machine) }
     ensures place { result ≡ 3470 }
     ensures room { length into.new ≡ length into.old }
 {

@@ -73,6 +73,8 @@ impl Clocks {
     pub fn timer(&self, clock: Clock) -> Option<Timer>
         // The timer of a clock.
         ensures value { result ≡ timer_of clock self.now }
+        // Both timers are such as can be set.
+        ensures timers { AreTimers self.now }
     {
         match clock {
             Clock::Hw => self.hardware_timer,

@@ -3,11 +3,12 @@ use Rattle.std.specs.List.{flat_map, sum_by}
 use Rattle.std.proofs.lemmas.List.{length-map, take_all}
 use Rattle.guest_bus.specs.Memory.{Area}
 use Rattle.guest_memory.specs.Loading.{area_of}
-use Rattle.machine_model.specs.CoreFile.{area_bytes}
+use Rattle.machine_model.specs.CoreFile.{area_bytes, core_file}
 use Rattle.machine_model.specs.Partition.{areas_of}
 use Rattle.machine_model.specs.View.{part_of, view_of}
 use Rattle.system_state.specs.State.{memory_of}
 use Rattle.xm_conf.specs.Configuration.{Conf}
+use Rattle.core_files.specs.Head.{core_head}
 use Rattle.core_files.specs.Length.{area_length, core_length_of}
 use Rattle.core_files.proofs.AreaLemmas.{areas_are, areas_in_are}
 use Rattle.core_files.proofs.whole.core_into.Goals as goal
@@ -29,7 +30,7 @@ put_areas-requires-clause-room c =
     omega (arith, c.requires.size, ap (sum_by area_length) same, c.put_head-at.ensures.place, c.put_head-at.ensures.room)
 
 pub returns : goal.returns
-unfolding core_length_of
+unfolding core_file core_head core_length_of
 returns c =
     let g = c.args.sys.now.machine in
     let areas = c.configured_areas-areas.result.now in
@@ -44,5 +45,5 @@ returns c =
       file = sym (take_all c.put_areas.result c.put_areas.new.into all) ∙ c.put_areas.ensures.text
           ∙ ap (λ (n : ℕ). head ++ n ∷ [] ++ flat_map bytes (map area_of areas)) (sym (length-map areas area_of))
           ∙ ap (λ (xs : List Area). head ++ length xs ∷ [] ++ flat_map bytes xs) (sym same)
-          ∙ sym c.put_head-at.ensures.text;
+          ∙ ap (λ (front : List ℕ). front ++ length (areas_of (view_of g.system c.args.p)) ∷ [] ++ flat_map bytes (areas_of (view_of g.system c.args.p))) c.put_head-at.ensures.text;
     }

@@ -1,14 +1,9 @@
-use Rattle.std.proofs.Common.{[], ◌∷◌, ◌++◌, List, ℕ, ap, length, sym}
-use Rattle.std.specs.List.{flat_map}
-use Rattle.machine_model.specs.CoreFile.{area_bytes, core_file}
-use Rattle.machine_model.specs.Partition.{areas_of}
-use Rattle.machine_model.specs.View.{view_of}
-use Rattle.system_state.specs.State.{memory_of}
+use Rattle.core_files.specs.Head.{core_head}
 use Rattle.core_files.proofs.WritingLemmas.{and_both, and_written}
 use Rattle.core_files.proofs.whole.put_head.Goals as goal
 
 pub returns-clause-text : goal.returns-clause-text
-unfolding core_file
+unfolding core_head
 returns-clause-text c =
     let standing = rw c.standing.ensures.value at c.put_structure-at.ensures.text in
     let processor = and_written _ _ _ _ standing (rw c.processor.ensures.value at c.put_structure-at-2.ensures.text) in
@@ -17,6 +12,4 @@ returns-clause-text c =
     let inputs = and_written _ _ _ _ execution (rw c.inputs_left.ensures.value at c.put_count-at.ensures.text) in
     let ports = and_written _ _ _ _ inputs (rw c.made_ports.ensures at c.put_word-at.ensures.text) in
     let registers = and_both _ _ _ _ _ ports c.put_registers-at.ensures.text in
-    let logs = and_both _ _ _ _ _ registers c.put_logs.ensures.text in
-    let areas = areas_of (view_of c.args.sys.now.machine.system c.args.p) in
-    ap (λ (head : List ℕ). head ++ length areas ∷ [] ++ flat_map (area_bytes (memory_of c.args.p c.args.sys.now.machine)) areas) (sym logs)
+    and_both _ _ _ _ _ registers c.put_logs.ensures.text
