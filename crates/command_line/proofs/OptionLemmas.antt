@@ -1,5 +1,5 @@
 -- What is to be typed for the options of a run.
-use Rattle.std.proofs.Common.{◌≡◌, ℕ, ◌≤◌, Bool, true, false, ◌&&◌, nat_eq, nat_le, if◌then◌else◌, subst, List, [], ◌∷◌, ◌++◌, length, codes, decimal, Option, Some, None, refl, ap, ◌∙◌}
+use Rattle.std.proofs.Common.{◌≡◌, ◌⊎◌, ℕ, ◌≤◌, Bool, true, false, ◌&&◌, ◌||◌, nat_eq, if◌then◌else◌, subst, List, [], ◌∷◌, ◌++◌, length, codes, decimal, Option, Some, None, refl, ap, ◌∙◌, inl, inr, arith}
 use Rattle.std.specs.List.{flat_map}
 use Rattle.std.specs.Prelude.{All}
 use Rattle.std.specs.Str.{bytes_eq}
@@ -9,8 +9,10 @@ use Rattle.command_line.specs.declared.commands.Span.{Span}
 use Rattle.command_line.specs.declared.commands.Span.TheVariants.{Frames, Ticks}
 use Rattle.command_line.specs.declared.run_options.FileKind.{FileKind}
 use Rattle.command_line.specs.declared.run_options.FileKind.TheVariants.{Core, Input, Script}
-use Rattle.command_line.specs.Grammar.{HaveOneFileEach, AreRunOptions, IsFileName, IsRunOption, count_of, file_option_of, option_of, option_words, part_word}
-use Rattle.command_line.specs.Words.{PartFile, RunOption, Length, Upsets, ForPart, asked, are_apart, are_kinds_apart, are_options, are_run_options, cores_in, files_in, inputs_in, scripts_in, is_file, kind_of, option_by, option_for, option_or, option_upsets, part_file_of, run_option_of, run_options, span_of, spanned, spans_in, ticks_of, upset_files_in}
+use Rattle.command_line.specs.declared.run_options.RunKind.{RunKind}
+use Rattle.command_line.specs.declared.run_options.RunKind.TheVariants as whole
+use Rattle.command_line.specs.Grammar.{HaveOneFileEach, AreRunOptions, IsFileName, IsRunOption, count_of, file_option_of, option_of, option_words, part_word, run_file_option}
+use Rattle.command_line.specs.Words.{PartFile, RunOption, Length, ForRun, ForPart, asked, are_apart, are_kinds_apart, are_options, are_run_options, are_single, begins_once, cores_in, files_in, inputs_in, scripts_in, is_file, is_single, kind_of, option_by, option_for, option_or, option_whole, part_file_of, run_files_in, run_kind_of, run_option_of, run_options, span_of, spanned, spans_in, ticks_of}
 use Rattle.command_line.proofs.PartFileLemmas.{apart_pairs, named_word, pairs_apart, word_named}
 use Rattle.command_line.proofs.WordPairLemmas.{pairs_typed, reads_pairs}
 use Rattle.command_line.proofs.WordLemmas.{file_is, is_of_file, named, text_ticks, ticks_text}
@@ -67,40 +69,64 @@ record TypedOption (option word : List ℕ) (made : RunOption) : Type 0 where
 option_as : (option word : List ℕ) (made other : RunOption) → TypedOption option word made → Some made ≡ Some other → TypedOption option word other
 option_as option word made other typed e = (let same : made ≡ other = cc in subst (TypedOption option word) same typed)
 
--- an option with a file of upsets
-upsets_typed : (option word : List ℕ) (made : RunOption) → option_upsets option word ≡ Some made → TypedOption option word made
-unfolding option_upsets
-upsets_typed option word made e = at (bytes_eq option (codes "--upset")) (is_file word) refl refl e
+-- so it is with a kind of file for the whole run that is the same
+run_kind_as : (option : List ℕ) (made kind : RunKind) → option ≡ run_file_option made → Some made ≡ Some kind → option ≡ run_file_option kind
+run_kind_as option made kind typed e = (let same : made ≡ kind = cc in subst (λ (k : RunKind). option ≡ run_file_option k) same typed)
+
+-- the option in front of a file for the whole run
+run_kind_typed : (option : List ℕ) (kind : RunKind) → run_kind_of option ≡ Some kind → option ≡ run_file_option kind
+unfolding run_kind_of
+run_kind_typed option kind e = at (bytes_eq option (codes "--upset")) (bytes_eq option (codes "--from")) (bytes_eq option (codes "--save")) refl refl refl e
   where
-    at : (is right : Bool) → bytes_eq option (codes "--upset") ≡ is → is_file word ≡ right
-        → (if is then asked right (Upsets word) else None) ≡ Some made → TypedOption option word made
-    at true true is right e =
-        let option_is : option ≡ codes "--upset" = named option (codes "--upset") is in
-        option_as option word (Upsets word) made (record { words = cc; right = file_is word right }) e
-    at true false is right e = absurd (let no : ⊥ = cc in no)
-    at false right is file e = absurd (let no : ⊥ = cc in no)
+    at : (upset from save : Bool) → bytes_eq option (codes "--upset") ≡ upset → bytes_eq option (codes "--from") ≡ from → bytes_eq option (codes "--save") ≡ save
+        → (if upset then Some whole.Upsets else if from then Some whole.From else if save then Some whole.Save else None) ≡ Some kind → option ≡ run_file_option kind
+    at true from save is other last e = run_kind_as option whole.Upsets kind (named option (codes "--upset") is) e
+    at false true save is other last e = run_kind_as option whole.From kind (named option (codes "--from") other) e
+    at false false true is other last e = run_kind_as option whole.Save kind (named option (codes "--save") last) e
+    at false false false is other last e = absurd (let no : ⊥ = cc in no)
+
+-- the option of a kind, by whether the word names a file
+abbrev option_named : Option RunKind → Bool → List ℕ → Option RunOption
+option_named None there file = None
+option_named (Some kind) there file = asked there (ForRun kind file)
+
+-- which it is
+named_whole : (kind : Option RunKind) (word : List ℕ) → option_named kind (is_file word) word ≡ option_whole kind word
+named_whole None word = refl
+named_whole (Some kind) word = refl
+
+-- an option with a file for the whole run
+whole_typed : (option word : List ℕ) (made : RunOption) → option_whole (run_kind_of option) word ≡ Some made → TypedOption option word made
+whole_typed option word made e = at (run_kind_of option) (is_file word) refl refl (named_whole (run_kind_of option) word ∙ e)
+  where
+    at : (kind : Option RunKind) (there : Bool) → run_kind_of option ≡ kind → is_file word ≡ there → option_named kind there word ≡ Some made → TypedOption option word made
+    at (Some kind) true is stands e =
+        let option_is : option ≡ run_file_option kind = run_kind_typed option kind is in
+        option_as option word (ForRun kind word) made (record { words = cc; right = file_is word stands }) e
+    at (Some kind) false is stands e = absurd (let no : ⊥ = cc in no)
+    at None there is stands e = absurd (let no : ⊥ = cc in no)
 
 -- an option of a run
 option_typed : (option word : List ℕ) (made : RunOption) → run_option_of option word ≡ Some made → TypedOption option word made
 unfolding run_option_of
-option_typed option word made e = at (span_of option word) (option_upsets option word) (kind_of option) (part_file_of word) refl refl refl refl e
+option_typed option word made e = at (span_of option word) (option_whole (run_kind_of option) word) (kind_of option) (part_file_of word) refl refl refl refl e
   where
-    at : (span : Option Span) (upsets : Option RunOption) (kind : Option FileKind) (file : Option PartFile)
-        → span_of option word ≡ span → option_upsets option word ≡ upsets → kind_of option ≡ kind → part_file_of word ≡ file
-        → option_by span (option_or upsets (option_for kind file)) ≡ Some made → TypedOption option word made
-    at (Some span) upsets kind file measured struck is found e =
+    at : (span : Option Span) (for_run : Option RunOption) (kind : Option FileKind) (file : Option PartFile)
+        → span_of option word ≡ span → option_whole (run_kind_of option) word ≡ for_run → kind_of option ≡ kind → part_file_of word ≡ file
+        → option_by span (option_or for_run (option_for kind file)) ≡ Some made → TypedOption option word made
+    at (Some span) for_run kind file measured named is found e =
         let typed = span_typed option word span measured in
         let option_is : option ≡ option_of span = typed.option_is in
         let number_is : word ≡ decimal (count_of span) = typed.number_is in
         option_as option word (Length span) made (record { words = cc; right = typed.small }) e
-    at None (Some upsets) kind file measured struck is found e = option_as option word upsets made (upsets_typed option word upsets struck) e
-    at None None (Some kind) (Some file) measured struck is found e =
+    at None (Some for_run) kind file measured named is found e = option_as option word for_run made (whole_typed option word for_run named) e
+    at None None (Some kind) (Some file) measured named is found e =
         let typed = word_named word file found in
         let option_is : option ≡ file_option_of kind = kind_typed option kind is in
         let word_is : word ≡ part_word file = typed.1 in
         option_as option word (ForPart kind file) made (record { words = cc; right = typed.0 }) e
-    at None None (Some kind) None measured struck is found e = absurd (let no : ⊥ = cc in no)
-    at None None None file measured struck is found e = absurd (let no : ⊥ = cc in no)
+    at None None (Some kind) None measured named is found e = absurd (let no : ⊥ = cc in no)
+    at None None None file measured named is found e = absurd (let no : ⊥ = cc in no)
 
 -- words that are options are typed so
 options_typed : (words : List (List ℕ)) → are_options words ≡ true → (words ≡ flat_map option_words (run_options words)) × All IsRunOption (run_options words)
@@ -125,15 +151,74 @@ apart_kinds options apart =
     (and_from (are_apart (inputs_in options)) (are_apart (cores_in options)) (pairs_apart (inputs_in options) (apart Input)) (pairs_apart (cores_in options) (apart Core)))
     (pairs_apart (scripts_in options) (apart Script))
 
+-- options that name one file of each kind for the whole run at most
+single_each : (options : List RunOption) → are_single options ≡ true → (kind : RunKind) → length (run_files_in kind options) ≤ 1
+single_each options single kind =
+    let all = and_parts (is_single whole.Upsets options && is_single whole.From options) (is_single whole.Save options) single in
+    let two = and_parts (is_single whole.Upsets options) (is_single whole.From options) all.0 in
+    of two.0 two.1 all.1 kind
+  where
+    of : is_single whole.Upsets options ≡ true → is_single whole.From options ≡ true → is_single whole.Save options ≡ true → (kind : RunKind) → length (run_files_in kind options) ≤ 1
+    of upsets from save whole.Upsets = leb-true _ 1 upsets
+    of upsets from save whole.From = leb-true _ 1 from
+    of upsets from save whole.Save = leb-true _ 1 save
+
+-- and the test of such options
+each_single : (options : List RunOption) → ((kind : RunKind) → length (run_files_in kind options) ≤ 1) → are_single options ≡ true
+each_single options single =
+    and_from (is_single whole.Upsets options && is_single whole.From options) (is_single whole.Save options)
+    (and_from (is_single whole.Upsets options) (is_single whole.From options) (le-leb _ 1 (single whole.Upsets)) (le-leb _ 1 (single whole.From)))
+    (le-leb _ 1 (single whole.Save))
+
+-- a list without an element is empty
+none_in : {X : Type 0} (xs : List X) → nat_eq (length xs) 0 ≡ true → xs ≡ []
+none_in [] none = refl
+none_in (x ∷ xs) none = (let zero = eqb-true (length (x ∷ xs)) 0 none in absurd (omega (arith, zero)))
+
+-- what one of two tests is enough for
+either_true : (t : Bool) → (t || true) ≡ true
+either_true true = refl
+either_true false = refl
+
+-- a run that begins in one way, by its files
+once : {X Y Z : Type 0} (from : List X) (inputs : List Y) (scripts : List Z) → (nat_eq (length from) 0 || (nat_eq (length inputs) 0 && nat_eq (length scripts) 0)) ≡ true
+    → (from ≡ []) ⊎ ((inputs ≡ []) × (scripts ≡ []))
+once from inputs scripts test = at (nat_eq (length from) 0) refl test
+  where
+    at : (t : Bool) → nat_eq (length from) 0 ≡ t → (t || (nat_eq (length inputs) 0 && nat_eq (length scripts) 0)) ≡ true → (from ≡ []) ⊎ ((inputs ≡ []) × (scripts ≡ []))
+    at true none test = inl (none_in from none)
+    at false some test = (let both = and_parts (nat_eq (length inputs) 0) (nat_eq (length scripts) 0) test in inr (none_in inputs both.0, none_in scripts both.1))
+
+-- and its test
+once_tested : {X Y Z : Type 0} (from : List X) (inputs : List Y) (scripts : List Z) → (from ≡ []) ⊎ ((inputs ≡ []) × (scripts ≡ []))
+    → (nat_eq (length from) 0 || (nat_eq (length inputs) 0 && nat_eq (length scripts) 0)) ≡ true
+once_tested from inputs scripts (inl none) = rw (eq-eqb (length from) 0 (ap length none)) refl
+once_tested from inputs scripts (inr both) =
+    rw (and_from (nat_eq (length inputs) 0) (nat_eq (length scripts) 0) (eq-eqb (length inputs) 0 (ap length both.0)) (eq-eqb (length scripts) 0 (ap length both.1)))
+    (either_true (nat_eq (length from) 0))
+
+-- a run that begins in one way
+begun_once : (options : List RunOption) → begins_once options ≡ true → (run_files_in whole.From options ≡ []) ⊎ ((inputs_in options ≡ []) × (scripts_in options ≡ []))
+begun_once options test = once (run_files_in whole.From options) (inputs_in options) (scripts_in options) test
+
 -- words that are the options of a run are typed so
 pub run_options_typed : (words : List (List ℕ)) → are_run_options words ≡ true → (words ≡ flat_map option_words (run_options words)) × AreRunOptions (run_options words)
 unfolding are_run_options
 run_options_typed words are =
-    let tests = and_parts (are_options words && nat_eq (length (spans_in (run_options words))) 1 && nat_le (length (upset_files_in (run_options words))) 1) (are_kinds_apart (run_options words)) are in
-    let upsets = and_parts (are_options words && nat_eq (length (spans_in (run_options words))) 1) (nat_le (length (upset_files_in (run_options words))) 1) tests.0 in
-    let front = and_parts (are_options words) (nat_eq (length (spans_in (run_options words))) 1) upsets.0 in
-    let each = options_typed words front.0 in
-    (each.0, record { each = each.1; spanned = eqb-true _ 1 front.1; struck = leb-true _ 1 upsets.1; apart = kinds_apart (run_options words) tests.1 })
+    let begun = and_parts (are_options words && nat_eq (length (spans_in (run_options words))) 1 && are_single (run_options words) && are_kinds_apart (run_options words)) (begins_once (run_options words)) are in
+    let apart = and_parts (are_options words && nat_eq (length (spans_in (run_options words))) 1 && are_single (run_options words)) (are_kinds_apart (run_options words)) begun.0 in
+    let single = and_parts (are_options words && nat_eq (length (spans_in (run_options words))) 1) (are_single (run_options words)) apart.0 in
+    let front = and_parts (are_options words) (nat_eq (length (spans_in (run_options words))) 1) single.0 in
+    let each = options_typed words front.0 in (
+      each.0,
+      record {
+        each = each.1;
+        spanned = eqb-true _ 1 front.1;
+        single = single_each (run_options words) single.1;
+        apart = kinds_apart (run_options words) apart.1;
+        begun = begun_once (run_options words) begun.1;
+      },
+    )
 
 -- what is typed for the length of a run determines it
 reads_span : (span : Span) → count_of span ≤ TICKS → span_of (option_of span) (decimal (count_of span)) ≡ Some span
@@ -143,15 +228,17 @@ reads_span (Ticks count) small = rw (text_ticks (decimal count) count small refl
 
 -- what is typed for a file for a partition is so read
 reads_file : (kind : FileKind) (file : PartFile) → IsRunOption (ForPart kind file) → run_option_of (file_option_of kind) (part_word file) ≡ Some (ForPart kind file)
-unfolding run_option_of span_of option_upsets kind_of
+unfolding run_option_of span_of run_kind_of kind_of
 reads_file Input file right = rw (named_word file right) refl
 reads_file Core file right = rw (named_word file right) refl
 reads_file Script file right = rw (named_word file right) refl
 
--- what is typed for a file of upsets is so read
-reads_upsets : (file : List ℕ) → IsFileName file → run_option_of (codes "--upset") file ≡ Some (Upsets file)
-unfolding run_option_of span_of option_upsets
-reads_upsets file right = rw (is_of_file file right) refl
+-- what is typed for a file for the whole run is so read
+reads_whole : (kind : RunKind) (file : List ℕ) → IsFileName file → run_option_of (run_file_option kind) file ≡ Some (ForRun kind file)
+unfolding run_option_of span_of run_kind_of
+reads_whole whole.Upsets file right = rw (is_of_file file right) refl
+reads_whole whole.From file right = rw (is_of_file file right) refl
+reads_whole whole.Save file right = rw (is_of_file file right) refl
 
 -- what is typed for a length is so read
 reads_length : (span : Span) → count_of span ≤ TICKS → run_option_of (option_of span) (decimal (count_of span)) ≡ Some (Length span)
@@ -161,23 +248,27 @@ reads_length span small = rw (reads_span span small) refl
 -- what is typed for an option is so read, before other words
 reads_option : (made : RunOption) (words : List (List ℕ)) → IsRunOption made → (run_options (option_words made ++ words) ≡ made ∷ run_options words) × (are_options (option_words made ++ words) ≡ are_options words)
 reads_option (Length span) words right = rw (reads_length span right) (refl, refl)
-reads_option (Upsets file) words right = rw (reads_upsets file right) (refl, refl)
+reads_option (ForRun kind file) words right = rw (reads_whole kind file right) (refl, refl)
 reads_option (ForPart kind file) words right = rw (reads_file kind file right) (refl, refl)
 
 -- what is typed for options is so read
 reads_options : (options : List RunOption) → All IsRunOption options → (run_options (flat_map option_words options) ≡ options) × (are_options (flat_map option_words options) ≡ true)
 reads_options options right = reads_pairs run_option_of option_words IsRunOption reads_option options right
 
+-- words that are read as options that are right pass the test of such words
+are_tested : (words : List (List ℕ)) (options : List RunOption) → run_options words ≡ options → are_options words ≡ true → AreRunOptions options → are_run_options words ≡ true
+unfolding are_run_options
+are_tested words options read are right =
+    and_from (are_options words && nat_eq (length (spans_in (run_options words))) 1 && are_single (run_options words) && are_kinds_apart (run_options words)) (begins_once (run_options words))
+    (and_from (are_options words && nat_eq (length (spans_in (run_options words))) 1 && are_single (run_options words)) (are_kinds_apart (run_options words))
+    (and_from (are_options words && nat_eq (length (spans_in (run_options words))) 1) (are_single (run_options words))
+    (and_from (are_options words) (nat_eq (length (spans_in (run_options words))) 1) are (eq-eqb (length (spans_in (run_options words))) 1 (ap (λ made. length (spans_in made)) read ∙ right.spanned)))
+    (ap are_single read ∙ each_single options right.single))
+    (ap are_kinds_apart read ∙ apart_kinds options right.apart))
+    (ap begins_once read ∙ once_tested (run_files_in whole.From options) (inputs_in options) (scripts_in options) right.begun)
+
 -- what is typed for the options of a run is so read
 pub reads_run_options : (options : List RunOption) → AreRunOptions options → (run_options (flat_map option_words options) ≡ options) × (are_run_options (flat_map option_words options) ≡ true)
-unfolding are_run_options
 reads_run_options options right =
-    let read = reads_options options right.each in (
-      read.0,
-      and_from (are_options (flat_map option_words options) && nat_eq (length (spans_in (run_options (flat_map option_words options)))) 1 && nat_le (length (upset_files_in (run_options (flat_map option_words options)))) 1) (are_kinds_apart (run_options (flat_map option_words options)))
-          (and_from (are_options (flat_map option_words options) && nat_eq (length (spans_in (run_options (flat_map option_words options)))) 1) (nat_le (length (upset_files_in (run_options (flat_map option_words options)))) 1)
-          (and_from (are_options (flat_map option_words options)) (nat_eq (length (spans_in (run_options (flat_map option_words options)))) 1) read.1
-          (eq-eqb (length (spans_in (run_options (flat_map option_words options)))) 1 (ap (λ made. length (spans_in made)) read.0 ∙ right.spanned)))
-          (ap (λ made. nat_le (length (upset_files_in made)) 1) read.0 ∙ le-leb (length (upset_files_in options)) 1 right.struck))
-          (ap are_kinds_apart read.0 ∙ apart_kinds options right.apart),
-    )
+    let read = reads_options options right.each in
+    (read.0, are_tested (flat_map option_words options) options read.0 read.1 right)

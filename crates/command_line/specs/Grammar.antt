@@ -1,5 +1,5 @@
 -- The grammar in the words of its users: what is to be typed for each command.
-use Rattle.std.specs.Prelude.{◌≡◌, ◌≢◌, ℕ, ◌<◌, ◌≤◌, ◌↔◌, List, [], ◌∷◌, ◌++◌, length, map, codes, decimal, All, AllPairs, Some}
+use Rattle.std.specs.Prelude.{◌≡◌, ◌≢◌, ◌⊎◌, ℕ, ◌<◌, ◌≤◌, ◌↔◌, List, [], ◌∷◌, ◌++◌, length, map, codes, decimal, All, AllPairs, Some}
 use Rattle.std.specs.List.{flat_map}
 use Rattle.xm_base.specs.declared.limits.TheConstants.{TICKS}
 use Rattle.command_line.specs.declared.commands.Span.{Span}
@@ -8,7 +8,9 @@ use Rattle.command_line.specs.declared.replay_options.ReplayKind.{ReplayKind}
 use Rattle.command_line.specs.declared.replay_options.ReplayKind.TheVariants as replay
 use Rattle.command_line.specs.declared.run_options.FileKind.{FileKind}
 use Rattle.command_line.specs.declared.run_options.FileKind.TheVariants.{Core, Input, Script}
-use Rattle.command_line.specs.Words.{Command, PartFile, ReplayFile, RunOption, Bare, Parse, Upgrade, BuildImage, ReadImage, Pack, ListContainer, CheckContainer, MakePlan, CheckPlan, ListGroups, ListSteerers, Generate, Run, Replay, Length, Upsets, ForPart, command_of, files_in, replay_files_in, spans_in, ticks_of, upset_files_in}
+use Rattle.command_line.specs.declared.run_options.RunKind.{RunKind}
+use Rattle.command_line.specs.declared.run_options.RunKind.TheVariants as whole
+use Rattle.command_line.specs.Words.{Command, PartFile, ReplayFile, RunOption, Bare, Parse, Upgrade, BuildImage, ReadImage, Pack, ListContainer, CheckContainer, MakePlan, CheckPlan, ListGroups, ListSteerers, Generate, Run, Replay, Length, ForRun, ForPart, command_of, files_in, inputs_in, replay_files_in, run_files_in, scripts_in, spans_in, ticks_of}
 
 -- a word is this many ticks where it is their number in decimal, and they are not above the limit
 abbrev pub TicksAreDecimal : Type 0
@@ -39,10 +41,16 @@ file_option_of Input = codes "--input"
 file_option_of Core = codes "--core"
 file_option_of Script = codes "--script"
 
+-- the option that is typed for a file for the whole run
+abbrev pub run_file_option : RunKind → List ℕ
+run_file_option whole.Upsets = codes "--upset"
+run_file_option whole.From = codes "--from"
+run_file_option whole.Save = codes "--save"
+
 -- what is typed for an option of a run
 abbrev pub option_words : RunOption → List (List ℕ)
 option_words (Length span) = option_of span ∷ decimal (count_of span) ∷ []
-option_words (Upsets file) = codes "--upset" ∷ file ∷ []
+option_words (ForRun kind file) = run_file_option kind ∷ file ∷ []
 option_words (ForPart kind file) = file_option_of kind ∷ part_word file ∷ []
 
 -- the option that is typed for a file of a replay
@@ -87,18 +95,20 @@ pub record ArePartFiles (files : List PartFile) : Type 0 where
   pub each : All IsPartFile files
   pub apart : HaveOneFileEach files
 
--- an option of a run: a length not above the limit, a file of upsets, or a file for a partition
+-- an option of a run: a length not above the limit, a file for the whole run, or a file for a partition
 abbrev pub IsRunOption : RunOption → Type 0
 IsRunOption (Length span) = count_of span ≤ TICKS
-IsRunOption (Upsets file) = IsFileName file
+IsRunOption (ForRun kind file) = IsFileName file
 IsRunOption (ForPart kind file) = IsPartFile file
 
--- options of a run: each is one, one says how long the run is, one at most names a file of upsets, and no partition has two files of one kind
+-- options of a run: each is one, one says how long the run is, one at most names a file of each kind for the whole run, no partition has two files of one
+-- kind, and a run that goes on from a saved machine has no input words and no scripts
 pub record AreRunOptions (options : List RunOption) : Type 0 where
   pub each : All IsRunOption options
   pub spanned : length (spans_in options) ≡ 1
-  pub struck : length (upset_files_in options) ≤ 1
+  pub single : (kind : RunKind) → length (run_files_in kind options) ≤ 1
   pub apart : (kind : FileKind) → HaveOneFileEach (files_in kind options)
+  pub begun : (run_files_in whole.From options ≡ []) ⊎ ((inputs_in options ≡ []) × (scripts_in options ≡ []))
 
 -- an option of a replay names a file
 abbrev pub IsReplayOption : ReplayFile → Type 0

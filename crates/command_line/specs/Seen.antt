@@ -1,7 +1,7 @@
 -- What the program's commands say.
 use Rattle.std.specs.Prelude.{ℕ, List, Option, Some, None}
 use Rattle.command_line.specs.Texts.{texts_of}
-use Rattle.command_line.specs.Words.{Command, PartFile, ReplayFile, RunOption, Bare, Parse, Upgrade, BuildImage, ReadImage, Pack, ListContainer, CheckContainer, MakePlan, CheckPlan, ListGroups, ListSteerers, Generate, Run, Replay, Length, Upsets, ForPart, files_in, part_files, replay_options, run_options}
+use Rattle.command_line.specs.Words.{Command, PartFile, ReplayFile, RunOption, Bare, Parse, Upgrade, BuildImage, ReadImage, Pack, ListContainer, CheckContainer, MakePlan, CheckPlan, ListGroups, ListSteerers, Generate, Run, Replay, Length, ForRun, ForPart, files_in, part_files, replay_options, run_options}
 use Rattle.command_line.specs.declared.commands.Command as code
 use Rattle.command_line.specs.declared.commands.Command.TheVariants as variant
 use Rattle.command_line.specs.declared.part_files.PartFile as file
@@ -29,7 +29,7 @@ seen_files named = files_by named.option (texts_of named.words.now)
 -- what an option of a run says
 abbrev pub seen_option : option.RunOption → RunOption
 seen_option (options.Length span) = Length span
-seen_option (options.Upsets file) = Upsets file.now
+seen_option (options.ForRun kind file) = ForRun kind file.now
 seen_option (options.ForPart kind file) = ForPart kind (seen_file file)
 
 -- what the options of a run say

@@ -10,16 +10,18 @@ use Rattle.command_line.specs.declared.replay_options.ReplayKind.{ReplayKind}
 use Rattle.command_line.specs.declared.replay_options.ReplayKind.TheVariants as replay
 use Rattle.command_line.specs.declared.run_options.FileKind.{FileKind}
 use Rattle.command_line.specs.declared.run_options.FileKind.TheVariants.{Core, Input, Script}
+use Rattle.command_line.specs.declared.run_options.RunKind.{RunKind}
+use Rattle.command_line.specs.declared.run_options.RunKind.TheVariants as whole
 
 -- a file for a partition
 pub record PartFile : Type 0 where
   pub part : ℕ
   pub file : List ℕ
 
--- an option of a run: how long it is; a file of upsets; a file for a partition, and what it is there
+-- an option of a run: how long it is; a file for the whole run, and what it is there; a file for a partition, and what it is there
 pub data RunOption : Type 0 where
   Length : (span : Span) → RunOption
-  Upsets : (file : List ℕ) → RunOption
+  ForRun : (kind : RunKind) (file : List ℕ) → RunOption
   ForPart : (kind : FileKind) (file : PartFile) → RunOption
 
 -- a file that an option of a replay names, and what it is there
@@ -159,9 +161,18 @@ option_for None file = None
 option_for (Some kind) None = None
 option_for (Some kind) (Some file) = Some (ForPart kind file)
 
--- an option with a file of upsets, where its word names a file
-unfoldable pub option_upsets : List ℕ → List ℕ → Option RunOption
-option_upsets option file = if bytes_eq option (codes "--upset") then asked (is_file file) (Upsets file) else None
+-- what a file is to a whole run, by its option: its upsets, the saved machine that it goes on from, or the file that its machine is saved to
+unfoldable pub run_kind_of : List ℕ → Option RunKind
+run_kind_of option =
+    if bytes_eq option (codes "--upset") then Some whole.Upsets
+    else if bytes_eq option (codes "--from") then Some whole.From
+    else if bytes_eq option (codes "--save") then Some whole.Save
+    else None
+
+-- an option with a file for the whole run, where there is a kind and the word names a file
+abbrev pub option_whole : Option RunKind → List ℕ → Option RunOption
+option_whole None file = None
+option_whole (Some kind) file = asked (is_file file) (ForRun kind file)
 
 -- the first of two options, where it is there
 abbrev pub option_or : Option RunOption → Option RunOption → Option RunOption
@@ -175,7 +186,7 @@ option_by None other = other
 
 -- the option of a run that two words spell
 unfoldable pub run_option_of : List ℕ → List ℕ → Option RunOption
-run_option_of option word = option_by (span_of option word) (option_or (option_upsets option word) (option_for (kind_of option) (part_file_of word)))
+run_option_of option word = option_by (span_of option word) (option_or (option_whole (run_kind_of option) word) (option_for (kind_of option) (part_file_of word)))
 
 -- the options that words spell, two words each, up to the first two that spell none
 abbrev pub options_by : {X : Type 0} → (List ℕ → List ℕ → Option X) → List (List ℕ) → List X
@@ -200,7 +211,7 @@ are_options words = are_options_by run_option_of words
 -- how long a run is by an option, where it says so
 abbrev pub span_by : RunOption → Option Span
 span_by (Length span) = Some span
-span_by (Upsets file) = None
+span_by (ForRun kind file) = None
 span_by (ForPart kind file) = None
 
 -- all that options say of how long a run is
@@ -225,7 +236,7 @@ kind_place Script = 2
 -- the file of a kind for a partition that an option names
 abbrev pub file_by : FileKind → RunOption → Option PartFile
 file_by kind (Length span) = None
-file_by kind (Upsets file) = None
+file_by kind (ForRun other file) = None
 file_by kind (ForPart other file) = asked (kind_place other == kind_place kind) file
 
 -- the files of a kind for partitions that options name, in their order
@@ -244,15 +255,21 @@ cores_in options = files_in Core options
 abbrev pub scripts_in : List RunOption → List PartFile
 scripts_in options = files_in Script options
 
--- the file of upsets, by an option that names one
-abbrev pub upsets_by : RunOption → Option (List ℕ)
-upsets_by (Length span) = None
-upsets_by (Upsets file) = Some file
-upsets_by (ForPart kind file) = None
+-- the place of a kind among all kinds of files for a whole run
+abbrev pub run_place : RunKind → ℕ
+run_place whole.Upsets = 0
+run_place whole.From = 1
+run_place whole.Save = 2
 
--- all files of upsets that options name; no run has two
-abbrev pub upset_files_in : List RunOption → List (List ℕ)
-upset_files_in options = filter_map upsets_by options
+-- the file of a kind for the whole run that an option names
+abbrev pub run_file_by : RunKind → RunOption → Option (List ℕ)
+run_file_by kind (Length span) = None
+run_file_by kind (ForRun other file) = asked (run_place other == run_place kind) file
+run_file_by kind (ForPart other file) = None
+
+-- all files of a kind for the whole run that options name; no run has two
+abbrev pub run_files_in : RunKind → List RunOption → List (List ℕ)
+run_files_in kind options = filter_map (run_file_by kind) options
 
 -- the first of some files, where there is one
 abbrev pub first_file : List (List ℕ) → Option (List ℕ)
@@ -261,17 +278,38 @@ first_file (file ∷ files) = Some file
 
 -- the file of upsets of a run with these options, where there is one
 abbrev pub upsets_in : List RunOption → Option (List ℕ)
-upsets_in options = first_file (upset_files_in options)
+upsets_in options = first_file (run_files_in whole.Upsets options)
+
+-- the saved machine that a run with these options goes on from, where there is one
+abbrev pub from_in : List RunOption → Option (List ℕ)
+from_in options = first_file (run_files_in whole.From options)
+
+-- the file that the machine after such a run is saved to, where there is one
+abbrev pub save_in : List RunOption → Option (List ℕ)
+save_in options = first_file (run_files_in whole.Save options)
+
+-- whether options name one file of a kind for the whole run at most
+abbrev pub is_single : RunKind → List RunOption → Bool
+is_single kind options = nat_le (length (run_files_in kind options)) 1
+
+-- whether they name one of each kind at most
+abbrev pub are_single : List RunOption → Bool
+are_single options = is_single whole.Upsets options && is_single whole.From options && is_single whole.Save options
+
+-- whether a run begins in one way: one that goes on from a saved machine has no input words and no scripts, which are of a run from the boot on
+abbrev pub begins_once : List RunOption → Bool
+begins_once options =
+    nat_eq (length (run_files_in whole.From options)) 0 || (nat_eq (length (inputs_in options)) 0 && nat_eq (length (scripts_in options)) 0)
 
 -- whether each partition has one file of each kind at most
 abbrev pub are_kinds_apart : List RunOption → Bool
 are_kinds_apart options = are_apart (inputs_in options) && are_apart (cores_in options) && are_apart (scripts_in options)
 
--- whether words are options of a run: each is one, one says how long the run is, one at most names a file of upsets, and each partition has one file of each
--- kind at most
+-- whether words are options of a run: each is one, one says how long the run is, one at most names a file of each kind for the whole run, each partition has
+-- one file of each kind at most, and the run begins in one way
 unfoldable pub are_run_options : List (List ℕ) → Bool
-are_run_options words = are_options words && nat_eq (length (spans_in (run_options words))) 1 && nat_le (length (upset_files_in (run_options words))) 1
-    && are_kinds_apart (run_options words)
+are_run_options words = are_options words && nat_eq (length (spans_in (run_options words))) 1 && are_single (run_options words)
+    && are_kinds_apart (run_options words) && begins_once (run_options words)
 
 -- a run of a container with options
 abbrev pub run_of : List ℕ → List (List ℕ) → Option Command

@@ -7,7 +7,8 @@ pub fn grammar()
     // Law: a word says a number of ticks exactly where it is that number in decimal, and not above the limit.
     ensures ticks { TicksAreDecimal }
     // Law: words are a command exactly where they are its command line, what they name is a file, files for partitions
-    // are one at most of each kind for each of the numbers up to 31, a run has one length and one file of upsets at
-    // most, a replay one file of each kind at most, and both have their options in any order.
+    // are one at most of each kind for each of the numbers up to 31, a run has one length, one file at most of upsets,
+    // one saved machine at most that it goes on from, then without input words and scripts, and one file at most that
+    // its machine is saved to, a replay one file of each kind at most, and both have their options in any order.
     ensures commands { CommandsAreSpelled }
 {}

@@ -15,5 +15,5 @@ pub use law::grammar;
 pub use part_files::{PartFile, PartFiles};
 pub use reading::command;
 pub use replay_options::{ReplayFile, ReplayKind, ReplayOptions};
-pub use run_options::{FileKind, RunOption, RunOptions};
+pub use run_options::{FileKind, RunKind, RunOption, RunOptions};
 pub use words::Words;

@@ -1,6 +1,6 @@
 //! Files for partitions, as words name them.
 
-ghost use Rattle.std.specs.Prelude.{◌≡◌, ◌∷◌, [], MatchOption, None, false, true};
+ghost use Rattle.std.specs.Prelude.{◌≡◌, ◌∷◌, [], MatchOption, None, false, length, nat_eq, true};
 ghost use Rattle.command_line.specs.Seen.{seen_file, seen_files};
 ghost use Rattle.command_line.specs.lemmas.SeenTerms.{seen_part_file};
 ghost use Rattle.command_line.specs.Texts.{texts_of};
@@ -75,6 +75,13 @@ impl<'a> PartFiles<'a> {
             None => first_of_words(self.words)?,
         };
         Some((first, PartFiles { words, ..self }))
+    }
+
+    // Whether there is no file.
+    pub(crate) fn is_empty(self) -> bool
+        ensures value { result ≡ nat_eq (length (seen_files self.entry)) 0 }
+    {
+        self.split_first().is_none()
     }
 
     // Whether there is a file for the partition.

@@ -1,10 +1,10 @@
 //! The options of a run, as words name them.
 
-ghost use Rattle.std.specs.Prelude.{◌≡◌, ◌∷◌, [], MatchOption, false, length, nat_eq, nat_le, option_copied, true};
+ghost use Rattle.std.specs.Prelude.{◌≡◌, ◌∷◌, [], MatchOption, false, length, nat_eq, option_copied, true};
 ghost use Rattle.command_line.specs.Seen.{seen_file, seen_files, seen_option, seen_options};
 ghost use Rattle.command_line.specs.lemmas.SeenTerms.{seen_part_file, seen_run_option};
 ghost use Rattle.command_line.specs.Texts.{texts_of};
-ghost use Rattle.command_line.specs.Words.{are_kinds_apart, are_options, are_run_options, cores_in, file_by, files_in, inputs_in, kind_of, option_for, option_upsets, part_file_of, kind_place, run_option_of, run_options, scripts_in, span_in, span_of, spans_in, upset_files_in, upsets_in};
+ghost use Rattle.command_line.specs.Words.{are_kinds_apart, are_options, are_run_options, are_single, begins_once, cores_in, file_by, files_in, first_file, from_in, inputs_in, is_single, kind_of, kind_place, option_for, option_whole, part_file_of, run_file_by, run_files_in, run_kind_of, run_option_of, run_options, run_place, save_in, scripts_in, span_in, span_of, spans_in, upsets_in};
 
 use crate::commands::Span;
 use crate::numbers::{frames, ticks};
@@ -35,13 +35,37 @@ impl FileKind {
     }
 }
 
+/// What a file is to a whole run.
+#[derive(Clone, Copy, Debug, PartialEq, Eq)]
+pub enum RunKind {
+    /// The upsets that strike.
+    Upsets,
+    /// The saved machine that the run goes on from.
+    From,
+    /// Where the machine after the run is saved.
+    Save,
+}
+
+impl RunKind {
+    // Its place among all kinds.
+    fn place(self) -> u8
+        ensures value { result ≡ run_place self }
+    {
+        match self {
+            RunKind::Upsets => 0,
+            RunKind::From => 1,
+            RunKind::Save => 2,
+        }
+    }
+}
+
 /// An option of a run.
 #[derive(Clone, Copy, Debug, PartialEq, Eq)]
 pub enum RunOption<'a> {
     /// How long the run is.
     Length(Span),
-    /// The file of the upsets that strike.
-    Upsets(&'a str),
+    /// A file for the whole run.
+    ForRun(RunKind, &'a str),
     /// A file for a partition.
     ForPart(FileKind, PartFile<'a>),
 }
@@ -53,7 +77,7 @@ impl<'a> RunOption<'a> {
     {
         match self {
             RunOption::Length(_) => None,
-            RunOption::Upsets(_) => None,
+            RunOption::ForRun(_, _) => None,
             RunOption::ForPart(other, file) => {
                 if other.place() == kind.place() {
                     Some(file)
@@ -63,9 +87,27 @@ impl<'a> RunOption<'a> {
             }
         }
     }
+
+    // The file for the whole run, where the option names one of this kind.
+    fn run_file(self, kind: RunKind) -> Option<&'a str>
+        ensures value { option_copied result ≡ run_file_by kind (seen_option self.entry) }
+    {
+        match self {
+            RunOption::Length(_) => None,
+            RunOption::ForRun(other, file) => {
+                if other.place() == kind.place() {
+                    Some(file)
+                } else {
+                    None
+                }
+            }
+            RunOption::ForPart(_, _) => None,
+        }
+    }
 }
 
-/// The options of a run in the order of their words: one length, at most one file of upsets, and at most one file of each kind for each partition.
+/// The options of a run in the order of their words: one length, at most one file of each kind for the whole run, and at most one file of each kind for each
+/// partition; no input words and no scripts where the run goes on from a saved machine.
 #[derive(Clone, Copy, Debug, PartialEq, Eq)]
 pub struct RunOptions<'a> {
     words: &'a [String],
@@ -81,8 +123,9 @@ impl<'a> RunOptions<'a> {
         let options = RunOptions { words };
         if are_options(words)
             && options.has_one_span()
-            && options.has_few_upsets()
+            && options.are_single()
             && options.are_kinds_apart()
+            && options.begins_once()
         {
             Some(options)
         } else {
@@ -106,10 +149,23 @@ impl<'a> RunOptions<'a> {
         // The file of upsets that a run names, where it names one.
         ensures value { option_copied result ≡ upsets_in (seen_options self.entry) }
     {
-        match self.split_first_upsets() {
-            Some((file, _)) => Some(file),
-            None => None,
-        }
+        self.first_file(RunKind::Upsets)
+    }
+
+    /// The saved machine that the run goes on from, where there is one.
+    pub fn from(self) -> Option<&'a str>
+        // The file of the saved machine that a run goes on from, where it names one.
+        ensures value { option_copied result ≡ from_in (seen_options self.entry) }
+    {
+        self.first_file(RunKind::From)
+    }
+
+    /// Where the machine after the run is saved, if it is.
+    pub fn save(self) -> Option<&'a str>
+        // The file that the machine after a run is saved to, where it names one.
+        ensures value { option_copied result ≡ save_in (seen_options self.entry) }
+    {
+        self.first_file(RunKind::Save)
     }
 
     /// The inputs of partitions in the order of their words.
@@ -163,19 +219,29 @@ impl<'a> RunOptions<'a> {
         None
     }
 
-    // The first file of upsets and the options after it, or `None` where no option names one.
-    fn split_first_upsets(self) -> Option<(&'a str, RunOptions<'a>)>
-        ensures value { MatchOption result (upset_files_in (seen_options self.entry) ≡ [])
-            (λ (file, others). upset_files_in (seen_options self.entry) ≡ file.now ∷ upset_files_in (seen_options others)) }
+    // The first file of this kind for the whole run and the options after it, or `None` where no option names one.
+    fn split_first_of(self, kind: RunKind) -> Option<(&'a str, RunOptions<'a>)>
+        ensures value { MatchOption result (run_files_in kind (seen_options self.entry) ≡ [])
+            (λ (file, others). run_files_in kind (seen_options self.entry) ≡ file.now ∷ run_files_in kind (seen_options others)) }
     {
         let mut rest = self;
         while let Some((first, others)) = rest.split_first() {
-            if let RunOption::Upsets(file) = first {
+            if let Some(file) = first.run_file(kind) {
                 return Some((file, others));
             }
             rest = others;
         }
         None
+    }
+
+    // The first file of this kind for the whole run, where an option names one.
+    fn first_file(self, kind: RunKind) -> Option<&'a str>
+        ensures value { option_copied result ≡ first_file (run_files_in kind (seen_options self.entry)) }
+    {
+        match self.split_first_of(kind) {
+            Some((file, _)) => Some(file),
+            None => None,
+        }
     }
 
     // Whether exactly one option says how long the run is.
@@ -188,14 +254,37 @@ impl<'a> RunOptions<'a> {
         }
     }
 
-    // Whether one option at most names a file of upsets.
-    fn has_few_upsets(self) -> bool
-        ensures value { result ≡ nat_le (length (upset_files_in (seen_options self.entry))) 1 }
+    // Whether one option at most names a file of this kind for the whole run.
+    fn is_single(self, kind: RunKind) -> bool
+        ensures value { result ≡ is_single kind (seen_options self.entry) }
     {
-        match self.split_first_upsets() {
-            Some((_, others)) => others.split_first_upsets().is_none(),
+        match self.split_first_of(kind) {
+            Some((_, others)) => others.split_first_of(kind).is_none(),
             None => true,
         }
+    }
+
+    // Whether one option at most names a file of each kind for the whole run.
+    fn are_single(self) -> bool
+        ensures value { result ≡ are_single (seen_options self.entry) }
+    {
+        self.is_single(RunKind::Upsets)
+            && self.is_single(RunKind::From)
+            && self.is_single(RunKind::Save)
+    }
+
+    // Whether no option names a file of this kind for the whole run.
+    fn has_none(self, kind: RunKind) -> bool
+        ensures value { result ≡ nat_eq (length (run_files_in kind (seen_options self.entry))) 0 }
+    {
+        self.split_first_of(kind).is_none()
+    }
+
+    // Whether the run begins in one way: it has no input words and no scripts where it goes on from a saved machine.
+    fn begins_once(self) -> bool
+        ensures value { result ≡ begins_once (seen_options self.entry) }
+    {
+        self.has_none(RunKind::From) || (self.inputs().is_empty() && self.scripts().is_empty())
     }
 
     // Whether each partition has one file of each kind at most.
@@ -242,8 +331,8 @@ fn run_option<'a>(option: &str, word: &'a str) -> Option<RunOption<'a>>
 {
     match span(option, word) {
         Some(span) => Some(RunOption::Length(span)),
-        None => match upsets(option, word) {
-            Some(upsets) => Some(upsets),
+        None => match for_run(run_kind(option), word) {
+            Some(whole) => Some(whole),
             None => for_part(kind(option), word),
         },
     }
@@ -263,13 +352,29 @@ fn span(option: &str, count: &str) -> Option<Span>
     }
 }
 
-/// The option with a file of upsets, where the word names a file.
-#[tactic(auto, unfolding(crate::specs::Words::option_upsets))]
-fn upsets<'a>(option: &str, file: &'a str) -> Option<RunOption<'a>>
-    ensures { seen_run_option result ≡ option_upsets option.now file.now }
+/// What a file is to a whole run, by its option.
+#[tactic(auto, unfolding(crate::specs::Words::run_kind_of))]
+fn run_kind(option: &str) -> Option<RunKind>
+    ensures { result ≡ run_kind_of option.now }
 {
-    if option == "--upset" && is_file(file) {
-        Some(RunOption::Upsets(file))
+    if option == "--upset" {
+        Some(RunKind::Upsets)
+    } else if option == "--from" {
+        Some(RunKind::From)
+    } else if option == "--save" {
+        Some(RunKind::Save)
+    } else {
+        None
+    }
+}
+
+/// The option with a file for the whole run, where there is a kind and the word names a file.
+fn for_run(kind: Option<RunKind>, file: &str) -> Option<RunOption<'_>>
+    ensures { seen_run_option result ≡ option_whole kind file.now }
+{
+    let kind = kind?;
+    if is_file(file) {
+        Some(RunOption::ForRun(kind, file))
     } else {
         None
     }
