@@ -4,5 +4,6 @@ pub mod MachineLemmas
 pub mod RunLemmas
 pub mod ContinuedLemmas
 pub mod JoinedLemmas
+pub mod OnwardLemmas
 pub mod KeptLemmas
 pub mod RowLemmas

@@ -1,1 +1,2 @@
 pub mod GivenRows
+pub mod OnwardRows

@@ -4,6 +4,7 @@ ghost use Rattle.continuation_laws.specs.Continued.{ReportsAreContinued, RunsAre
 ghost use Rattle.continuation_laws.specs.Given.{ReportIgnoresGiven, RestIgnoresGiven, RunsIgnoreGiven, TickIgnoresGiven};
 ghost use Rattle.continuation_laws.specs.Joined.{FilesAreJoined, ReportsAreJoined};
 ghost use Rattle.continuation_laws.specs.Kept.{LeftKeepFacts};
+ghost use Rattle.continuation_laws.specs.Onward.{BootsAreBeginnings, RunsGoOn};
 
 /// Whatever input words the partitions of a machine were given at the boot, it goes on alike: it reads only those that are left.
 pub fn ignores_given()
@@ -54,4 +55,24 @@ pub fn left_keep_facts()
     // given; so it is with its numbers of partitions and channels, with the bounds of its clocks, and with what its
     // channels hold.
     ensures law { LeftKeepFacts }
+{}
+
+/// A run of a system is a run from the machine with which it boots.
+pub fn boots_are_beginnings()
+    // Law: take any system, any lines of upsets and any number of ticks. A run from the machine with which the system boots
+    // has the report of the system's run; the machine after it is the same, each partition receives the same, and each
+    // UART gets the same bytes.
+    ensures law { BootsAreBeginnings }
+{}
+
+/// A run goes on from the machine after its first ticks: with the upsets of a second file it is the rest of the run with those of both.
+pub fn runs_go_on()
+    // Law: take the lines of two files of upsets, of which the first strike before a tick is reached and the others from it
+    // on. From the machine after the ticks up to there, with the words that are left as those that its partitions were
+    // given, a run with the second file is the rest of the run of all ticks with both: the report, the bytes of each UART
+    // and what each partition receives are those of the first ticks with the first file, and then those of the run
+    // that goes on; each core file is the same, and so is the machine from which either would go on with the words that
+    // are left. The lines of the second file name ticks since the boot; so it is, too, where the hypervisor
+    // halted in the first ticks, and no tick or upset follows.
+    ensures law { RunsGoOn }
 {}

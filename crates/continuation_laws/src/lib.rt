@@ -6,5 +6,7 @@
 mod law;
 mod rows;
 
-pub use law::{continues_runs, ignores_given, joins_files, left_keep_facts};
+pub use law::{
+    boots_are_beginnings, continues_runs, ignores_given, joins_files, left_keep_facts, runs_go_on,
+};
 pub use rows::worked_rows;
