@@ -5,7 +5,7 @@ use Rattle.xm_conf.specs.Configuration.{Conf}
 use Rattle.upset_files.proofs.ReadingLemmas.{first_is}
 use Rattle.upset_files.specs.Fits.{AllFit}
 use Rattle.upset_files.specs.Laws.{FaultsAreFirst, last_tick}
-use Rattle.upset_files.specs.Reading.{fitted_line, in_line, lines_read, upsets_read}
+use Rattle.upset_files.specs.Reading.{fitted_line, in_line, lines_read, upsets_from}
 use Rattle.upset_files.specs.Spelling.{upset_text, upsets_text}
 use Rattle.upset_files.specs.declared.fault.UpsetCause.{UpsetCause}
 use Rattle.upset_files.specs.declared.fault.UpsetCause.TheVariants.{TooMany}
@@ -22,7 +22,7 @@ record IsWrongFrom (most : ℕ) (conf : Conf) (ticks first before : ℕ) (text :
   fit : AllFit conf ticks before lines
   number_is : number ≡ first + length lines
   begins : 0 < length rest
-  wrong : ((length lines ≡ most) × (cause ≡ TooMany)) ⊎ ((length lines < most) × (fitted_line conf ticks (last_tick before lines) rest ≡ Err cause))
+  wrong : ((length lines ≡ most) × (cause ≡ TooMany)) ⊎ ((length lines < most) × (fitted_line conf ticks number (last_tick before lines) rest ≡ Err cause))
 
 -- the parts of a fault
 same_line : (a b : ℕ) (c d : UpsetCause) → (let read : Result (List UpsetLine) UpsetFault = Err (fault.Line a c) in read ≡ Err (fault.Line b d)) → (b ≡ a) × (d ≡ c)
@@ -36,21 +36,21 @@ wrong_from zero conf ticks first before (byte ∷ bytes) number cause e =
     record { lines = []; rest = byte ∷ bytes; spelled = refl; fit = tt; number_is = omega (arith, same.0); begins = omega arith; wrong = inl (refl, same.1) }
 wrong_from (suc most) conf ticks first before [] number cause e = absurd cc
 wrong_from (suc most) conf ticks first before (byte ∷ bytes) number cause e =
-    at (fitted_line conf ticks before (byte ∷ bytes)) refl (λ found wrong. wrong_from most conf ticks (suc first) (found.0).tick found.1 number cause wrong) e
+    at (fitted_line conf ticks first before (byte ∷ bytes)) refl (λ found wrong. wrong_from most conf ticks (suc first) (found.0).tick found.1 number cause wrong) e
   where
     later : (found : UpsetLine × List ℕ) (read : Result (List UpsetLine) UpsetFault) → (read >>= λ lines. Ok (found.0 ∷ lines)) ≡ Err (fault.Line number cause) → read ≡ Err (fault.Line number cause)
     later found (Ok lines) e = absurd cc
     later found (Err met) e = cc
 
-    at : (read : Result (UpsetLine × List ℕ) UpsetCause) → fitted_line conf ticks before (byte ∷ bytes) ≡ read
+    at : (read : Result (UpsetLine × List ℕ) UpsetCause) → fitted_line conf ticks first before (byte ∷ bytes) ≡ read
         → ((found : UpsetLine × List ℕ) → lines_read most conf ticks (suc first) (found.0).tick found.1 ≡ Err (fault.Line number cause) → IsWrongFrom most conf ticks (suc first) (found.0).tick found.1 number cause)
         → (in_line first read >>= λ found. lines_read most conf ticks (suc first) (found.0).tick found.1 >>= λ lines. Ok (found.0 ∷ lines)) ≡ Err (fault.Line number cause)
         → IsWrongFrom (suc most) conf ticks first before (byte ∷ bytes) number cause
     at (Err met) is more e =
         let same = same_line first number met cause e in
-        record { lines = []; rest = byte ∷ bytes; spelled = refl; fit = tt; number_is = omega (arith, same.0); begins = omega arith; wrong = inr (omega arith, is ∙ ap (λ c. Err c) (sym same.1)) }
+        record { lines = []; rest = byte ∷ bytes; spelled = refl; fit = tt; number_is = omega (arith, same.0); begins = omega arith; wrong = inr (omega arith, ap (λ n. fitted_line conf ticks n before (byte ∷ bytes)) same.0 ∙ is ∙ ap (λ c. Err c) (sym same.1)) }
     at (Ok found) is more e =
-        let line = first_is conf ticks before (byte ∷ bytes) found.0 found.1 is in
+        let line = first_is conf ticks first before (byte ∷ bytes) found.0 found.1 is in
         let others = more found (later found (lines_read most conf ticks (suc first) (found.0).tick found.1) e) in
         let number_is = others.number_is in
         record {
@@ -64,8 +64,17 @@ wrong_from (suc most) conf ticks first before (byte ∷ bytes) number cause e =
         }
 
 pub faults_first : FaultsAreFirst
-unfolding upsets_read
-faults_first conf ticks text number cause e =
-    let wrong = wrong_from UPSETS conf ticks 1 0 text number cause e in
-    let number_is = wrong.number_is in
-    record { lines = wrong.lines; rest = wrong.rest; spelled = wrong.spelled; fit = wrong.fit; number_is = omega (arith, number_is); begins = wrong.begins; wrong = wrong.wrong }
+unfolding upsets_from
+faults_first conf begun ticks text number cause e =
+    let wrong = wrong_from UPSETS conf ticks 1 begun text number cause e in
+    let first_is = wrong.number_is in
+    let number_is : number ≡ length wrong.lines + 1 = omega (arith, first_is) in
+    record {
+      lines = wrong.lines;
+      rest = wrong.rest;
+      spelled = wrong.spelled;
+      fit = wrong.fit;
+      number_is = number_is;
+      begins = wrong.begins;
+      wrong = elim wrong.wrong [ inl full ↦ inl full | inr wrongly ↦ inr (wrongly.0, ap (λ n. fitted_line conf ticks n (last_tick begun wrong.lines) wrong.rest) (sym number_is) ∙ wrongly.1) ];
+    }

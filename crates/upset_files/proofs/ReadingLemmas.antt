@@ -9,10 +9,10 @@ use Rattle.xm_conf.specs.declared.part.Area.{Area}
 use Rattle.upset_files.proofs.LineLemmas.{line_again, line_is}
 use Rattle.upset_files.specs.Fits.{AllFit, FitsRun, HasWordAddress, is_bit_of, is_place_of, areas_of_part}
 use Rattle.upset_files.specs.Laws.{IsSpelledLine, ReadUpsetsAreSpelled, UpsetsAreRead, UpsetsHaveOneSpelling}
-use Rattle.upset_files.specs.Reading.{fitted, fitted_line, in_line, line_at, lines_read, upsets_read}
+use Rattle.upset_files.specs.Reading.{fitted, fitted_line, in_line, line_at, lines_read, too_early, upsets_from}
 use Rattle.upset_files.specs.Spelling.{upset_text, upsets_text}
 use Rattle.upset_files.specs.declared.fault.UpsetCause.{UpsetCause}
-use Rattle.upset_files.specs.declared.fault.UpsetCause.TheVariants.{NoBit, NoPartition, NoPlace, Unordered, Unreached}
+use Rattle.upset_files.specs.declared.fault.UpsetCause.TheVariants.{NoBit, NoPartition, NoPlace, Unreached}
 use Rattle.xm_report.specs.Places.{IsSpelledPlace}
 use Rattle.xm_report.specs.declared.place.Place.{Place}
 use Rattle.xm_report.specs.declared.place.Place.TheVariants.{Conditions, ExecutionDeadline, Global, HardwareDeadline, Mask, MemoryByte, Npc, Pc, Pending, TrapBase, Windowed, YRegister}
@@ -70,17 +70,17 @@ held true e = refl
 held false e = absurd cc
 
 -- a line that was taken fits
-pub fitting_is : (conf : Conf) (ticks before : ℕ) (line found : UpsetLine) → IsSpelledLine line → fitted conf ticks before line ≡ Ok found → (line ≡ found) × FitsRun conf ticks before line
+pub fitting_is : (conf : Conf) (ticks number before : ℕ) (line found : UpsetLine) → IsSpelledLine line → fitted conf ticks number before line ≡ Ok found → (line ≡ found) × FitsRun conf ticks before line
 unfolding fitted
-fitting_is conf ticks before line found spelled e =
+fitting_is conf ticks number before line found spelled e =
     let place = not (is_place_of (areas_of_part conf line.part) line.place) in
     let bit = not (is_bit_of line.place line.bit) in
     let reached = cond (nat_le ticks line.tick) (Err Unreached) (Ok line) in
-    let ordered = cond (nat_lt line.tick before) (Err Unordered) reached in
+    let ordered = cond (nat_lt line.tick before) (Err (too_early number)) reached in
     let a = led_on (not (nat_lt line.part (length conf.parts))) NoPartition (cond place (Err NoPlace) (cond bit (Err NoBit) ordered)) found e in
     let b = led_on place NoPlace (cond bit (Err NoBit) ordered) found a.1 in
     let c = led_on bit NoBit ordered found b.1 in
-    let d = led_on (nat_lt line.tick before) Unordered reached found c.1 in
+    let d = led_on (nat_lt line.tick before) (too_early number) reached found c.1 in
     let f = led_on (nat_le ticks line.tick) Unreached (Ok line) found d.1 in (
       ok_is line found f.1,
       record {
@@ -94,9 +94,9 @@ fitting_is conf ticks before line found spelled e =
     )
 
 -- a line that fits is taken
-pub fits_is : (conf : Conf) (ticks before : ℕ) (line : UpsetLine) → FitsRun conf ticks before line → fitted conf ticks before line ≡ Ok line
+pub fits_is : (conf : Conf) (ticks number before : ℕ) (line : UpsetLine) → FitsRun conf ticks before line → fitted conf ticks number before line ≡ Ok line
 unfolding fitted
-fits_is conf ticks before line fits =
+fits_is conf ticks number before line fits =
     let order : nat_lt line.tick before ≡ false = (let order = fits.order in grind (arith, nat_tests)) in
     let reached : nat_le ticks line.tick ≡ false = (let reached = fits.reached in grind (arith, nat_tests)) in
     rw (lt-ltb line.part (length conf.parts) fits.partition, fits.place, fits.bit, order, reached) refl
@@ -115,23 +115,23 @@ fits_spelled conf ticks before line parts most fits =
     }
 
 -- the line that a text begins with
-pub first_is : (conf : Conf) (ticks before : ℕ) (text : List ℕ) (line : UpsetLine) (rest : List ℕ) → fitted_line conf ticks before text ≡ Ok (line, rest) → (text ≡ upset_text line ++ rest) × FitsRun conf ticks before line
+pub first_is : (conf : Conf) (ticks number before : ℕ) (text : List ℕ) (line : UpsetLine) (rest : List ℕ) → fitted_line conf ticks number before text ≡ Ok (line, rest) → (text ≡ upset_text line ++ rest) × FitsRun conf ticks before line
 unfolding fitted_line
-first_is conf ticks before text line rest e =
-    let found = stepped (line_at text) (λ found. fitted conf ticks before found.0 >>= λ line. Ok (line, found.1)) (line, rest) e in
-    let fitted = stepped (fitted conf ticks before found.value.0) (λ line. Ok (line, found.value.1)) (line, rest) found.led in
+first_is conf ticks number before text line rest e =
+    let found = stepped (line_at text) (λ found. fitted conf ticks number before found.0 >>= λ line. Ok (line, found.1)) (line, rest) e in
+    let fitted = stepped (fitted conf ticks number before found.value.0) (λ line. Ok (line, found.value.1)) (line, rest) found.led in
     let same : (fitted.value, found.value.1) ≡ (line, rest) = ok_is (fitted.value, found.value.1) (line, rest) fitted.led in
     let spelled = line_is text found.value.0 found.value.1 found.is in
-    let fits = fitting_is conf ticks before found.value.0 fitted.value spelled.1 fitted.is in
+    let fits = fitting_is conf ticks number before found.value.0 fitted.value spelled.1 fitted.is in
     let line_same : found.value.0 ≡ line = fits.0 ∙ ap (λ p. p.0) same in
     let rest_same : found.value.1 ≡ rest = ap (λ p. p.1) same in
     (spelled.0 ∙ ap (λ l. upset_text l ++ found.value.1) line_same ∙ ap (λ r. upset_text line ++ r) rest_same, subst (FitsRun conf ticks before) line_same fits.1)
 
 -- and it is read
-pub first_again : (conf : Conf) (ticks before : ℕ) (line : UpsetLine) (rest : List ℕ) → length conf.parts ≤ 2 ^ 64 → ticks ≤ 2 ^ 64 → FitsRun conf ticks before line
-    → fitted_line conf ticks before (upset_text line ++ rest) ≡ Ok (line, rest)
+pub first_again : (conf : Conf) (ticks number before : ℕ) (line : UpsetLine) (rest : List ℕ) → length conf.parts ≤ 2 ^ 64 → ticks ≤ 2 ^ 64 → FitsRun conf ticks before line
+    → fitted_line conf ticks number before (upset_text line ++ rest) ≡ Ok (line, rest)
 unfolding fitted_line
-first_again conf ticks before line rest parts most fits = rw (line_again line rest (fits_spelled conf ticks before line parts most fits), fits_is conf ticks before line fits) refl
+first_again conf ticks number before line rest parts most fits = rw (line_again line rest (fits_spelled conf ticks before line parts most fits), fits_is conf ticks number before line fits) refl
 
 -- a cause with a line is none where nothing is wrong
 in_line_is : {X : Type 0} (number : ℕ) (read : Result X UpsetCause) (x : X) → in_line number read ≡ Ok x → read ≡ Ok x
@@ -150,9 +150,9 @@ lines_are zero conf ticks number before (byte ∷ bytes) lines e = absurd cc
 lines_are (suc most) conf ticks number before [] lines e = subst (AreLinesOf (suc most) conf ticks before []) (ok_is [] lines e) record { spelled = refl; few = omega arith; fit = tt }
 lines_are (suc most) conf ticks number before (byte ∷ bytes) lines e =
     let text = byte ∷ bytes in
-    let first = stepped (in_line number (fitted_line conf ticks before text)) (λ found. lines_read most conf ticks (suc number) (found.0).tick found.1 >>= λ later. Ok (found.0 ∷ later)) lines e in
+    let first = stepped (in_line number (fitted_line conf ticks number before text)) (λ found. lines_read most conf ticks (suc number) (found.0).tick found.1 >>= λ later. Ok (found.0 ∷ later)) lines e in
     let more = stepped (lines_read most conf ticks (suc number) (first.value.0).tick first.value.1) (λ later. Ok (first.value.0 ∷ later)) lines first.led in
-    let line = first_is conf ticks before text first.value.0 first.value.1 (in_line_is number (fitted_line conf ticks before text) first.value first.is) in
+    let line = first_is conf ticks number before text first.value.0 first.value.1 (in_line_is number (fitted_line conf ticks number before text) first.value first.is) in
     let later = lines_are most conf ticks (suc number) (first.value.0).tick first.value.1 more.value more.is in
     let few = later.few in
     subst (AreLinesOf (suc most) conf ticks before text) (ok_is (first.value.0 ∷ more.value) lines more.led) record {
@@ -179,19 +179,19 @@ lines_again (suc most) conf ticks number before (line ∷ lines) parts ticked fe
         → lines_read (suc most) conf ticks number before text ≡ Ok (line ∷ lines)
     at [] is later = (let some = line_some line (upsets_text lines) in let none : 0 ≡ length (upset_text line ++ upsets_text lines) = ap length is in absurd (omega (arith, some, none)))
     at (byte ∷ bytes) is later =
-        let first : fitted_line conf ticks before (byte ∷ bytes) ≡ Ok (line, upsets_text lines)
-        = ap (fitted_line conf ticks before) is ∙ first_again conf ticks before line (upsets_text lines) parts ticked fit.0 in
+        let first : fitted_line conf ticks number before (byte ∷ bytes) ≡ Ok (line, upsets_text lines)
+        = ap (fitted_line conf ticks number before) is ∙ first_again conf ticks number before line (upsets_text lines) parts ticked fit.0 in
         rw (first, later) refl
 
 -- what is read is spelled
 pub read_spelled : ReadUpsetsAreSpelled
-unfolding upsets_read
-read_spelled conf ticks text lines e = (let are = lines_are UPSETS conf ticks 1 0 text lines e in record { spelled = are.spelled; few = are.few; fit = are.fit })
+unfolding upsets_from
+read_spelled conf begun ticks text lines e = (let are = lines_are UPSETS conf ticks 1 begun text lines e in record { spelled = are.spelled; few = are.few; fit = are.fit })
 
 -- what is spelled is read
 pub spelled_read : UpsetsAreRead
-unfolding upsets_read
-spelled_read conf ticks text lines parts ticked are = ap (lines_read UPSETS conf ticks 1 0) are.spelled ∙ lines_again UPSETS conf ticks 1 0 lines parts ticked are.few are.fit
+unfolding upsets_from
+spelled_read conf begun ticks text lines parts ticked are = ap (lines_read UPSETS conf ticks 1 begun) are.spelled ∙ lines_again UPSETS conf ticks 1 begun lines parts ticked are.few are.fit
 
 -- two lists of lines with one text are equal
 pub one_spelling : UpsetsHaveOneSpelling

@@ -67,8 +67,8 @@ areas_or_none (Some part) = part.areas
 unfoldable pub areas_of_part : Conf → ℕ → List Area
 areas_of_part conf p = areas_or_none (slice_get conf.parts p)
 
--- a line fits a run of this many ticks after a line with the tick `before`: its partition, its place and its bit exist, its tick is not before that
--- one, and the run reaches it
+-- a line fits a run up to this many ticks after the tick `before`, of the line above or of the run's beginning: its partition, its place and its bit exist,
+-- its tick is not before that one, and the run reaches it
 pub record FitsRun (conf : Conf) (ticks before : ℕ) (line : UpsetLine) : Type 0 where
   pub partition : line.part < length conf.parts
   pub place : is_place_of (areas_of_part conf line.part) line.place ≡ true
@@ -82,8 +82,8 @@ abbrev pub AllFit : Conf → ℕ → ℕ → List UpsetLine → Type 0
 AllFit conf ticks before [] = Unit {0}
 AllFit conf ticks before (line ∷ lines) = FitsRun conf ticks before line × AllFit conf ticks line.tick lines
 
--- a text is a file of these upsets for a run of this many ticks
-pub record AreUpsetsOf (conf : Conf) (ticks : ℕ) (text : List ℕ) (lines : List UpsetLine) : Type 0 where
+-- a text is a file of these upsets for a run from the tick `begun` on, up to this many ticks since the boot
+pub record AreUpsetsOf (conf : Conf) (begun ticks : ℕ) (text : List ℕ) (lines : List UpsetLine) : Type 0 where
   pub spelled : text ≡ upsets_text lines
   pub few : length lines ≤ UPSETS
-  pub fit : AllFit conf ticks 0 lines
+  pub fit : AllFit conf ticks begun lines

@@ -5,7 +5,7 @@ use Rattle.xm_conf.specs.Configuration.{Conf}
 use Rattle.machine_model.specs.View.{System, view_of}
 use Rattle.upset_model.specs.Places.{is_place}
 use Rattle.upset_files.specs.Fits.{AllFit, AreUpsetsOf, FitsRun, is_bit_of, is_place_of, areas_of_part}
-use Rattle.upset_files.specs.Reading.{fitted_line, place_spelled, upsets_read}
+use Rattle.upset_files.specs.Reading.{fitted_line, place_spelled, upsets_from}
 use Rattle.xm_report.specs.Places.{IsSpelledPlace, place_text}
 use Rattle.upset_files.specs.Spelling.{upsets_text}
 use Rattle.upset_files.specs.declared.fault.UpsetCause.{UpsetCause}
@@ -35,13 +35,13 @@ UpsetsHaveOneSpelling =
 -- the upsets of a text are read, where partitions and ticks can be counted with 64 bits
 abbrev pub UpsetsAreRead : Type 0
 UpsetsAreRead =
-    (conf : Conf) (ticks : ℕ) (text : List ℕ) (lines : List UpsetLine) → length conf.parts ≤ 2 ^ 64 → ticks ≤ 2 ^ 64
-    → AreUpsetsOf conf ticks text lines → upsets_read conf ticks text ≡ Ok lines
+    (conf : Conf) (begun ticks : ℕ) (text : List ℕ) (lines : List UpsetLine) → length conf.parts ≤ 2 ^ 64 → ticks ≤ 2 ^ 64
+    → AreUpsetsOf conf begun ticks text lines → upsets_from conf begun ticks text ≡ Ok lines
 
 -- what is read of a text are its upsets
 abbrev pub ReadUpsetsAreSpelled : Type 0
 ReadUpsetsAreSpelled =
-    (conf : Conf) (ticks : ℕ) (text : List ℕ) (lines : List UpsetLine) → upsets_read conf ticks text ≡ Ok lines → AreUpsetsOf conf ticks text lines
+    (conf : Conf) (begun ticks : ℕ) (text : List ℕ) (lines : List UpsetLine) → upsets_from conf begun ticks text ≡ Ok lines → AreUpsetsOf conf begun ticks text lines
 
 -- a partition of a system may be struck at just the places and bits that fit it
 abbrev pub PlacesAreThose : Type 0
@@ -60,23 +60,23 @@ abbrev pub last_tick : ℕ → List UpsetLine → ℕ
 last_tick before [] = before
 last_tick before (line ∷ lines) = last_tick line.tick lines
 
--- what is wrong with the line that begins here, after these that fit: there are no more, or it is this
-abbrev pub IsWrongAfter : Conf → ℕ → List UpsetLine → List ℕ → UpsetCause → Type 0
-IsWrongAfter conf ticks lines rest cause =
-    ((length lines ≡ UPSETS) × (cause ≡ TooMany)) ⊎ ((length lines < UPSETS) × (fitted_line conf ticks (last_tick 0 lines) rest ≡ Err cause))
+-- what is wrong with the line that begins here, after these that fit a run from the tick `begun` on: there are no more, or it is this
+abbrev pub IsWrongAfter : Conf → ℕ → ℕ → List UpsetLine → List ℕ → UpsetCause → Type 0
+IsWrongAfter conf begun ticks lines rest cause =
+    ((length lines ≡ UPSETS) × (cause ≡ TooMany)) ⊎ ((length lines < UPSETS) × (fitted_line conf ticks (length lines + 1) (last_tick begun lines) rest ≡ Err cause))
 
 -- a line with this number is the first that is wrong: all before it are spelled and fit, and this is what is wrong with it
-pub record IsFirstWrong (conf : Conf) (ticks : ℕ) (text : List ℕ) (number : ℕ) (cause : UpsetCause) : Type 0 where
+pub record IsFirstWrong (conf : Conf) (begun ticks : ℕ) (text : List ℕ) (number : ℕ) (cause : UpsetCause) : Type 0 where
   pub lines : List UpsetLine
   pub rest : List ℕ
   pub spelled : text ≡ upsets_text lines ++ rest
-  pub fit : AllFit conf ticks 0 lines
+  pub fit : AllFit conf ticks begun lines
   pub number_is : number ≡ length lines + 1
   pub begins : 0 < length rest
-  pub wrong : IsWrongAfter conf ticks lines rest cause
+  pub wrong : IsWrongAfter conf begun ticks lines rest cause
 
 -- a fault is that of the first line that is wrong
 abbrev pub FaultsAreFirst : Type 0
 FaultsAreFirst =
-    (conf : Conf) (ticks : ℕ) (text : List ℕ) (number : ℕ) (cause : UpsetCause) → upsets_read conf ticks text ≡ Err (fault.Line number cause)
-    → IsFirstWrong conf ticks text number cause
+    (conf : Conf) (begun ticks : ℕ) (text : List ℕ) (number : ℕ) (cause : UpsetCause) → upsets_from conf begun ticks text ≡ Err (fault.Line number cause)
+    → IsFirstWrong conf begun ticks text number cause

@@ -128,21 +128,25 @@ line_at text = do
   rest ← after_byte 10 BadEnd bit.1
   Ok (record { tick = tick.0; part = part.0; place = place.0; bit = bit.0 }, rest)
 
--- a line after a line with the tick `before`, where it fits a run of this many ticks
-unfoldable pub fitted : Conf → ℕ → ℕ → UpsetLine → Result UpsetLine UpsetCause
-fitted conf ticks before line =
+-- why a line is too early: the first one is before the first tick of the run, any other before the line above
+abbrev pub too_early : ℕ → UpsetCause
+too_early number = if number == 1 then Unreached else Unordered
+
+-- the line of this number, which may not be before the tick `before`, where it fits a run up to this many ticks
+unfoldable pub fitted : Conf → ℕ → ℕ → ℕ → UpsetLine → Result UpsetLine UpsetCause
+fitted conf ticks number before line =
     if not (nat_lt line.part (length conf.parts)) then Err NoPartition
     else if not (is_place_of (areas_of_part conf line.part) line.place) then Err NoPlace
     else if not (is_bit_of line.place line.bit) then Err NoBit
-    else if nat_lt line.tick before then Err Unordered
+    else if nat_lt line.tick before then Err (too_early number)
     else if nat_le ticks line.tick then Err Unreached
     else Ok line
 
 -- the line that a text begins with, where it fits, and the text after it
-unfoldable pub fitted_line : Conf → ℕ → ℕ → List ℕ → Result (UpsetLine × List ℕ) UpsetCause
-fitted_line conf ticks before text = do
+unfoldable pub fitted_line : Conf → ℕ → ℕ → ℕ → List ℕ → Result (UpsetLine × List ℕ) UpsetCause
+fitted_line conf ticks number before text = do
   found ← line_at text
-  line ← fitted conf ticks before found.0
+  line ← fitted conf ticks number before found.0
   Ok (line, found.1)
 
 -- the cause with the number of its line
@@ -150,16 +154,20 @@ abbrev pub in_line : {X : Type 0} → ℕ → Result X UpsetCause → Result X U
 in_line number (Ok x) = Ok x
 in_line number (Err cause) = Err (fault.Line number cause)
 
--- the lines of a text, of which there may be this many more; the first has this number, and the one above it the tick `before`
+-- the lines of a text, of which there may be this many more; the first has this number, and may not be before the tick `before`
 abbrev pub lines_read : ℕ → Conf → ℕ → ℕ → ℕ → List ℕ → Result (List UpsetLine) UpsetFault
 lines_read zero conf ticks number before [] = Ok []
 lines_read zero conf ticks number before (byte ∷ bytes) = Err (fault.Line number TooMany)
 lines_read (suc most) conf ticks number before [] = Ok []
 lines_read (suc most) conf ticks number before (byte ∷ bytes) = do
-  found ← in_line number (fitted_line conf ticks before (byte ∷ bytes))
+  found ← in_line number (fitted_line conf ticks number before (byte ∷ bytes))
   later ← lines_read most conf ticks (suc number) (found.0).tick found.1
   Ok (found.0 ∷ later)
 
--- the lines of a whole text: at most 4096, the first of number 1
-unfoldable pub upsets_read : Conf → ℕ → List ℕ → Result (List UpsetLine) UpsetFault
-upsets_read conf ticks text = lines_read UPSETS conf ticks 1 0 text
+-- the lines of a whole text for a run from the tick `begun` on, up to this many ticks since the boot: at most 4096 lines, the first of number 1
+unfoldable pub upsets_from : Conf → ℕ → ℕ → List ℕ → Result (List UpsetLine) UpsetFault
+upsets_from conf begun ticks text = lines_read UPSETS conf ticks 1 begun text
+
+-- for a run from the boot on
+abbrev pub upsets_read : Conf → ℕ → List ℕ → Result (List UpsetLine) UpsetFault
+upsets_read conf ticks text = upsets_from conf 0 ticks text

@@ -5,7 +5,7 @@ ghost use Rattle.std.specs.Bool.{OnTrue};
 ghost use Rattle.std.specs.List.{list_any};
 ghost use Rattle.file_headers.specs.Gives.{IsRead};
 ghost use Rattle.upset_files.specs.Fits.{has_address, is_bit_of, is_place_of, areas_of_part};
-ghost use Rattle.upset_files.specs.Reading.{fitted};
+ghost use Rattle.upset_files.specs.Reading.{fitted, too_early};
 ghost use Rattle.upset_files.specs.lemmas.LineTerms.{fields_of};
 
 use crate::fault::UpsetCause;
@@ -84,15 +84,28 @@ fn areas_of(conf: &Conf, part: u8) -> &[Area]
     &part.areas
 }
 
-/// A line after a line with the tick `before`, where it fits a run of this many ticks.
+/// Why the line of this number is too early.
+fn too_early(number: usize) -> UpsetCause
+    ensures { result ≡ too_early number }
+{
+    if number == 1 {
+        UpsetCause::Unreached
+    } else {
+        UpsetCause::Unordered
+    }
+}
+
+/// The line of this number, which may not be before the tick `before`, where it fits a run up to
+/// this many ticks.
 #[tactic(auto, unfolding(crate::specs::Reading::fitted))]
 pub(crate) fn fitted(
     conf: &Conf,
     ticks: u64,
+    number: usize,
     before: u64,
     line: SpelledLine,
 ) -> Result<UpsetLine, UpsetCause>
-    ensures { IsRead (λ line. line) result (fitted conf.now ticks before (fields_of line)) }
+    ensures { IsRead (λ line. line) result (fitted conf.now ticks number before (fields_of line)) }
 {
     if line.part >= u64::from(conf.part_count()) {
         return Err(UpsetCause::NoPartition);
@@ -105,7 +118,7 @@ pub(crate) fn fitted(
         return Err(UpsetCause::NoBit);
     }
     if line.tick < before {
-        return Err(UpsetCause::Unordered);
+        return Err(too_early(number));
     }
     if ticks <= line.tick {
         return Err(UpsetCause::Unreached);

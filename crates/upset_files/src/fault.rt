@@ -28,9 +28,9 @@ pub enum UpsetCause {
     NoPlace,
     /// The place has no such bit.
     NoBit,
-    /// Its tick is before that of the line above.
+    /// It is not the first, and its tick is before that of the line above.
     Unordered,
-    /// The run ends before its tick.
+    /// The run ends before its tick, or it is the first line and the run begins after its tick.
     Unreached,
 }
 

@@ -31,18 +31,19 @@ fn line_at(text: &[u8]) -> Result<(SpelledLine, &[u8]), UpsetCause>
     Ok((line, rest))
 }
 
-/// The line that a text begins with, where it fits, and the text after it.
+/// The line that a text begins with, of this number, where it fits, and the text after it.
 #[tactic(auto, unfolding(crate::specs::Reading::fitted_line))]
 pub(crate) fn fitted_line<'a>(
     conf: &Conf,
     ticks: u64,
+    number: usize,
     before: u64,
     text: &'a [u8],
 ) -> Result<(UpsetLine, &'a [u8]), UpsetCause>
-    ensures value { IsRead (λ found. (found.0, (found.1).now)) result (fitted_line conf.now ticks before text.now) }
+    ensures value { IsRead (λ found. (found.0, (found.1).now)) result (fitted_line conf.now ticks number before text.now) }
     ensures within { IfOk result (λ found. length (found.1).now < length text.now) }
 {
     let (line, rest) = line_at(text)?;
-    let line = fitted(conf, ticks, before, line)?;
+    let line = fitted(conf, ticks, number, before, line)?;
     Ok((line, rest))
 }

@@ -4,7 +4,7 @@ ghost use Rattle.std.specs.Prelude.{◌≡◌, ◌<◌, ◌^◌, IfOk, List, Ok,
 ghost use Rattle.file_headers.specs.Gives.{Gives, IsRead};
 ghost use Rattle.upset_files.specs.Fits.{AreUpsetsOf};
 ghost use Rattle.upset_files.specs.Gives.{FailsAs};
-ghost use Rattle.upset_files.specs.Reading.{upsets_read};
+ghost use Rattle.upset_files.specs.Reading.{upsets_from};
 ghost use Rattle.upset_model.specs.declared.upset_line.UpsetLine.{UpsetLine};
 ghost use Rattle.upset_files.specs.declared.reading.TheConstants.{UPSETS};
 ghost use Rattle.upset_files.specs.lemmas.LineTerms.{next_line};
@@ -19,34 +19,43 @@ use xm_conf::Conf;
 /// The most upsets that a file may have.
 pub const UPSETS: usize = 4096;
 
-/// Reads the upsets of a run of this many ticks, or the first line that is wrong.
+/// Reads the upsets of a run from the tick `begun` on, up to this many ticks since the boot, or
+/// the first line that is wrong.
 pub fn read_upsets(
     alloc: Global,
     text: &[u8],
     conf: &Conf,
+    begun: u64,
     ticks: u64,
 ) -> Result<Vec<UpsetLine>, UpsetFault>
-    // What is read are the upsets that the text spells, at most 4096, each of which fits.
-    ensures found { IfOk result (λ lines. AreUpsetsOf conf.now ticks text.now lines.items) }
+    // What is read are the upsets that the text spells, at most 4096, each of which fits: none is before
+    // the first tick of the run, or after its last.
+    ensures found { IfOk result (λ lines. AreUpsetsOf conf.now begun ticks text.now lines.items) }
     // What is spelled is read, unless memory runs out.
-    ensures only { (lines : List UpsetLine) → AreUpsetsOf conf.now ticks text.now lines → Gives FailsAs (λ found. found.items) result (Ok lines) }
+    ensures only { (lines : List UpsetLine) → AreUpsetsOf conf.now begun ticks text.now lines → Gives FailsAs (λ found. found.items) result (Ok lines) }
     // A fault is the first one: the first line that is wrong, with the first of its causes.
-    ensures exact { Gives FailsAs (λ found. found.items) result (upsets_read conf.now ticks text.now) }
+    ensures exact { Gives FailsAs (λ found. found.items) result (upsets_from conf.now begun ticks text.now) }
 {
     proof! {
         let _count = conf.part_count();
     }
-    lines(alloc, text, conf, ticks)
+    lines(alloc, text, conf, begun, ticks)
 }
 
 /// The lines of a text.
-#[tactic(auto, unfolding(crate::specs::Reading::upsets_read))]
-fn lines(alloc: Global, text: &[u8], conf: &Conf, ticks: u64) -> Result<Vec<UpsetLine>, UpsetFault>
-    ensures { Gives FailsAs (λ found. found.items) result (upsets_read conf.now ticks text.now) }
+#[tactic(auto, unfolding(crate::specs::Reading::upsets_from))]
+fn lines(
+    alloc: Global,
+    text: &[u8],
+    conf: &Conf,
+    begun: u64,
+    ticks: u64,
+) -> Result<Vec<UpsetLine>, UpsetFault>
+    ensures { Gives FailsAs (λ found. found.items) result (upsets_from conf.now begun ticks text.now) }
 {
     let mut lines = Vec::new(alloc);
     let mut rest = text;
-    let mut before = 0;
+    let mut before = begun;
     while !rest.is_empty() {
         let (line, after) = next_line(lines.len(), conf, ticks, before, rest)?;
         before = line.tick;
@@ -71,7 +80,7 @@ fn next_line<'a>(
 {
     let line = done + 1;
     if done < UPSETS {
-        match fitted_line(conf, ticks, before, text) {
+        match fitted_line(conf, ticks, line, before, text) {
             Ok(found) => Ok(found),
             Err(cause) => Err(UpsetFault::Line { line, cause }),
         }

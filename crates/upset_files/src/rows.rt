@@ -1,6 +1,6 @@
 //! Rows worked by hand: places, bits and lines.
 
-ghost use Rattle.upset_files.specs.rows.LineRows.{FirstFaults, MalformedLines, ManyLines, ReadLines, UnfitLines};
+ghost use Rattle.upset_files.specs.rows.LineRows.{FirstFaults, LaterLines, MalformedLines, ManyLines, ReadLines, UnfitLines};
 ghost use Rattle.upset_files.specs.rows.PlaceRows.{BitEdges, OtherWords, SpelledPlaces};
 
 /// The first and the last place of each kind.
@@ -27,6 +27,8 @@ pub fn lines_at_edges()
     ensures unfit { UnfitLines }
     // Of two faults the first is the text's.
     ensures first { FirstFaults }
+    // A run from tick 3 on: lines at its first tick, one before it, and a second line before the first.
+    ensures later { LaterLines }
     // More lines than there may be.
     ensures many { ManyLines }
 {}

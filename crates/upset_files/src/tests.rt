@@ -1,6 +1,6 @@
 //! A file of upsets, read where memory is ample.
 
-use crate::read_upsets;
+use crate::{UpsetCause, UpsetFault, read_upsets};
 use std::alloc::{AllocError, Global};
 use std::process::Abort;
 use std::test::Fail;
@@ -76,7 +76,7 @@ fn line(tick: u64, part: PartId, place: Place, bit: u8) -> UpsetLine {
     }
 }
 
-/// The lines of a file.
+/// Lines for a run from the boot on.
 const TEXT: &[u8] = b"0 0 40100fff 7\n3 1 w127 31\n3 0 exec 62\n9 1 tbr 12\n";
 
 #[test]
@@ -88,9 +88,34 @@ fn lines_are_read_in_their_order(rt: HostRuntime) -> Result<(), Fail> {
         line(3, 0, Place::ExecutionDeadline, 62),
         line(9, 1, Place::TrapBase, 12),
     ];
-    match read_upsets(rt.alloc(), TEXT, &conf, 10) {
+    match read_upsets(rt.alloc(), TEXT, &conf, 0, 10) {
         Ok(found) => assert!(rt; found.as_slice() == lines.as_slice()),
         Err(_) => assert!(rt; false),
+    }
+    Ok(())
+}
+
+/// Lines for a run from tick 3 on.
+const LATER: &[u8] = b"3 1 w127 31\n9 1 tbr 12\n";
+
+#[test]
+fn a_run_that_goes_on_begins_at_its_tick(rt: HostRuntime) -> Result<(), Fail> {
+    let conf = conf(rt.alloc())?.expect(&rt, "a configuration");
+    let lines = [
+        line(3, 1, Place::Windowed(127), 31),
+        line(9, 1, Place::TrapBase, 12),
+    ];
+    match read_upsets(rt.alloc(), LATER, &conf, 3, 10) {
+        Ok(found) => assert!(rt; found.as_slice() == lines.as_slice()),
+        Err(_) => assert!(rt; false),
+    }
+    let unreached = UpsetFault::Line {
+        line: 1,
+        cause: UpsetCause::Unreached,
+    };
+    match read_upsets(rt.alloc(), LATER, &conf, 4, 10) {
+        Ok(_) => assert!(rt; false),
+        Err(fault) => assert!(rt; fault == unreached),
     }
     Ok(())
 }

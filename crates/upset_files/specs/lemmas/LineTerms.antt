@@ -15,4 +15,4 @@ fields_of line = record { tick = line.tick; part = line.part; place = line.place
 -- the next line of a text that is not at its end, after `done` lines of at most `most`
 unfoldable pub next_line : ℕ → ℕ → Conf → ℕ → ℕ → List ℕ → Result (UpsetLine × List ℕ) UpsetFault
 next_line most done conf ticks before text =
-    if nat_lt done most then in_line (done + 1) (fitted_line conf ticks before text) else Err (fault.Line (done + 1) TooMany)
+    if nat_lt done most then in_line (done + 1) (fitted_line conf ticks (done + 1) before text) else Err (fault.Line (done + 1) TooMany)

@@ -2,7 +2,7 @@
 use Rattle.std.specs.Prelude.{◌≡◌, ℕ, Bool, true, false, List, [], ◌∷◌, codes, Ok, Err}
 use Rattle.xm_conf.specs.Configuration.{Conf, Part}
 use Rattle.machine_model.specs.View.{no_part}
-use Rattle.upset_files.specs.Reading.{lines_read, upsets_read}
+use Rattle.upset_files.specs.Reading.{lines_read, upsets_from, upsets_read}
 use Rattle.upset_files.specs.declared.fault.UpsetCause.{UpsetCause}
 use Rattle.upset_files.specs.declared.fault.UpsetCause.TheVariants.{BadBit, BadEnd, BadPartition, BadPlace, BadTick, NoBit, NoPartition, NoPlace, TooMany, Unordered, Unreached}
 use Rattle.upset_files.specs.declared.fault.UpsetFault.TheVariants as fault
@@ -64,6 +64,23 @@ pub record FirstFaults : Type 0 where
   pub bit_first : IsWrong (codes "10 0 pc 0\n") 1 NoBit
   pub order_first : IsWrong (codes "9 0 y 0\n8 0 y 32\n8 0 y 0\n") 2 NoBit
   pub line_first : IsWrong (codes "10 0 y 0\nx\n") 1 Unreached
+
+-- a text has its first fault here, for a run from tick 3 on up to 10 ticks since the boot
+abbrev pub IsWrongLater : List ℕ → ℕ → UpsetCause → Type 0
+IsWrongLater text number cause = upsets_from two_parts 3 10 text ≡ Err (fault.Line number cause)
+
+-- a run from tick 3 on: its first tick is 3, and ticks count from the boot. A first line before it is never reached, a later one is out of order; a run without
+-- a tick reaches no line
+pub record LaterLines : Type 0 where
+  pub none : upsets_from two_parts 3 10 [] ≡ Ok []
+  pub first : upsets_from two_parts 3 10 (codes "3 0 y 0\n3 1 pc 2\n9 0 icc 3\n") ≡ Ok (upset_line 3 0 YRegister 0 ∷ upset_line 3 1 Pc 2 ∷ upset_line 9 0 Conditions 3 ∷ [])
+  pub one_before : IsWrongLater (codes "2 0 y 0\n") 1 Unreached
+  pub boot : IsWrongLater (codes "0 0 y 0\n3 0 y 0\n") 1 Unreached
+  pub order : IsWrongLater (codes "5 0 y 0\n4 0 y 0\n") 2 Unordered
+  pub before_first : IsWrongLater (codes "3 0 y 0\n2 0 y 0\n") 2 Unordered
+  pub never : IsWrongLater (codes "3 0 y 0\n10 0 y 0\n") 2 Unreached
+  pub bit_first : IsWrongLater (codes "2 0 y 32\n") 1 NoBit
+  pub no_ticks : upsets_from two_parts 3 3 (codes "3 0 y 0\n") ≡ Err (fault.Line 1 Unreached)
 
 -- where one line may stand, a second one is too many, whatever it says
 pub record ManyLines : Type 0 where

@@ -1,15 +1,15 @@
 use Rattle.std.proofs.Common.{refl}
 use Rattle.hex.specs.Hex.{decode_pairs, encode_with}
 use Rattle.upset_files.specs.Fits.{has_address, areas_of_part}
-use Rattle.upset_files.specs.Reading.{from_blank, byte_place, fitted, fitted_line, global_place, is_of_word, line_at, named_place, number_spelled, place_spelled, upsets_read, windowed_place, word_before_blank}
+use Rattle.upset_files.specs.Reading.{from_blank, byte_place, fitted, fitted_line, global_place, is_of_word, line_at, named_place, number_spelled, place_spelled, upsets_from, windowed_place, word_before_blank}
 use Rattle.upset_files.proofs.rows.lines_at_edges.Goals as goal
 
 pub returns-clause-read : goal.returns-clause-read
-unfolding place_spelled named_place global_place windowed_place byte_place number_spelled decode_pairs encode_with has_address areas_of_part from_blank word_before_blank is_of_word fitted fitted_line line_at upsets_read
+unfolding place_spelled named_place global_place windowed_place byte_place number_spelled decode_pairs encode_with has_address areas_of_part from_blank word_before_blank is_of_word fitted fitted_line line_at upsets_from
 returns-clause-read c = record { none = refl; four = refl }
 
 pub returns-clause-malformed : goal.returns-clause-malformed
-unfolding place_spelled named_place global_place windowed_place byte_place number_spelled decode_pairs encode_with has_address areas_of_part from_blank word_before_blank is_of_word fitted fitted_line line_at upsets_read
+unfolding place_spelled named_place global_place windowed_place byte_place number_spelled decode_pairs encode_with has_address areas_of_part from_blank word_before_blank is_of_word fitted fitted_line line_at upsets_from
 returns-clause-malformed c = record {
   empty = refl;
   zero_first = refl;
@@ -26,7 +26,7 @@ returns-clause-malformed c = record {
 }
 
 pub returns-clause-unfit : goal.returns-clause-unfit
-unfolding place_spelled named_place global_place windowed_place byte_place number_spelled decode_pairs encode_with has_address areas_of_part from_blank word_before_blank is_of_word fitted fitted_line line_at upsets_read
+unfolding place_spelled named_place global_place windowed_place byte_place number_spelled decode_pairs encode_with has_address areas_of_part from_blank word_before_blank is_of_word fitted fitted_line line_at upsets_from
 returns-clause-unfit c = record {
   partition = refl;
   past_area = refl;
@@ -38,7 +38,7 @@ returns-clause-unfit c = record {
 }
 
 pub returns-clause-first : goal.returns-clause-first
-unfolding place_spelled named_place global_place windowed_place byte_place number_spelled decode_pairs encode_with has_address areas_of_part from_blank word_before_blank is_of_word fitted fitted_line line_at upsets_read
+unfolding place_spelled named_place global_place windowed_place byte_place number_spelled decode_pairs encode_with has_address areas_of_part from_blank word_before_blank is_of_word fitted fitted_line line_at upsets_from
 returns-clause-first c = record {
   fields_first = refl;
   partition_first = refl;
@@ -48,6 +48,20 @@ returns-clause-first c = record {
   line_first = refl;
 }
 
+pub returns-clause-later : goal.returns-clause-later
+unfolding place_spelled named_place global_place windowed_place byte_place number_spelled decode_pairs encode_with has_address areas_of_part from_blank word_before_blank is_of_word fitted fitted_line line_at upsets_from
+returns-clause-later c = record {
+  none = refl;
+  first = refl;
+  one_before = refl;
+  boot = refl;
+  order = refl;
+  before_first = refl;
+  never = refl;
+  bit_first = refl;
+  no_ticks = refl;
+}
+
 pub returns-clause-many : goal.returns-clause-many
-unfolding place_spelled named_place global_place windowed_place byte_place number_spelled decode_pairs encode_with has_address areas_of_part from_blank word_before_blank is_of_word fitted fitted_line line_at upsets_read
+unfolding place_spelled named_place global_place windowed_place byte_place number_spelled decode_pairs encode_with has_address areas_of_part from_blank word_before_blank is_of_word fitted fitted_line line_at upsets_from
 returns-clause-many c = record { one = refl; two = refl }
