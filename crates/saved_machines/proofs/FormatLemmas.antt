@@ -12,12 +12,12 @@ use Rattle.codecs.specs.lemmas.CutLemmas.{cut_sealed_is_short}
 use Rattle.codecs.specs.lemmas.FileLemmas.{sealed_ends, sealed_lawful}
 use Rattle.codecs.specs.lemmas.ItemLemmas.{counted_items_lawful, each_lawful, length-items, times_lawful}
 use Rattle.codecs.specs.lemmas.ReadLemmas.{both}
-use Rattle.guest_bus.specs.Memory.{Memory}
+use Rattle.guest_bus.specs.Memory.{Area, Memory}
 use Rattle.machine_model.specs.Structures.{flag}
 use Rattle.saved_machines.specs.Laws.{CutSavedFileIsShort, SavedFilesAreLawful, SavedFilesArePrefixFree, SavedMachinesHaveOneFile}
 use Rattle.saved_machines.specs.Saved.{SavedHead, SavedStore}
 use Rattle.saved_machines.specs.SavedFields.{any_word, globals_field, health_field, log_field, made_field, saved_faults, trace_field}
-use Rattle.saved_machines.specs.SavedFormat.{clock_format, head_format, machine_format, page_format, pages_format, partition_format, processor_format, standing_format, store_format, traps_format}
+use Rattle.saved_machines.specs.SavedFormat.{area_pages_format, clock_format, head_format, machine_format, page_format, pages_format, partition_format, processor_format, standing_format, store_format, traps_format}
 use Rattle.saved_machines.proofs.FieldLemmas.{any_word_lawful, byte_lawful, content_lawful, double_word_lawful, flag_lawful, globals_lawful, health_lawful, known_byte_lawful, log_lawful, made_lawful, state_lawful, timer_lawful, trace_lawful, word_lawful, zeros_lawful}
 use Rattle.xm_conf.specs.Configuration.{Conf}
 
@@ -35,7 +35,7 @@ head_lawful conf container =
     pair_lawful _ _ (double_word_lawful _) λ ticks.
     pair_lawful _ _ (double_word_lawful _) λ time.
     pair_lawful _ _ any_word_lawful λ resets.
-    pair_lawful _ _ flag_lawful λ halted.
+    pair_lawful _ _ (tested_lawful _ _ _ flag_lawful) λ halted.
     clock_lawful conf time)
 
 pub standing_lawful : (head : SavedHead) (p : ℕ) → IsLawful (standing_format head p)
@@ -62,9 +62,12 @@ traps_lawful =
     through_lawful _ _ _ (λ t fits. refl) (λ v fits. refl)
     (pair_lawful _ _ flag_lawful λ enabled. pair_lawful _ _ (word_lawful _) λ base. pair_lawful _ _ any_word_lawful λ pending. any_word_lawful)
 
-pub page_lawful : (conf : Conf) (loaded : Memory) (p floor : ℕ) → IsLawful (page_format conf loaded p floor)
-page_lawful conf loaded p floor =
+pub page_lawful : (area : Area) (loaded : Memory) (floor : ℕ) → IsLawful (page_format area loaded floor)
+page_lawful area loaded floor =
     tested_lawful _ _ _ (through_lawful _ _ _ (λ t fits. refl) (λ page fits. refl) (pair_lawful _ _ (word_lawful _) λ address. raw_bytes_lawful _ 256))
+
+pub area_pages_lawful : (loaded : Memory) (area : Area) → IsLawful (area_pages_format loaded area)
+area_pages_lawful loaded area = counted_items_lawful any_word _ _ area.start any_word_lawful (λ floor. page_lawful area loaded floor)
 
 pub store_lawful : (conf : Conf) (loaded : Memory) (head : SavedHead) (p : ℕ) (halted : Bool) (left : ℕ) → IsLawful (store_format conf loaded head p halted left)
 store_lawful conf loaded head p halted left =
@@ -75,7 +78,7 @@ store_lawful conf loaded head p halted left =
     pair_lawful _ _ (log_lawful _ _ _ trace_lawful) λ traces.
     pair_lawful _ _ (log_lawful _ _ _ health_lawful) λ health.
     pair_lawful _ _ (times_lawful left any_word any_word_lawful) λ inputs.
-    counted_items_lawful any_word _ _ 0 any_word_lawful (λ floor. page_lawful conf loaded p floor))
+    each_lawful _ _ (λ area. area_pages_lawful loaded area))
 
 -- the sixth of seven tests
 sixth : (a b c d e f g : Bool) → (a && (b && (c && (d && (e && (f && g)))))) ≡ true → f ≡ true

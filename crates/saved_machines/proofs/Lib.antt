@@ -1,5 +1,13 @@
+pub mod Ascii
+pub mod ConfLemmas
 pub mod FieldLemmas
 pub mod FormatLemmas
 pub mod HeadLemmas
+pub mod KeptLemmas
+pub mod MachineLemmas
 pub mod MadeLemmas
 pub mod PageLemmas
+pub mod ReadLemmas
+pub mod RestorableLemmas
+pub mod RestoreLemmas
+pub mod SavableLemmas

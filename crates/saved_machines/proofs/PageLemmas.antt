@@ -5,11 +5,11 @@ use Rattle.std.specs.Str.{bytes_eq}
 use Rattle.std.proofs.lemmas.Slice.Eq.{bytes_eq-Decides}
 use Rattle.guest_bus.specs.Memory.{Memory}
 use Rattle.saved_machines.specs.SavedFormat.{loaded_page, page_format}
-use Rattle.saved_machines.specs.rows.SavedRows.{two_plans}
+use Rattle.saved_machines.specs.rows.SavedRows.{some_area}
 
 fails : (first same : Bool) → same ≡ true → (first && not same) ≡ false
 fails true same is = rw is refl
 fails false same is = refl
 
-pub as_loaded : (loaded : Memory) (address : ℕ) → (page_format two_plans loaded 0 0).fits (record { address = address; bytes = loaded_page loaded address }) ≡ false
+pub as_loaded : (loaded : Memory) (address : ℕ) → (page_format some_area loaded 0).fits (record { address = address; bytes = loaded_page loaded address }) ≡ false
 as_loaded loaded address = fails _ (bytes_eq (loaded_page loaded address) (loaded_page loaded address)) ((bytes_eq-Decides (loaded_page loaded address) (loaded_page loaded address)).1 refl)

@@ -1,6 +1,12 @@
 pub mod Laws
 pub mod Reading
+pub mod Restorable
+pub mod Savable
 pub mod Saved
 pub mod SavedFields
 pub mod SavedFormat
+pub mod Saving
+pub mod Texts
+pub mod Values
+pub mod lemmas
 pub mod rows

@@ -41,7 +41,7 @@ pub record SavedPage : Type 0 where
   pub bytes : List ℕ
 
 -- what a partition has stored: which of its ports are made, its numbered registers, its traces and its health log, the input words that are left,
--- and the pages that differ
+-- and of each of its areas the pages that differ
 pub record SavedStore : Type 0 where
   pub made : List Bool
   pub globals : List ℕ
@@ -49,7 +49,7 @@ pub record SavedStore : Type 0 where
   pub traces : Kept TraceEntry
   pub health : Kept HealthEntry
   pub inputs : List ℕ
-  pub pages : List SavedPage
+  pub pages : List (List SavedPage)
 
 -- of a partition
 pub record SavedPartition : Type 0 where

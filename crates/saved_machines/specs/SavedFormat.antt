@@ -5,7 +5,7 @@ use Rattle.codecs.specs.Codec.{counted_items, each_of, keyed, optional, pair, ra
 use Rattle.codecs.specs.Files.{FileCodec, sealed_file}
 use Rattle.cyclic_plans.specs.PlanClock.{CyclicClock}
 use Rattle.cyclic_plans.specs.Slots.{frame_of}
-use Rattle.guest_bus.specs.Memory.{Memory, bytes_at, is_readable}
+use Rattle.guest_bus.specs.Memory.{Area, Memory, bytes_at}
 use Rattle.guest_memory.specs.Loading.{memory_areas}
 use Rattle.machine_model.specs.Lists.{table}
 use Rattle.machine_model.specs.Partition.{is_halted}
@@ -34,6 +34,10 @@ clock_format conf time =
 abbrev pub container_format : List ℕ → SavedCodec (List ℕ)
 container_format container = tested (λ at stored. fault.Container stored container) (λ stored. bytes_eq stored container) (raw_bytes saved_short 16)
 
+-- whether it has halted | 1 | the ticks that have begun, the one in which it halts with them, are up to 4000000000
+abbrev pub halted_format : ℕ → SavedCodec Bool
+halted_format ticks = tested (λ at halted. saved_field at) (λ halted. nat_le (ticks + flag halted) 4000000000) flag_field
+
 -- digest of the container; ticks | 8 | up to 4000000000; time | 8 | up to the ticks; resets | 4; whether it has halted | 1; the plan clock
 abbrev pub head_format : Conf → List ℕ → SavedCodec SavedHead
 head_format conf container =
@@ -43,7 +47,7 @@ head_format conf container =
     pair (double_word_where (λ ticks. nat_le ticks 4000000000)) λ ticks.
     pair (double_word_where (λ time. nat_le time ticks)) λ time.
     pair any_word λ resets.
-    pair flag_field λ halted.
+    pair (halted_format ticks) λ halted.
     clock_format conf time)
 
 -- number | 1 | this partition's; state | 1; resets | 4; status of the last reset | 4; execution clock | 8 | up to the ticks that have begun
@@ -79,20 +83,24 @@ traps_format =
 unfoldable pub loaded_page : Memory → ℕ → List ℕ
 loaded_page loaded address = bytes_at loaded address 256
 
--- address | 4 | from the floor on, a multiple of 256, in an area of the partition; bytes | 256 | not those that were loaded
-abbrev pub page_format : Conf → Memory → ℕ → ℕ → SavedCodec SavedPage
-page_format conf loaded p floor =
+-- address | 4 | from the floor on, a multiple of 256, before the end of the area; bytes | 256 | not those that were loaded
+abbrev pub page_format : Area → Memory → ℕ → SavedCodec SavedPage
+page_format area loaded floor =
     tested (λ at page. saved_field at) (λ page. not (bytes_eq page.bytes (loaded_page loaded page.address)))
     (through (λ t. record { address = t.0; bytes = t.1 }) (λ page. (page.address, page.bytes))
-    (pair (word_where (λ address. nat_le floor address && address % 256 == 0 && is_readable (memory_areas (part_of conf p)) address)) λ address.
+    (pair (word_where (λ address. nat_le floor address && address % 256 == 0 && nat_lt address (area.start + area.size))) λ address.
     raw_bytes saved_short 256))
 
--- number of pages | 4; each page | 260 | after the one before it
-abbrev pub pages_format : Conf → Memory → ℕ → SavedCodec (List SavedPage)
-pages_format conf loaded p = counted_items any_word (λ floor. page_format conf loaded p floor) (λ floor page. page.address + 256) 0
+-- number of pages | 4; each page | 260 | from the beginning of the area on, after the one before it
+abbrev pub area_pages_format : Memory → Area → SavedCodec (List SavedPage)
+area_pages_format loaded area = counted_items any_word (λ floor. page_format area loaded floor) (λ floor page. page.address + 256) area.start
+
+-- the pages of each area
+abbrev pub pages_format : Conf → Memory → ℕ → SavedCodec (List (List SavedPage))
+pages_format conf loaded p = each_of (λ area. area_pages_format loaded area) (memory_areas (part_of conf p))
 
 -- ports that are made | 4 | ends of channels; registers g0 to g7 | 32 | g0 is 0; registers of windows | 512; traces | 1544 | up to the ticks; health
--- log | 1288 | up to the ticks, and one more where something has halted; this many input words | 4 each; the pages
+-- log | 1288 | up to the ticks, and one more where something has halted; this many input words | 4 each; the pages of each area
 abbrev pub store_format : Conf → Memory → SavedHead → ℕ → Bool → ℕ → SavedCodec SavedStore
 store_format conf loaded head p halted left =
     through (λ t. record { made = t.0; globals = t.1.0; windows = t.1.1.0; traces = t.1.1.1.0; health = t.1.1.1.1.0; inputs = t.1.1.1.1.1.0; pages = t.1.1.1.1.1.1 })

@@ -1,6 +1,8 @@
 //! Why bytes are no saved machine.
 
+use crate::digits::{digest_digits, text};
 use fault_messages::HeadFault;
+use std::fmt;
 use xm_base::Short;
 
 /// Why bytes are no saved machine.
@@ -22,6 +24,38 @@ pub enum SavedFault {
     Field { at: usize },
     /// Memory ran out for the machine.
     Memory,
+}
+
+impl fmt::Display for SavedFault {
+    ghost use Rattle.std.specs.Prelude.{Some};
+    ghost use Rattle.saved_machines.specs.Texts.{saved_fault_text};
+
+    ghost output = { λ fault. Some (saved_fault_text fault) };
+
+    fn fmt<W: fmt::Write>(&self, f: &mut fmt::Formatter<W>) -> fmt::Result {
+        match self {
+            SavedFault::Magic => f.write_str("magic"),
+            SavedFault::Version { found } => write!(f, "version found={found}"),
+            SavedFault::Short { at } => write!(f, "short at={at}"),
+            SavedFault::Trailing { at } => write!(f, "trailing at={at}"),
+            SavedFault::Digest { stored, found } => {
+                let stored = digest_digits(*stored);
+                let found = digest_digits(*found);
+                let stored = text(&stored);
+                let found = text(&found);
+                write!(f, "digest stored={stored} found={found}")
+            }
+            SavedFault::Container { stored, found } => {
+                let stored = digest_digits(*stored);
+                let found = digest_digits(*found);
+                let stored = text(&stored);
+                let found = text(&found);
+                write!(f, "container stored={stored} found={found}")
+            }
+            SavedFault::Field { at } => write!(f, "field at={at}"),
+            SavedFault::Memory => f.write_str("memory"),
+        }
+    }
 }
 
 impl From<Short> for SavedFault {

@@ -1,6 +1,6 @@
 //! The head of a saved machine, and its reading, field by field.
 
-ghost use Rattle.std.specs.Prelude.{◌≡◌, ◌+◌, ◌^◌, ◌&&◌, ◌<◌, length, nat_le, nat_lt, codes};
+ghost use Rattle.std.specs.Prelude.{◌≡◌, ◌+◌, ◌^◌, ◌&&◌, ◌<◌, ◌≤◌, IfOk, length, nat_le, nat_lt, codes};
 ghost use Rattle.file_headers.specs.Gives.{IsRead};
 ghost use Rattle.file_headers.specs.Heads.{unsealed};
 ghost use Rattle.file_headers.specs.lemmas.GivesTerms.{IsReadAt};
@@ -9,9 +9,10 @@ ghost use Rattle.xm_base.specs.Cursor.{past};
 ghost use Rattle.codecs.specs.Codec.{raw_bytes};
 ghost use Rattle.saved_machines.specs.Reading.{clock_value, head_in, head_read, head_value};
 ghost use Rattle.saved_machines.specs.SavedFields.{any_word, byte_where, double_word_where, flag_field, saved_faults, saved_short, zeros};
-ghost use Rattle.saved_machines.specs.SavedFormat.{asked_format, clock_format, container_format, head_format};
+ghost use Rattle.saved_machines.specs.SavedFormat.{asked_format, clock_format, container_format, halted_format, head_format};
 
 use crate::fault::SavedFault;
+use crate::fields::{byte_below, digest, double_up_to, flag, word, zero};
 use file_headers::unsealed;
 use xm_base::{Cursor, TICKS};
 use xm_conf::Conf;
@@ -53,39 +54,6 @@ pub struct Head {
     pub clock: SavedClock,
 }
 
-/// A byte below a limit.
-fn byte_below(cursor: &mut Cursor<'_>, limit: usize) -> Result<u8, SavedFault>
-    ensures { IsReadAt (λ n. n) result cursor.new ((byte_where (λ n. nat_lt n limit)).read cursor.old) }
-{
-    let at = cursor.at();
-    let n = cursor.u8()?;
-    if usize::from(n) < limit {
-        Ok(n)
-    } else {
-        Err(SavedFault::Field { at })
-    }
-}
-
-/// A word.
-fn word(cursor: &mut Cursor<'_>) -> Result<u32, SavedFault>
-    ensures { IsReadAt (λ n. n) result cursor.new (any_word.read cursor.old) }
-{
-    Ok(cursor.u32()?)
-}
-
-/// A double word up to the most.
-fn double_up_to(cursor: &mut Cursor<'_>, most: u64) -> Result<u64, SavedFault>
-    ensures { IsReadAt (λ n. n) result cursor.new ((double_word_where (λ n. nat_le n most)).read cursor.old) }
-{
-    let at = cursor.at();
-    let n = cursor.u64()?;
-    if n <= most {
-        Ok(n)
-    } else {
-        Err(SavedFault::Field { at })
-    }
-}
-
 /// When a frame of this length began that the time is in.
 fn frame_start(cursor: &mut Cursor<'_>, frame: u64, time: u64) -> Result<u64, SavedFault>
     ensures { IsReadAt (λ n. n) result cursor.new ((double_word_where (λ start. nat_le start time && nat_lt time (start + frame))).read cursor.old) }
@@ -97,32 +65,6 @@ fn frame_start(cursor: &mut Cursor<'_>, frame: u64, time: u64) -> Result<u64, Sa
     } else {
         Err(SavedFault::Field { at })
     }
-}
-
-/// A flag.
-fn flag(cursor: &mut Cursor<'_>) -> Result<bool, SavedFault>
-    ensures { IsReadAt (λ b. b) result cursor.new (flag_field.read cursor.old) }
-{
-    let at = cursor.at();
-    let byte = cursor.u8()?;
-    if byte == 0 {
-        Ok(false)
-    } else if byte == 1 {
-        Ok(true)
-    } else {
-        Err(SavedFault::Field { at })
-    }
-}
-
-/// A zero.
-fn zero(cursor: &mut Cursor<'_>) -> Result<(), SavedFault>
-    ensures { IsReadAt (λ _. tt) result cursor.new ((zeros 1).read cursor.old) }
-{
-    let at = cursor.at();
-    if cursor.take(1)? != [0].as_slice() {
-        return Err(SavedFault::Field { at });
-    }
-    Ok(())
 }
 
 /// The plan that is asked for, of this many.
@@ -182,29 +124,36 @@ fn container(cursor: &mut Cursor<'_>, wanted: [u8; 16]) -> Result<[u8; 16], Save
     }
 }
 
-/// A digest.
-fn digest(cursor: &mut Cursor<'_>) -> Result<[u8; 16], SavedFault>
-    ensures { IsReadAt (λ found. found) result cursor.new ((raw_bytes saved_short 16).read cursor.old) }
+/// Whether it has halted after these ticks, in one that is among the most, too.
+fn halted(cursor: &mut Cursor<'_>, ticks: u64) -> Result<bool, SavedFault>
+    requires { ticks ≤ 4000000000 }
+    ensures { IsReadAt (λ halted. halted) result cursor.new ((halted_format ticks).read cursor.old) }
 {
-    let bytes = cursor.take(16)?;
-    let Ok(digest) = <[u8; 16]>::try_from(bytes) else {
-        unreachable!();
-    };
-    Ok(digest)
+    let at = cursor.at();
+    let halted = flag(cursor)?;
+    if ticks + u64::from(halted) <= TICKS {
+        Ok(halted)
+    } else {
+        Err(SavedFault::Field { at })
+    }
 }
 
-/// The head in the bytes before the digest.
-#[tactic(auto, unfolding(crate::specs::Reading::head_in))]
-fn whole_head(conf: &Conf, wanted: [u8; 16], before: &[u8]) -> Result<Head, SavedFault>
-    ensures { IsRead head_value result (head_in conf.now wanted before.now) }
+/// The head, after the bytes of name, version and length.
+pub(crate) fn first_head(
+    cursor: &mut Cursor<'_>,
+    conf: &Conf,
+    wanted: [u8; 16],
+) -> Result<Head, SavedFault>
+    requires { cursor.old.at ≡ 0 }
+    ensures value { IsReadAt head_value result cursor.new ((head_format conf.now wanted).read (past 10 cursor.old)) }
+    ensures ticks { IfOk result (λ head. head.ticks ≤ 4000000000) }
 {
-    let mut cursor = Cursor::new(before);
-    let container = container(&mut cursor, wanted)?;
-    let ticks = double_up_to(&mut cursor, TICKS)?;
-    let time = double_up_to(&mut cursor, ticks)?;
-    let resets = word(&mut cursor)?;
-    let halted = flag(&mut cursor)?;
-    let clock = clock(&mut cursor, conf, time)?;
+    let container = container(cursor, wanted)?;
+    let ticks = double_up_to(cursor, TICKS)?;
+    let time = double_up_to(cursor, ticks)?;
+    let resets = word(cursor)?;
+    let halted = halted(cursor, ticks)?;
+    let clock = clock(cursor, conf, time)?;
     Ok(Head {
         container,
         ticks,
@@ -215,8 +164,17 @@ fn whole_head(conf: &Conf, wanted: [u8; 16], before: &[u8]) -> Result<Head, Save
     })
 }
 
+/// The head in the bytes before the digest.
+#[tactic(auto, unfolding(crate::specs::Reading::head_in))]
+fn whole_head(conf: &Conf, wanted: [u8; 16], before: &[u8]) -> Result<Head, SavedFault>
+    ensures { IsRead head_value result (head_in conf.now wanted before.now) }
+{
+    let mut cursor = Cursor::new(before);
+    first_head(&mut cursor, conf, wanted)
+}
+
 /// The bytes before the digest, where it is theirs.
-fn unsealed_machine(bytes: &[u8]) -> Result<&[u8], SavedFault>
+pub(crate) fn unsealed_machine(bytes: &[u8]) -> Result<&[u8], SavedFault>
     ensures { IsRead (λ before. before.now) result (unsealed saved_faults (codes "XMSM") 1 bytes.now) }
 {
     Ok(unsealed(bytes, MAGIC, VERSION)?)

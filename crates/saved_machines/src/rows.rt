@@ -26,6 +26,7 @@ pub fn partitions_in_order()
 
 /// Pages of memory.
 pub fn pages_that_differ()
-    // The last page of an area, one outside it, one between two pages, one that does not rise, and one as it was loaded.
+    // The last page of an area, one after it, one between two pages, one that does not rise, one before the area, an area
+    // without pages, and a page as it was loaded.
     ensures rows { PageRows }
 {}

@@ -1,9 +1,9 @@
 -- Bytes of parts of saved machines, worked by hand, and what is read of bytes.
 use Rattle.std.specs.Prelude.{◌≡◌, ℕ, ◌++◌, Bool, true, false, List, [], ◌∷◌, replicate, Some, None, Ok, Err}
-use Rattle.guest_bus.specs.Memory.{Memory}
+use Rattle.guest_bus.specs.Memory.{Area, Memory}
 use Rattle.machine_model.specs.View.{no_part}
 use Rattle.saved_machines.specs.SavedFields.{content_field, health_field, log_counts, made_field, timer_field, trace_field}
-use Rattle.saved_machines.specs.SavedFormat.{clock_format, head_format, loaded_page, page_format, processor_format, standing_format, traps_format}
+use Rattle.saved_machines.specs.SavedFormat.{area_pages_format, clock_format, head_format, loaded_page, page_format, pages_format, processor_format, standing_format, traps_format}
 use Rattle.saved_machines.specs.Saved.{SavedHead}
 use Rattle.saved_machines.specs.declared.fault.SavedFault.TheVariants as fault
 use Rattle.xm_base.specs.Cursor.{Place, cursor_start}
@@ -19,6 +19,10 @@ use Rattle.xm_ports.specs.Channels.{Queuing, Sampling}
 -- a queue from port 1 of partition 0 to port 0 of partition 1
 abbrev pub one_queue : Chan
 one_queue = record { kind = chan_kind.Queuing 2; length = 8; source = record { part = 0; port = 1 }; dests = record { part = 1; port = 0 } ∷ [] }
+
+-- an area of 8192 bytes
+abbrev pub some_area : Area
+some_area = record { start = 0x40000000; size = 8192; read_only = true }
 
 -- partition 0 has two ports and an area of 8192 bytes
 abbrev pub first_part : Part
@@ -72,6 +76,8 @@ pub record HeadRows : Type 0 where
   pub container : (head_format two_plans (replicate 16 8)).read (cursor_start (replicate 16 7)) ≡ Err (fault.Container (replicate 16 7) (replicate 16 8))
   pub most : (head_format two_plans (replicate 16 7)).fits (record (some_head false) { ticks = 4000000000 }) ≡ true
   pub more : (head_format two_plans (replicate 16 7)).fits (record (some_head false) { ticks = 4000000001 }) ≡ false
+  pub halts : (head_format two_plans (replicate 16 7)).fits (record (some_head true) { ticks = 3999999999 }) ≡ true
+  pub after : (head_format two_plans (replicate 16 7)).fits (record (some_head true) { ticks = 4000000000 }) ≡ false
   pub time : (head_format two_plans (replicate 16 7)).fits (record (some_head false) { ticks = 1200 }) ≡ true
   pub ahead : (head_format two_plans (replicate 16 7)).fits (record (some_head false) { ticks = 1199 }) ≡ false
 
@@ -117,9 +123,12 @@ pub record LogRows : Type 0 where
 
 -- pages
 pub record PageRows : Type 0 where
-  pub spelled : (loaded : Memory) → (page_format two_plans loaded 0 0).spell (record { address = 0x40001F00; bytes = 9 ∷ [] }) ≡ 64 ∷ 0 ∷ 31 ∷ 0 ∷ 9 ∷ []
-  pub last : (loaded : Memory) → (page_format two_plans loaded 0 0x40001F00).read (cursor_start (64 ∷ 0 ∷ 31 ∷ 0 ∷ [])) ≡ Err (fault.Short 4)
-  pub outside : (loaded : Memory) → (page_format two_plans loaded 0 0).read (cursor_start (64 ∷ 0 ∷ 32 ∷ 0 ∷ [])) ≡ Err (fault.Field 0)
-  pub within : (loaded : Memory) → (page_format two_plans loaded 0 0).read (cursor_start (64 ∷ 0 ∷ 0 ∷ 128 ∷ [])) ≡ Err (fault.Field 0)
-  pub falls : (loaded : Memory) → (page_format two_plans loaded 0 0x40000100).read (cursor_start (64 ∷ 0 ∷ 0 ∷ 0 ∷ [])) ≡ Err (fault.Field 0)
-  pub same : (loaded : Memory) (address : ℕ) → (page_format two_plans loaded 0 0).fits (record { address = address; bytes = loaded_page loaded address }) ≡ false
+  pub spelled : (loaded : Memory) → (page_format some_area loaded 0).spell (record { address = 0x40001F00; bytes = 9 ∷ [] }) ≡ 64 ∷ 0 ∷ 31 ∷ 0 ∷ 9 ∷ []
+  pub last : (loaded : Memory) → (page_format some_area loaded 0x40001F00).read (cursor_start (64 ∷ 0 ∷ 31 ∷ 0 ∷ [])) ≡ Err (fault.Short 4)
+  pub outside : (loaded : Memory) → (page_format some_area loaded 0).read (cursor_start (64 ∷ 0 ∷ 32 ∷ 0 ∷ [])) ≡ Err (fault.Field 0)
+  pub within : (loaded : Memory) → (page_format some_area loaded 0).read (cursor_start (64 ∷ 0 ∷ 0 ∷ 128 ∷ [])) ≡ Err (fault.Field 0)
+  pub falls : (loaded : Memory) → (page_format some_area loaded 0x40000100).read (cursor_start (64 ∷ 0 ∷ 0 ∷ 0 ∷ [])) ≡ Err (fault.Field 0)
+  pub below : (loaded : Memory) → (area_pages_format loaded some_area).read (cursor_start (0 ∷ 0 ∷ 0 ∷ 1 ∷ 63 ∷ 255 ∷ 255 ∷ 0 ∷ [])) ≡ Err (fault.Field 4)
+  pub none : (loaded : Memory) → (pages_format two_plans loaded 0).spell ([] ∷ []) ≡ 0 ∷ 0 ∷ 0 ∷ 0 ∷ []
+  pub areas : (loaded : Memory) → (pages_format two_plans loaded 0).fits [] ≡ false
+  pub same : (loaded : Memory) (address : ℕ) → (page_format some_area loaded 0).fits (record { address = address; bytes = loaded_page loaded address }) ≡ false

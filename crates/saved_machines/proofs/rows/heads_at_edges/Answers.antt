@@ -24,6 +24,8 @@ returns-clause-heads c = record {
   container = refl;
   most = refl;
   more = refl;
+  halts = refl;
+  after = refl;
   time = refl;
   ahead = refl;
 }
