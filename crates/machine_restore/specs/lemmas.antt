@@ -1,1 +1,2 @@
 pub mod RestoreTerms
+pub mod Values

@@ -1,10 +1,12 @@
-//! A system that goes on from given values: the state of each partition, what the channels hold, the plan clock and the
-//! counts. Configuration, images and input words are given apart from them, as for a system that boots.
+//! The system of a saved machine, which goes on from where it was saved: the state of each partition, its input words that
+//! are left, what the channels hold, the plan clock and the counts. Configuration and images are those of its container.
 #![tactic(auto)]
 
+mod inputs;
 mod parts;
-mod values;
 mod whole;
 
-pub use values::{MachineValues, Page, PartValues};
 pub use whole::restore;
+
+#[cfg(test)]
+mod tests;

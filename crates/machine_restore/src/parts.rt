@@ -1,11 +1,12 @@
 //! The state of each partition is put into a system.
 
-ghost use Rattle.std.specs.Prelude.{◌≡◌, ◌<◌, ℕ, IfOk, IfSome, OnOk, length, slice_get};
+ghost use Rattle.std.specs.Prelude.{◌≡◌, ◌<◌, ◌≤◌, ℕ, All, IfOk, IfSome, OnOk, Some, length, map, slice_get};
 ghost use Rattle.system_state.specs.State.{areas_in};
-ghost use Rattle.machine_restore.specs.Values.{ArePages, ArePartValues};
-ghost use Rattle.machine_restore.specs.lemmas.RestoreTerms.{AreStateValues, given_at, own_of, paged, parts_given};
+ghost use Rattle.saved_machines.specs.Restorable.{ArePages};
+ghost use Rattle.machine_restore.specs.lemmas.Values.{ArePartValues};
+ghost use Rattle.machine_restore.specs.lemmas.RestoreTerms.{AreStateValues, all_paged, given_at, own_of, paged, parts_given};
 
-use crate::values::{Page, PartValues};
+use saved_machines::{Page, PartValues};
 use sparc_step::Processor;
 use std::alloc::Global;
 use system_state::{PartState, Sys, restoring};
@@ -17,9 +18,9 @@ use xm_traces::Ring;
 
 /// Each partition has its values.
 pub(crate) fn put_parts(alloc: Global, sys: &mut Sys, parts: &[PartValues]) -> Result<(), Memory>
-    requires counted { length parts.now ≡ length sys.old.machine.parts }
-    requires values { (p : ℕ) → IfSome (slice_get parts.now p) (ArePartValues (areas_in p sys.old.machine)) }
-    ensures { OnOk result (sys.new ≡ parts_given (length parts.now) parts.now sys.old) }
+    requires counted { length sys.old.machine.parts ≤ length parts.now }
+    requires values { (p : ℕ) → p < length sys.old.machine.parts → IfSome (slice_get parts.now p) (ArePartValues (areas_in p sys.old.machine)) }
+    ensures { OnOk result (sys.new ≡ parts_given (length sys.old.machine.parts) parts.now sys.old) }
 {
     for p in 0..sys.count() {
         put_part(alloc, sys, p, &parts[usize::from(p)])?;
@@ -35,7 +36,7 @@ fn put_part(alloc: Global, sys: &mut Sys, p: PartId, part: &PartValues) -> Resul
 {
     let own = state_of(alloc, part)?;
     restoring::set_part(sys, p, own);
-    put_pages(sys, p, &part.pages);
+    put_areas(sys, p, &part.pages);
     Ok(())
 }
 
@@ -70,6 +71,25 @@ fn traps_of(virt: &Virt) -> Virt
         pending: virt.pending,
         mask: virt.mask,
     }
+}
+
+// The memory of a partition has these pages of each of its areas.
+fn put_areas(sys: &mut Sys, p: PartId, areas: &[Vec<Page>])
+    requires there { p < length sys.old.machine.parts }
+    requires pages { All (ArePages (areas_in p sys.old.machine)) (map (λ pages. pages.items) areas.now) }
+    ensures { sys.new ≡ all_paged p (map (λ pages. pages.items) areas.now) sys.old }
+{
+    for n in 0..areas.len() {
+        put_pages(sys, p, pages_at(areas, n));
+    }
+}
+
+// The pages of one area.
+fn pages_at(areas: &[Vec<Page>], n: usize) -> &[Page]
+    requires { n < length areas.now }
+    ensures { slice_get (map (λ pages. pages.items) areas.now) n ≡ Some result.now }
+{
+    &areas[n]
 }
 
 // The memory of a partition has these pages.

@@ -1,32 +1,47 @@
 //! A whole machine goes on.
 
-ghost use Rattle.std.specs.Prelude.{◌≡◌, IfOk, OnOk, length, map};
+ghost use Rattle.std.specs.Prelude.{◌≡◌, [], IfOk, OnOk, length, map};
+ghost use Rattle.saved_machines.specs.Reading.{saved_value};
+ghost use Rattle.saved_machines.specs.Restorable.{IsRestorable};
+ghost use Rattle.saved_machines.specs.Saving.{machine_saved};
 ghost use Rattle.system_state.specs.State.{with_inputs, with_machine};
 ghost use Rattle.xm_ports.specs.Channels.{shapes_of};
 ghost use Rattle.xm_ports.specs.Contents.{EachSuits, content_of};
-ghost use Rattle.machine_restore.specs.Values.{AreValues, restored};
+ghost use Rattle.machine_restore.specs.lemmas.Values.{AreValues, restored};
 ghost use Rattle.machine_restore.specs.lemmas.RestoreTerms.{counted_so, given_all};
 
+use crate::inputs::inputs_of;
 use crate::parts::put_parts;
-use crate::values::MachineValues;
 use cyclic_plans::PlanClock;
 use loaded_system::System;
+use saved_machines::{MachineValues, Saved};
 use std::alloc::Global;
 use system_state::{Inputs, Sys, restoring};
 use xm_base::Memory;
 use xm_ports::{Channels, ContentValue};
 
-/// A system with these values. Its partitions have read none of the input words.
-pub fn restore(
+/// The system of a saved machine: it goes on from where that was saved.
+pub fn restore(alloc: Global, system: System, saved: &Saved) -> Result<Sys, Memory>
+    // Called with a saved machine that was read for this configuration.
+    requires { IsRestorable system.conf (saved_value saved.now) }
+    // The machine is the one that was saved, with the words that its partitions have left as those that they were given,
+    // and its channels have the shapes of the configuration.
+    ensures machine { IfOk result (λ sys. sys.machine ≡ machine_saved (with_inputs system []) (saved_value saved.now)) }
+    ensures shapes { IfOk result (λ sys. sys.shapes ≡ shapes_of system.conf) }
+{
+    let inputs = inputs_of(alloc, system.conf().part_count(), &saved.inputs)?;
+    restore_values(alloc, system, inputs, &saved.values)
+}
+
+// A system with these values. Its partitions have read none of the input words.
+fn restore_values(
     alloc: Global,
     system: System,
     inputs: Inputs,
     values: &MachineValues,
 ) -> Result<Sys, Memory>
-    // Called with inputs for each partition, and with values that fit the configuration.
     requires inputs { length inputs ≡ length system.conf.parts }
     requires values { AreValues system.conf values.now }
-    // The machine has exactly these values, with channels of the configuration's shapes.
     ensures machine { IfOk result (λ sys. sys.machine ≡ restored (with_inputs system inputs) values.now) }
     ensures shapes { IfOk result (λ sys. sys.shapes ≡ shapes_of system.conf) }
 {

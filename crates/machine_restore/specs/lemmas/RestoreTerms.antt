@@ -1,5 +1,6 @@
 -- For proofs and private clauses: what is put into a system, one thing after the other.
-use Rattle.std.specs.Prelude.{◌≡◌, ℕ, zero, suc, List, [], ◌∷◌, length, min}
+use Rattle.std.specs.Prelude.{◌≡◌, ℕ, zero, suc, List, [], ◌∷◌, ◌++◌, length, min}
+use Rattle.std.specs.Int.{to_be_bytes, w32}
 use Rattle.std.specs.Option.{ForSome}
 use Rattle.guest_bus.specs.Memory.{Memory}
 use Rattle.machine_model.specs.Machine.{Machine}
@@ -7,7 +8,14 @@ use Rattle.machine_model.specs.Partition.{PartitionState}
 use Rattle.system_state.specs.State.{OwnState, SysState, input_words_of, memory_of, part_at, with_machine, with_memory, with_part}
 use Rattle.virt_clocks.specs.Clocks.{IsTimer}
 use Rattle.xm_traces.specs.Ring.{RING_ENTRIES}
-use Rattle.machine_restore.specs.Values.{MachineValues, Page, PartValues, with_pages}
+use Rattle.saved_machines.specs.Saving.{with_area_pages, with_saved_pages}
+use Rattle.saved_machines.specs.Saved.{SavedPage}
+use Rattle.saved_machines.specs.Values.{MachineValues, PartValues}
+
+-- the bytes of words, the highest of each first
+abbrev pub word_bytes : List ℕ → List ℕ
+word_bytes [] = []
+word_bytes (word ∷ words) = to_be_bytes w32 word ++ word_bytes words
 
 -- the values of a partition are those of a state without its memory
 pub record AreStateValues (values : PartValues) : Type 0 where
@@ -33,12 +41,17 @@ own_of values = record {
 
 -- a partition with these values, over a memory
 abbrev pub given_part : PartValues → Memory → List ℕ → PartitionState
-given_part values memory words = with_memory (own_of values) (with_pages memory values.pages) words
+given_part values memory words = with_memory (own_of values) (with_area_pages memory values.pages) words
 
 -- the system with these pages in the memory of one partition
-unfoldable pub paged : ℕ → List Page → SysState → SysState
+unfoldable pub paged : ℕ → List SavedPage → SysState → SysState
 paged p pages sys =
-    with_machine (with_part p (record (part_at p sys.machine) { memory = with_pages (memory_of p sys.machine) pages }) sys.machine) sys
+    with_machine (with_part p (record (part_at p sys.machine) { memory = with_saved_pages (memory_of p sys.machine) pages }) sys.machine) sys
+
+-- the system with the pages of each area in the memory of one partition
+unfoldable pub all_paged : ℕ → List (List SavedPage) → SysState → SysState
+all_paged p areas sys =
+    with_machine (with_part p (record (part_at p sys.machine) { memory = with_area_pages (memory_of p sys.machine) areas }) sys.machine) sys
 
 -- the system with these values of one partition
 unfoldable pub given_at : ℕ → PartValues → SysState → SysState
@@ -72,6 +85,6 @@ counted_so values g = record g {
 abbrev pub given_all : MachineValues → Machine → Machine
 given_all values g =
     counted_so values (record g {
-      parts = given_below (length values.parts) values.parts (λ q. input_words_of q g) g.parts;
+      parts = given_below (length g.parts) values.parts (λ q. input_words_of q g) g.parts;
       channels = values.channels;
     })

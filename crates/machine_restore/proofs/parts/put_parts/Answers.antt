@@ -14,8 +14,9 @@ put_part-requires-clause-there c =
 pub put_part-requires-clause-values : goal.put_part-requires-clause-values
 put_part-requires-clause-values c =
     let here = rw c.from.ensures at c.index-parts-from.is in
-    let within : c.loop-p.p < length c.args.parts.now = omega (arith, c.loop-p-test.true, c.count-p-end.ensures.value, c.requires.counted) in
-    values_there c.args.parts.now (λ q. areas_in q c.args.sys.now.machine) (areas_in c.loop-p.p c.loop-p.sys.machine) c.loop-p.p c.index-parts-from.result c.requires.values within here
+    let below : c.loop-p.p < length c.args.sys.now.machine.parts = omega (arith, c.loop-p-test.true, c.count-p-end.ensures.value) in
+    let within : c.loop-p.p < length c.args.parts.now = omega (arith, below, c.requires.counted) in
+    values_there c.args.parts.now (λ q. areas_in q c.args.sys.now.machine) (areas_in c.loop-p.p c.loop-p.sys.machine) (length c.args.sys.now.machine.parts) c.loop-p.p c.index-parts-from.result c.requires.values below within here
     (given_areas c.args.sys.now c.loop-p.sys c.loop-p.p c.loop-p.p c.args.parts.now c.loop-p.invariant)
 
 pub loop-p-preserved : goal.loop-p-preserved

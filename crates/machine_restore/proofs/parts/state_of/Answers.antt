@@ -2,7 +2,7 @@ use Rattle.std.proofs.Common.{List, ap, ◌∙◌}
 use Rattle.health_monitor.specs.declared.entry.HealthEntry.{HealthEntry}
 use Rattle.xm_traces.specs.Ring.{kept_of}
 use Rattle.xm_traces.specs.declared.entry.TraceEntry.{TraceEntry}
-use Rattle.machine_restore.specs.contracts.values.PartValues.{the_view}
+use Rattle.saved_machines.specs.contracts.values.PartValues.{the_view}
 use Rattle.machine_restore.specs.lemmas.RestoreTerms.{own_of}
 use Rattle.machine_restore.proofs.GivenLemmas.{state_given}
 use Rattle.machine_restore.proofs.parts.state_of.Goals as goal
