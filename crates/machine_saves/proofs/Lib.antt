@@ -1,0 +1,5 @@
+mod LoadingLemmas
+mod PageLemmas
+mod PutLemmas
+mod RangeLemmas
+mod SpellingLemmas
