@@ -163,8 +163,8 @@ fit_longer conf ticks most before (line ∷ lines) long fit =
 read_longer : ReadUpsetsAreSpelled → UpsetsAreRead → (conf : Conf) (ticks most : ℕ) (text : List ℕ) (lines : List UpsetLine) → length conf.parts ≤ 2 ^ 64 → ticks ≤ most → most ≤ 2 ^ 64
     → upsets_read conf ticks text ≡ Ok lines → upsets_read conf most text ≡ Ok lines
 read_longer spelled read conf ticks most text lines few long bounded is =
-    let are = spelled conf ticks text lines is in
-    read conf most text lines few bounded (record { spelled = are.spelled; few = are.few; fit = fit_longer conf ticks most 0 lines long are.fit })
+    let are = spelled conf 0 ticks text lines is in
+    read conf 0 most text lines few bounded (record { spelled = are.spelled; few = are.few; fit = fit_longer conf ticks most 0 lines long are.fit })
 
 -- The replay.
 
@@ -246,7 +246,7 @@ runs_replayed all boots law lines_law core_law takes receives spelled read_law r
     let parts : length system.conf.parts ≤ 32 = few_parts system.conf fits in
     let view : view_of lone p ≡ view_of booted p = same_view system inputs p input is.there is.given in
     let most : ticks ≤ TICKS = is.most in
-    let fit : AllFit system.conf ticks 0 upsets = (spelled system.conf ticks struck upsets is.strikes).fit in
+    let fit : AllFit system.conf ticks 0 upsets = (spelled system.conf 0 ticks struck upsets is.strikes).fit in
     let own_script : IsScript system.conf p cues = receives upsets booted p ticks fits (system_in_range container system inputs is.contained is.unpacks) fit (omega (arith, most)) in
     let few : p < 256 = omega (arith, is.there, parts) in
     let read : read_script system.conf p bytes ≡ Ok cues = ap (read_script system.conf p) is.received ∙ reads system.conf p cues few own_script in

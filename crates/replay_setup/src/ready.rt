@@ -122,7 +122,7 @@ fn by_inputs(
     requires count { length inputs ≡ length system.conf.parts }
     ensures { Readies result (with_input system p script struck.now (Ok inputs)) }
 {
-    match read_upsets(alloc, struck, system.conf(), TICKS) {
+    match read_upsets(alloc, struck, system.conf(), 0, TICKS) {
         Ok(upsets) => tried(alloc, container, system, inputs, p, script, upsets, input),
         Err(fault) => Err(bad_upsets(no_upsets(alloc, fault))),
     }

@@ -7,6 +7,7 @@ pub mod HeardLemmas
 pub mod LoneStepLemmas
 pub mod OutLemmas
 pub mod RangeLemmas
+pub mod ResumedLemmas
 pub mod SaidLemmas
 pub mod SpanLemmas
 pub mod StretchLemmas

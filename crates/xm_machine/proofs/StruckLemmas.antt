@@ -7,6 +7,7 @@ use Rattle.xm_outside.specs.Growth.{grown, GrewByPrefix}
 use Rattle.xm_outside.specs.lemmas.GrowthLemmas.{grown-nothing, grown_grown}
 use Rattle.xm_report.specs.Report.{ReportLine, texts}
 use Rattle.xm_report.specs.lemmas.ReportLemmas.{texts-append}
+use Rattle.continuation_laws.specs.Continued.{from_tick}
 use Rattle.uart_board.specs.Heard.{IsHeard}
 use Rattle.uart_board.specs.lemmas.HeardLemmas.{heard_nothing, heard_then}
 use Rattle.uart_board.specs.Views.{BoardView}
@@ -188,17 +189,24 @@ piece_cut most t us old m new had mid got before after runs some here none first
     (subst (λ (x : Machine). IsStepCut most x new mid got) is cut) (subst (λ (x : Machine). IsRunHeard x new before after) is heard)
 
 -- how many ticks have been counted
-pub piece_counted : (done more : ℕ) (us : List UpsetLine) (old new : Machine) → old.halted ≡ false → old.ticks ≡ done → new ≡ run (ready (map upset_of us) old) more → HasCounted (done + more) new
-piece_counted done more us old new runs begun is =
-    let m : Machine = ready (map upset_of us) old in
-    let goes : m.halted ≡ false = ready_halted (map upset_of us) old ∙ runs in
-    let at : m.ticks ≡ done = ready_ticks (map upset_of us) old ∙ begun in
+pub piece_counted : (done more : ℕ) (us : List UpsetLine) (old mid new : Machine) → mid.halted ≡ false → mid.ticks ≡ old.ticks + done → new ≡ run (ready (map upset_of us) mid) more → HasCounted (done + more) old new
+piece_counted done more us old mid new runs begun is =
+    let m : Machine = ready (map upset_of us) mid in
+    let goes : m.halted ≡ false = ready_halted (map upset_of us) mid ∙ runs in
+    let at : m.ticks ≡ old.ticks + done = ready_ticks (map upset_of us) mid ∙ begun in
     let halted : new.halted ≡ (run m more).halted = ap (λ (x : Machine). x.halted) is in
     let ticks : new.ticks ≡ (run m more).ticks = ap (λ (x : Machine). x.ticks) is in
+    let all : new.halted ≡ false → new.ticks ≡ old.ticks + (done + more) = (λ still. omega (arith, ticks, at, ticks_exact more m (sym halted ∙ still))) in
+    let fewer : new.halted ≡ true → new.ticks < old.ticks + (done + more) = (λ stops. omega (arith, ticks, at, ticks_fewer more m goes (sym halted ∙ stops))) in
     record {
-      runs = λ still. omega (arith, ticks, at, ticks_exact more m (sym halted ∙ still));
-      halts = λ stops. omega (arith, ticks, at, ticks_fewer more m goes (sym halted ∙ stops));
+      runs = all;
+      halts = λ began stops. fewer stops;
+      most = either new.halted refl all fewer;
     }
+  where
+    either : (b : Bool) → new.halted ≡ b → (new.halted ≡ false → new.ticks ≡ old.ticks + (done + more)) → (new.halted ≡ true → new.ticks < old.ticks + (done + more)) → new.ticks ≤ old.ticks + (done + more)
+    either true stops all fewer = omega (arith, fewer stops)
+    either false still all fewer = omega (arith, all still)
 
 -- two pieces: their texts, and the bytes of consoles
 both_texts : (j k : ℕ) (t : Timetable) (g m : Machine) → m ≡ upset_run (upsets_of t) g j → texts (reported t g (j + k)) ≡ texts (reported t g j) ++ texts (reported (from j t) m k)
@@ -343,10 +351,10 @@ struck_halted done asked printed t g new had got before after are halts within =
 -- this many ticks of a run with upsets were done, and these lines are to come
 pub record GoesTo (done printed asked : ℕ) (upsets coming : List UpsetLine) (old new : Machine) (had got : Option (List ℕ)) (before after : BoardView) : Type 0 where
   pub within : done ≤ asked
-  pub are : AreStruck done printed (due upsets) old new had got before after
-  pub counted : HasCounted done new
-  pub same : (k : ℕ) → done ≤ k → due coming k ≡ due upsets k
-  pub ordered : new.halted ≡ false → AreOrdered done coming
+  pub are : AreStruck done printed (from_tick old.ticks (due upsets)) old new had got before after
+  pub counted : HasCounted done old new
+  pub same : (k : ℕ) → old.ticks + done ≤ k → due coming k ≡ due upsets k
+  pub ordered : new.halted ≡ false → AreOrdered (old.ticks + done) coming
   pub few : printed + length coming ≤ 41 * done + length upsets
   pub system : new.system ≡ old.system
   pub parts : length new.parts ≡ length old.parts
@@ -357,71 +365,81 @@ pub record GoesStruck (printed asked : ℕ) (upsets coming : List UpsetLine) (ol
   pub to : GoesTo done printed asked upsets coming old new had got before after
 
 -- it begins
-pub begins_struck : (asked : ℕ) (upsets coming : List UpsetLine) (g : Machine) (had : Option (List ℕ)) (board : BoardView) → coming ≡ upsets → g.ticks ≡ 0 → g.halted ≡ false → AreOrdered 0 upsets
+pub begins_struck : (asked : ℕ) (upsets coming : List UpsetLine) (g : Machine) (had : Option (List ℕ)) (board : BoardView) → coming ≡ upsets → AreOrdered g.ticks upsets
     → GoesStruck 0 asked upsets coming g g had had board board
-begins_struck asked upsets coming g had board all fresh running ordered = record {
-  done = 0;
-  to = record {
-    within = omega arith;
-    are = record { state = refl; count = refl; report = sym (grown-nothing had); heard = heard_nothing board };
-    counted = record { runs = λ runs. fresh; halts = λ halts. absurd (let wrong : true ≡ false = sym halts ∙ running in cc) };
-    same = λ k from_here. ap (λ (ls : List UpsetLine). due ls k) all;
-    ordered = λ runs. subst (AreOrdered 0) (sym all) ordered;
-    few = omega (arith, ap length all);
-    system = refl;
-    parts = refl;
-  };
-}
+begins_struck asked upsets coming g had board all ordered =
+    let none : g.ticks ≡ g.ticks + 0 = omega arith in
+    record {
+      done = 0;
+      to = record {
+        within = omega arith;
+        are = record { state = refl; count = refl; report = sym (grown-nothing had); heard = heard_nothing board };
+        counted = record { runs = λ runs. none; halts = λ runs halts. absurd (let wrong : true ≡ false = sym halts ∙ runs in cc); most = omega arith };
+        same = λ k from_here. ap (λ (ls : List UpsetLine). due ls k) all;
+        ordered = λ runs. subst (λ (n : ℕ). AreOrdered n coming) none (subst (AreOrdered g.ticks) (sym all) ordered);
+        few = omega (arith, ap length all);
+        system = refl;
+        parts = refl;
+      };
+    }
 
 -- as many ticks were done as are counted
 pub at_begun : (begun printed asked : ℕ) (upsets coming : List UpsetLine) (old new : Machine) (had got : Option (List ℕ)) (before after : BoardView)
-    → GoesStruck printed asked upsets coming old new had got before after → new.halted ≡ false → begun ≡ new.ticks → GoesTo begun printed asked upsets coming old new had got before after
+    → GoesStruck printed asked upsets coming old new had got before after → new.halted ≡ false → begun ≡ new.ticks
+    → GoesTo (begun - old.ticks) printed asked upsets coming old new had got before after × (begun ≡ old.ticks + (begun - old.ticks))
 at_begun begun printed asked upsets coming old new had got before after goes runs is =
-    subst (λ (n : ℕ). GoesTo n printed asked upsets coming old new had got before after) (sym (is ∙ goes.to.counted.runs runs)) goes.to
+    let done : goes.done ≡ begun - old.ticks = omega (arith, is, goes.to.counted.runs runs) in
+    (subst (λ (n : ℕ). GoesTo n printed asked upsets coming old new had got before after) done goes.to, omega (arith, is, goes.to.counted.runs runs))
+
+-- the lines that are to come are of this tick and later ones
+pub begun_ordered : (begun printed asked : ℕ) (upsets coming : List UpsetLine) (old new : Machine) (had got : Option (List ℕ)) (before after : BoardView)
+    → GoesStruck printed asked upsets coming old new had got before after → new.halted ≡ false → begun ≡ new.ticks → AreOrdered begun coming
+begun_ordered begun printed asked upsets coming old new had got before after goes runs is =
+    subst (λ (n : ℕ). AreOrdered n coming) (sym (is ∙ goes.to.counted.runs runs)) (goes.to.ordered runs)
 
 -- the upsets before the next tick may strike
-pub next_strike : (done printed asked : ℕ) (upsets coming now : List UpsetLine) (old new : Machine) (had got : Option (List ℕ)) (before after : BoardView)
-    → GoesTo done printed asked upsets coming old new had got before after → All (MayStrike old) upsets → now ≡ due coming done → All (MayStrike new) now
-next_strike done printed asked upsets coming now old new had got before after goes may these =
-    subst (λ (ls : List UpsetLine). All (MayStrike new) ls) (sym (these ∙ goes.same done (omega arith)))
-    (λ k d below. may_strike old new (get_or (due upsets done) k d) goes.system goes.parts (due_strike old done upsets may k d below))
+pub next_strike : (done begun printed asked : ℕ) (upsets coming now : List UpsetLine) (old new : Machine) (had got : Option (List ℕ)) (before after : BoardView)
+    → GoesTo done printed asked upsets coming old new had got before after → begun ≡ old.ticks + done → All (MayStrike old) upsets → now ≡ due coming begun → All (MayStrike new) now
+next_strike done begun printed asked upsets coming now old new had got before after goes at may these =
+    subst (λ (ls : List UpsetLine). All (MayStrike new) ls) (sym (these ∙ goes.same begun (omega (arith, at))))
+    (λ k d below. may_strike old new (get_or (due upsets begun) k d) goes.system goes.parts (due_strike old begun upsets may k d below))
 
 -- before the next tick these upsets strike, and none before those up to the next line's
-pub next_upsets : (done next : ℕ) (upsets coming rest now : List UpsetLine) → ((k : ℕ) → done ≤ k → due coming k ≡ due upsets k)
-    → now ≡ due coming done → ((k : ℕ) → done < k → due rest k ≡ due coming k) → ((k : ℕ) → k < next → due rest k ≡ [])
-    → (from done (due upsets) 0 ≡ now) × AreNoneLater (next - done) (from done (due upsets))
-next_upsets done next upsets coming rest now same these later_same none = (here, then)
+pub next_upsets : (first done begun next : ℕ) (upsets coming rest now : List UpsetLine) → begun ≡ first + done → ((k : ℕ) → first + done ≤ k → due coming k ≡ due upsets k)
+    → now ≡ due coming begun → ((k : ℕ) → begun < k → due rest k ≡ due coming k) → ((k : ℕ) → k < next → due rest k ≡ [])
+    → (from done (from_tick first (due upsets)) 0 ≡ now) × AreNoneLater (next - begun) (from done (from_tick first (due upsets)))
+next_upsets first done begun next upsets coming rest now at same these later_same none = (here, then)
   where
-    here : from done (due upsets) 0 ≡ now
+    here : from done (from_tick first (due upsets)) 0 ≡ now
     here =
-        let zero_more : done + 0 ≡ done = omega arith in
-        from_at done 0 (due upsets) ∙ ap (due upsets) zero_more ∙ sym (same done (omega arith)) ∙ sym these
+        let place : first + (done + 0) ≡ begun = omega (arith, at) in
+        from_at done 0 (from_tick first (due upsets)) ∙ ap (due upsets) place ∙ sym (same begun (omega (arith, at))) ∙ sym these
 
-    then : AreNoneLater (next - done) (from done (due upsets))
+    then : AreNoneLater (next - begun) (from done (from_tick first (due upsets)))
     then k below =
-        from_at done (suc k) (due upsets) ∙ sym (same (done + suc k) (omega arith)) ∙ sym (later_same (done + suc k) (omega arith))
-        ∙ none (done + suc k) (omega (arith, below))
+        let place : first + (done + suc k) ≡ begun + suc k = omega (arith, at) in
+        from_at done (suc k) (from_tick first (due upsets)) ∙ ap (due upsets) place ∙ sym (same (begun + suc k) (omega (arith, at))) ∙ sym (later_same (begun + suc k) (omega arith))
+        ∙ none (begun + suc k) (omega (arith, below))
 
 -- it goes on
-pub goes_struck : RunsKeepNumbers → (done printed count asked next : ℕ) (upsets coming rest now : List UpsetLine) (old mid new : Machine) (had between got : Option (List ℕ)) (before board after : BoardView)
-    → GoesTo done printed asked upsets coming old mid had between before board → mid.halted ≡ false
-    → done < next → next ≤ asked → coming ≡ now ++ rest → ((k : ℕ) → done < k → due rest k ≡ due coming k) → AreOrdered next rest
-    → AreStruck (next - done) count (from done (due upsets)) mid new between got board after
-    → new ≡ run (ready (map upset_of now) mid) (next - done) → count ≤ 41 * (next - done) + length now
+pub goes_struck : RunsKeepNumbers → (done begun printed count asked next : ℕ) (upsets coming rest now : List UpsetLine) (old mid new : Machine) (had between got : Option (List ℕ)) (before board after : BoardView)
+    → GoesTo done printed asked upsets coming old mid had between before board → begun ≡ old.ticks + done → mid.halted ≡ false
+    → begun < next → next ≤ old.ticks + asked → coming ≡ now ++ rest → ((k : ℕ) → begun < k → due rest k ≡ due coming k) → AreOrdered next rest
+    → AreStruck (next - begun) count (from done (from_tick old.ticks (due upsets))) mid new between got board after
+    → new ≡ run (ready (map upset_of now) mid) (next - begun) → count ≤ 41 * (next - begun) + length now
     → GoesStruck (printed + count) asked upsets rest old new had got before after
-goes_struck keeps done printed count asked next upsets coming rest now old mid new had between got before board after goes runs nearer within all later_same ordered more is few =
-    let sum : done + (next - done) ≡ next = omega (arith, nearer) in
+goes_struck keeps done begun printed count asked next upsets coming rest now old mid new had between got before board after goes at runs nearer within all later_same ordered more is few =
     let m : Machine = ready (map upset_of now) mid in
-    let many : IsAsMany m (run m (next - done)) = keeps m (next - done) in
+    let many : IsAsMany m (run m (next - begun)) = keeps m (next - begun) in
+    let place : next ≡ old.ticks + (done + (next - begun)) = omega (arith, at, nearer) in
     record {
-      done = next;
+      done = done + (next - begun);
       to = record {
-        within = within;
-        are = subst (λ (n : ℕ). AreStruck n (printed + count) (due upsets) old new had got before after) sum
-            (struck_on done (next - done) printed count (due upsets) old mid new had between got before board after goes.are more);
-        counted = subst (λ (n : ℕ). HasCounted n new) sum (piece_counted done (next - done) now mid new runs (goes.counted.runs runs) is);
-        same = λ k from_here. later_same k (omega (arith, nearer, from_here)) ∙ goes.same k (omega (arith, nearer, from_here));
-        ordered = λ still. ordered;
+        within = omega (arith, at, nearer, within);
+        are = struck_on done (next - begun) printed count (from_tick old.ticks (due upsets)) old mid new had between got before board after goes.are more;
+        counted = piece_counted done (next - begun) now old mid new runs (goes.counted.runs runs) is;
+        same = λ k from_here. later_same k (omega (arith, at, nearer, from_here)) ∙ goes.same k (omega (arith, at, nearer, from_here));
+        ordered = λ still. subst (λ (n : ℕ). AreOrdered n rest) place ordered;
         few = omega (arith, goes.few, few, nearer, ap length all, length-append now rest);
         system = ap (λ (x : Machine). x.system) is ∙ many.system ∙ ready_system (map upset_of now) mid ∙ goes.system;
         parts = ap (λ (x : Machine). length x.parts) is ∙ many.parts ∙ ready_all_counted now mid ∙ goes.parts;
@@ -444,15 +462,21 @@ struck_nearer asked done us old new runs below some is =
 
 -- what has been done of it when it ends: the hypervisor has halted, or all ticks are done
 pub struck_out : (printed asked : ℕ) (upsets coming : List UpsetLine) (old new : Machine) (had got : Option (List ℕ)) (before after : BoardView)
-    → GoesStruck printed asked upsets coming old new had got before after → (new.halted ≡ false → asked ≤ new.ticks)
-    → AreStruck asked printed (due upsets) old new had got before after × HasCounted asked new
+    → GoesStruck printed asked upsets coming old new had got before after → (new.halted ≡ false → old.ticks + asked ≤ new.ticks)
+    → AreStruck asked printed (from_tick old.ticks (due upsets)) old new had got before after × HasCounted asked old new
 struck_out printed asked upsets coming old new had got before after goes ends = at new.halted refl
   where
-    at : (b : Bool) → new.halted ≡ b → AreStruck asked printed (due upsets) old new had got before after × HasCounted asked new
+    at : (b : Bool) → new.halted ≡ b → AreStruck asked printed (from_tick old.ticks (due upsets)) old new had got before after × HasCounted asked old new
     at true halts = (
-      struck_halted goes.done asked printed (due upsets) old new had got before after goes.to.are halts goes.to.within,
-      record { runs = λ runs. absurd (let wrong : true ≡ false = sym halts ∙ runs in cc); halts = λ stops. omega (arith, goes.to.counted.halts stops, goes.to.within) },
+      struck_halted goes.done asked printed (from_tick old.ticks (due upsets)) old new had got before after goes.to.are halts goes.to.within,
+      record {
+        runs = λ runs. absurd (let wrong : true ≡ false = sym halts ∙ runs in cc);
+        halts = λ began stops. omega (arith, goes.to.counted.halts began stops, goes.to.within);
+        most = omega (arith, goes.to.counted.most, goes.to.within);
+      },
     )
     at false runs =
-        let all : goes.done ≡ asked = omega (arith, goes.to.counted.runs runs, ends runs, goes.to.within) in
-        (subst (λ (n : ℕ). AreStruck n printed (due upsets) old new had got before after) all goes.to.are, subst (λ (n : ℕ). HasCounted n new) all goes.to.counted)
+        let all : goes.done ≡ asked = omega (arith, goes.to.counted.runs runs, ends runs, goes.to.within) in (
+          subst (λ (n : ℕ). AreStruck n printed (from_tick old.ticks (due upsets)) old new had got before after) all goes.to.are,
+          subst (λ (n : ℕ). HasCounted n old new) all goes.to.counted,
+        )

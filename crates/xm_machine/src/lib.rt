@@ -1,4 +1,4 @@
-//! The machine: it boots a system, does its ticks, and writes the report of a run.
+//! The machine: it boots a system or goes on from a saved machine, does its ticks, and writes the report of a run.
 //! Its meaning is the state of the whole machine of `machine_model`, and what is kept of its last tick. `report_of` of
 //! the booted machine is `report` of `machine_model`, so its laws hold of what is printed.
 #![tactic(auto)]

@@ -1,8 +1,9 @@
-//! The machine: it boots, and does its ticks one by one.
+//! The machine: it boots or goes on, and does its ticks one by one.
 
 ghost use Rattle.std.specs.Prelude.{◌≡◌, ◌+◌, ◌-◌, ◌*◌, ◌<◌, ◌≤◌, ◌∷◌, ◌++◌, [], false, All, IfOk, length, map, replicate};
 ghost use Rattle.cyclic_plans.specs.PlanClock.{started};
 ghost use Rattle.system_state.specs.State.{with_inputs};
+ghost use Rattle.continuation_laws.specs.Onward.{coming};
 ghost use Rattle.core_files.specs.Length.{core_length_of};
 ghost use Rattle.machine_model.specs.CoreFile.{core_file};
 ghost use Rattle.machine_model.specs.Lines.{console, end_lines};
@@ -10,10 +11,13 @@ ghost use Rattle.machine_model.specs.Machine.{run, start};
 ghost use Rattle.machine_model.specs.Partition.{reset};
 ghost use Rattle.machine_model.specs.Emission.{AllReset};
 ghost use Rattle.machine_model.specs.View.{view_of};
+ghost use Rattle.saved_machines.specs.Reading.{saved_value};
+ghost use Rattle.saved_machines.specs.Restorable.{IsRestorable};
+ghost use Rattle.saved_machines.specs.Saving.{machine_saved};
 ghost use Rattle.span_model.specs.Passes.{evented, part_at, with_part};
 ghost use Rattle.upset_files.specs.Fits.{AllFit};
 ghost use Rattle.upset_model.specs.Coming.{AreOrdered};
-ghost use Rattle.upset_model.specs.Places.{Timetable, due, upset_of};
+ghost use Rattle.upset_model.specs.Places.{Timetable, upset_of};
 ghost use Rattle.upset_model.specs.lemmas.Segments.{AreNoneLater};
 ghost use Rattle.upset_model.specs.Upsets.{ready};
 ghost use Rattle.uart_board.specs.Heard.{IsHeard};
@@ -56,7 +60,9 @@ use machine_model::{
     all_ticks, boots_alone, keeps_facts, keeps_hardware_clock, keeps_numbers, keeps_plans,
     own_lines, trades_few_bytes,
 };
+use machine_restore::restore;
 use replay_tick::{span_alone, tick_alone};
+use saved_machines::{Saved, restorable_machines_keep_facts};
 use span_engine::{Engine, Place, reset_all};
 use std::alloc::Global;
 use std::marker::Model;
@@ -69,7 +75,7 @@ use xm_outside::Sink;
 use xm_ports::Channels;
 use xm_report::{Line, WriteFault, put_line};
 
-/// A machine that was booted.
+/// A machine that was booted, or goes on from a saved one.
 #[derive(Debug, Drop)]
 pub struct Machine {
     sys: Sys,
@@ -111,6 +117,27 @@ impl Machine {
         }
         Ok(Machine {
             sys: Sys::new(alloc, system, inputs)?,
+            lines: Lines::new(alloc)?,
+            kept: Engine::new(alloc)?,
+            said: Said::nothing(),
+        })
+    }
+
+    /// The machine that was saved so, which goes on from there. All memory of a run is taken here.
+    pub fn resume(alloc: Global, system: System, saved: &Saved) -> Result<Machine, Memory>
+        // Called with a saved machine that was read for this configuration.
+        requires { IsRestorable system.conf (saved_value saved.now) }
+        // The machine is the one that was saved, with the words that its partitions have left as those that they were
+        // given, and keeps nothing of a tick: each partition is away and received nothing.
+        ensures state { IfOk result (λ machine. machine.state ≡ machine_saved (with_inputs system []) (saved_value saved.now)) }
+        ensures kept { IfOk result (λ machine. machine.kept ≡ no_kept) }
+    {
+        proof! {
+            restorable_machines_keep_facts();
+            let _ = system.conf();
+        }
+        Ok(Machine {
+            sys: restore(alloc, system, saved)?,
             lines: Lines::new(alloc)?,
             kept: Engine::new(alloc)?,
             said: Said::nothing(),
@@ -339,8 +366,9 @@ impl Machine {
         })
     }
 
-    /// The run of this many ticks with the upsets of a file, as `run`, and with a line for each upset that strikes, before the lines of its
-    /// tick. After `WriteFault` at such a line the upsets of that tick have not struck.
+    /// The run of this many ticks more with the upsets of a file, as `run`, and with a line for each upset that strikes, before the lines
+    /// of its tick. Ticks count from the boot, in the upsets and in the report. After `WriteFault` at the line of an upset those of that
+    /// tick have not struck.
     pub fn run_struck<O: Sink>(
         &mut self,
         ticks: u64,
@@ -348,17 +376,16 @@ impl Machine {
         out: &mut O,
         board: &mut Board,
     ) -> Result<Ran, WriteFault>
-        // Called at tick 0, on a machine that has not halted, and for at most the limit of ticks,
-        requires fresh { self.old.state.ticks ≡ 0 }
-        requires running { self.old.state.halted ≡ false }
-        requires most { ticks ≤ TICKS }
-        // and with upsets that fit the system and this many ticks, in the order of their ticks.
-        requires fit { AllFit self.old.state.system.conf ticks 0 upsets.now }
-        // A run with upsets: the state is that of as many defined steps, before each of which the upsets of its tick strike,
-        // and the whole report of the definitions went out; `Ran` has its ticks, fewer than asked exactly where the
-        // hypervisor halted, its lines and whether it halted; after `WriteFault` a prefix of the report, the current tick
-        // done and no later one. The state, the report and what each UART of the board got are those of one number of
-        // ticks.
+        // Called for ticks within the limit,
+        requires most { self.old.state.ticks + ticks ≤ TICKS }
+        // and with upsets that fit the system and these ticks, in the order of their ticks.
+        requires fit { AllFit self.old.state.system.conf (self.old.state.ticks + ticks) self.old.state.ticks upsets.now }
+        // A run with upsets from the machine that it is: the state is that of as many defined steps, before each of which
+        // the upsets of its tick strike, and the whole report of the definitions went out, whose first line has the ticks
+        // since the boot; `Ran` has the ticks since the boot, fewer than these exactly where the hypervisor halts in the
+        // run, its lines and whether it has halted; after `WriteFault` a prefix of the report, the current tick done and
+        // no later one. The state, the report and what each UART of the board got are those of one number of ticks. A
+        // machine that has halted stays as it is.
         ensures run { IsStruckRun result upsets.now ticks self.old.state self.new.state (O.got out.old) (O.got out.new) (⟦<Board as ViewBoard>⟧.board_view board.old) (⟦<Board as ViewBoard>⟧.board_view board.new) }
         // `WriteFault` comes only where the sink's count rose, and nothing else moves it.
         ensures cause { HasWriteCause result (O.faults out.old) (O.faults out.new) }
@@ -369,7 +396,7 @@ impl Machine {
             keeps_numbers();
             places_are_spelled();
         }
-        put_line(out, &first_line(&self.sys, ticks))?;
+        put_line(out, &first_line(&self.sys, self.sys.ticks() + ticks))?;
         let reported = self.struck_ticks(ticks, upsets, out, board)?;
         let ended = self.end(out)?;
         Ok(Ran {
@@ -640,7 +667,7 @@ impl Machine {
         Ok(printed)
     }
 
-    // Ticks up to this many in all, or to the one in which the hypervisor halts, with these upsets, and how many lines were printed.
+    // This many ticks more, or those up to the one in which the hypervisor halts, with these upsets, and how many lines were printed.
     fn struck_ticks<O: Sink>(
         &mut self,
         ticks: u64,
@@ -648,24 +675,23 @@ impl Machine {
         out: &mut O,
         board: &mut Board,
     ) -> Result<u64, WriteFault>
-        requires fresh { self.old.state.ticks ≡ 0 }
-        requires running { self.old.state.halted ≡ false }
-        requires most { ticks ≤ TICKS }
+        requires most { self.old.state.ticks + ticks ≤ TICKS }
         requires strike { All (MayStrike self.old.state) upsets.now }
-        requires ordered { AreOrdered 0 upsets.now }
-        ensures run { RunsStruck result (due upsets.now) ticks self.old.state self.new.state (O.got out.old) (O.got out.new) (⟦<Board as ViewBoard>⟧.board_view board.old) (⟦<Board as ViewBoard>⟧.board_view board.new) }
-        ensures counted { IfOk result (λ printed. HasCounted ticks self.new.state) }
+        requires ordered { AreOrdered self.old.state.ticks upsets.now }
+        ensures run { RunsStruck result (coming upsets.now self.old.state) ticks self.old.state self.new.state (O.got out.old) (O.got out.new) (⟦<Board as ViewBoard>⟧.board_view board.old) (⟦<Board as ViewBoard>⟧.board_view board.new) }
+        ensures counted { IfOk result (λ printed. HasCounted ticks self.old.state self.new.state) }
         ensures few { IfOk result (λ printed. printed ≤ 41 * ticks + length upsets.now) }
         ensures cause { HasWriteCause result (O.faults out.old) (O.faults out.new) }
         ensures counters { IsCounted self.new.state }
     {
         proof! { keeps_numbers(); }
+        let end = self.sys.ticks() + ticks;
         let mut coming = Coming::new(upsets);
         let mut printed = 0;
-        while !self.sys.halted() && self.sys.ticks() < ticks {
+        while !self.sys.halted() && self.sys.ticks() < end {
             let begun = self.sys.ticks();
             let now = coming.due(begun);
-            let count = coming.next(ticks) - begun;
+            let count = coming.next(end) - begun;
             printed += self.struck_piece(now, count, out, board)?;
         }
         Ok(printed)

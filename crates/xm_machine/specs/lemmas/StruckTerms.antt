@@ -1,5 +1,5 @@
 -- For proofs and private clauses: ticks of a run with upsets, and what the sink and the board got of them.
-use Rattle.std.specs.Prelude.{◌≡◌, ℕ, ◌<◌, ◌≤◌, true, false, List, length, Option, Result, Ok, Err}
+use Rattle.std.specs.Prelude.{◌≡◌, ℕ, ◌+◌, ◌<◌, ◌≤◌, true, false, List, length, Option, Result, Ok, Err}
 use Rattle.xm_outside.specs.Growth.{grown, GrewByPrefix}
 use Rattle.xm_report.specs.Report.{texts}
 use Rattle.xm_report.specs.declared.output.WriteFault.{WriteFault}
@@ -32,7 +32,8 @@ abbrev pub RunsStruck : Result ℕ WriteFault → Timetable → ℕ → Machine 
 RunsStruck (Ok printed) t ticks old new had got before after = AreStruck ticks printed t old new had got before after
 RunsStruck (Err fault) t ticks old new had got before after = IsStruckCut ticks t old new had got before after
 
--- how many ticks it has counted: all of this many, or fewer where the hypervisor has halted
-pub record HasCounted (asked : ℕ) (g : Machine) : Type 0 where
-  pub runs : g.halted ≡ false → g.ticks ≡ asked
-  pub halts : g.halted ≡ true → g.ticks < asked
+-- how many ticks it has counted in this many: all of them, or fewer where the hypervisor halts in them; one that has halted counts none
+pub record HasCounted (asked : ℕ) (old new : Machine) : Type 0 where
+  pub runs : new.halted ≡ false → new.ticks ≡ old.ticks + asked
+  pub halts : old.halted ≡ false → new.halted ≡ true → new.ticks < old.ticks + asked
+  pub most : new.ticks ≤ old.ticks + asked

@@ -11,4 +11,4 @@ invariant-loop-self g l = record {
 }
 
 abbrev pub decreases-loop-self : goal.decreases-loop-self
-decreases-loop-self g l = to_come l.ticks l.self.state
+decreases-loop-self g l = to_come l.end l.self.state
