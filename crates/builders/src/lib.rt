@@ -22,7 +22,7 @@ pub use law::shows_steerers;
 pub use made_file::{MadeFile, make_file};
 pub use printout::{Printout, printout_text};
 pub use scripting::no_script;
-pub use striking::no_upsets;
+pub use striking::{no_machine, no_upsets};
 pub use success::ok_line;
 pub use unmade::Unmade;
 pub use upgrading::no_configuration;

@@ -73,6 +73,10 @@ more_to_read all later contents parts others named before now is had = subst (λ
 pub none_to_read : (all later contents : List (List ℕ)) (parts : List PartFile) (before now : Outside) → parts ≡ [] → HasRead all (file_names parts ++ later) contents before now → HasRead all later contents before now
 none_to_read all later contents parts before now none had = subst (λ (files : List PartFile). HasRead all (file_names files ++ later) contents before now) none had
 
+-- what is still to be read is the first of it, and then the others together
+pub rest_grouped : (all first middle last contents : List (List ℕ)) (before now : Outside) → HasRead all (first ++ middle ++ last) contents before now → HasRead all (first ++ (middle ++ last)) contents before now
+rest_grouped all first middle last contents before now had = subst (λ (files : List (List ℕ)). HasRead all files contents before now) (append_assoc first middle last) had
+
 -- what is still to be read is that, with nothing after it
 pub rest_named : (all rest contents : List (List ℕ)) (before now : Outside) → HasRead all rest contents before now → HasRead all (rest ++ []) contents before now
 rest_named all rest contents before now had = subst (λ (files : List (List ℕ)). HasRead all files contents before now) (sym (append-nil rest)) had

@@ -48,6 +48,10 @@ length_text found = codes "image length=" ++ decimal found
 unfoldable pub ticks_text : ℕ → List ℕ
 ticks_text asked = codes "ticks asked=" ++ decimal asked
 
+-- the fault text of a saved machine that is too long for a file
+unfoldable pub saved_text : ℕ → List ℕ
+saved_text found = codes "length found=" ++ decimal found
+
 -- the fault text of an input for a partition that a system does not have
 unfoldable pub partition_text : ℕ → List ℕ
 partition_text id = codes "partition id=" ++ decimal id

@@ -3,11 +3,11 @@ use Rattle.std.specs.Prelude.{◌≡◌, ℕ, List, map, codes, None, Vec, Resul
 use Rattle.std.specs.String.{string_bytes}
 use Rattle.xm_base.specs.declared.limits.TheConstants.{FILE_BYTES}
 use Rattle.xm_outside.specs.Files.{ReadsFile}
-use Rattle.file_commands.specs.Ending.{Ending, Done, Usage, ReadFault, Refused, WriteFaultReport, WriteFaultFile, UartFault, NoMemory, input_text, length_text, partition_text, ticks_text}
+use Rattle.file_commands.specs.Ending.{Ending, Done, Usage, ReadFault, Refused, WriteFaultReport, WriteFaultFile, UartFault, NoMemory, input_text, length_text, partition_text, saved_text, ticks_text}
 use Rattle.file_commands.specs.Outcome.{Output}
 use Rattle.file_commands.specs.Work.{Outside, AreNotRead, AreNotSaved, IsNotRead, ReadsFiles, SavesAll, after_store_call, called_for}
 use Rattle.file_commands.specs.declared.ending.Refusal.{Refusal}
-use Rattle.file_commands.specs.declared.ending.Refusal.TheVariants.{TooLong, Length, Ticks, Partition, Input, Fault}
+use Rattle.file_commands.specs.declared.ending.Refusal.TheVariants.{TooLong, Length, Ticks, Saved, Partition, Input, Fault}
 use Rattle.file_commands.specs.declared.ending.Ending as code
 use Rattle.file_commands.specs.declared.ending.Ending.TheVariants as variant
 
@@ -16,6 +16,7 @@ abbrev pub refusal_text : Refusal → List ℕ
 refusal_text TooLong = codes "too-long"
 refusal_text (Length found) = length_text found
 refusal_text (Ticks asked) = ticks_text asked
+refusal_text (Saved found) = saved_text found
 refusal_text (Partition id) = partition_text id
 refusal_text (Input found) = input_text found
 refusal_text (Fault text) = string_bytes text

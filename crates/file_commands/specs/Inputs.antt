@@ -1,7 +1,7 @@
 -- The input words of partitions, by the files that a run is given for them.
 use Rattle.std.specs.Prelude.{ℕ, ◌%◌, nat_eq, nat_le, if◌then◌else◌, List, [], ◌∷◌, length, replicate, slice_set, Option, Some, None, Result, Ok, Err}
 use Rattle.system_state.specs.Inputs.{words_in}
-use Rattle.command_line.specs.Words.{PartFile, RunOption, Length, Upsets, ForPart, inputs_in}
+use Rattle.command_line.specs.Words.{PartFile, RunOption, Length, ForRun, ForPart, inputs_in}
 use Rattle.file_commands.specs.Denial.{Denial}
 use Rattle.file_commands.specs.Ending.{input_text, partition_text}
 use Rattle.file_commands.specs.Packing.{denial}
@@ -13,7 +13,7 @@ no_inputs parts = replicate parts []
 -- the file that an option names, where its partition is none of this many
 abbrev pub named_beyond : ℕ → RunOption → Option PartFile
 named_beyond parts (Length span) = None
-named_beyond parts (Upsets file) = None
+named_beyond parts (ForRun kind file) = None
 named_beyond parts (ForPart kind named) = if nat_le parts named.part then Some named else None
 
 -- the first of these, where there is one, or else what comes after it

@@ -6,15 +6,21 @@ use Rattle.xm_conf.specs.Configuration.{Conf}
 use Rattle.cyclic_plans.specs.Slots.{frame_of}
 use Rattle.machine_model.specs.CoreFile.{core_file}
 use Rattle.machine_model.specs.Cue.{Cue}
-use Rattle.machine_model.specs.Machine.{Machine}
+use Rattle.machine_model.specs.Machine.{Machine, start}
 use Rattle.machine_model.specs.View.{System as Booted, view_of}
-use Rattle.upset_model.specs.Reports.{after_run, received_in, upset_report}
+use Rattle.upset_model.specs.Reports.{received_in}
 use Rattle.upset_model.specs.declared.upset_line.UpsetLine.{UpsetLine}
-use Rattle.upset_files.specs.Reading.{upsets_read}
+use Rattle.upset_files.specs.Reading.{upsets_from}
 use Rattle.upset_files.specs.Texts.{upset_fault_text}
 use Rattle.upset_files.specs.declared.fault.UpsetFault.{UpsetFault}
 use Rattle.generated_system.specs.Reported.{generated_text}
 use Rattle.system_state.specs.State.{part_at, with_inputs}
+use Rattle.continuation_laws.specs.Onward.{after_ticks, report_from}
+use Rattle.saved_machines.specs.Saved.{SavedMachine}
+use Rattle.saved_machines.specs.SavedFormat.{saved_format}
+use Rattle.saved_machines.specs.Saving.{loaded_of, machine_saved, saved_file, stored_digest}
+use Rattle.saved_machines.specs.Texts.{saved_fault_text}
+use Rattle.saved_machines.specs.declared.fault.SavedFault.{SavedFault}
 use Rattle.cue_scripts.specs.Spelling.{script_text}
 use Rattle.fault_messages.specs.Texts.{script_fault_text}
 use Rattle.fault_messages.specs.declared.fault.ScriptFault.TheVariants as script_fault
@@ -24,11 +30,11 @@ use Rattle.loaded_system.specs.System.{System}
 use Rattle.xm_container.specs.Reading.{unpacked}
 use Rattle.fault_messages.specs.Texts.{box_fault_text}
 use Rattle.fault_messages.specs.declared.fault.BoxFault.{BoxFault}
-use Rattle.command_line.specs.Words.{Command, PartFile, RunOption, Bare, Parse, Upgrade, BuildImage, ReadImage, Pack, ListContainer, CheckContainer, MakePlan, CheckPlan, ListGroups, ListSteerers, Generate, Run, Replay, ReplayFile, cores_in, inputs_in, replay_core, replay_input, replay_upsets, span_in, scripts_in, upsets_in}
+use Rattle.command_line.specs.Words.{Command, PartFile, RunOption, Bare, Parse, Upgrade, BuildImage, ReadImage, Pack, ListContainer, CheckContainer, MakePlan, CheckPlan, ListGroups, ListSteerers, Generate, Run, Replay, ReplayFile, cores_in, from_in, inputs_in, replay_core, replay_input, replay_upsets, save_in, span_in, scripts_in, upsets_in}
 use Rattle.command_line.specs.declared.commands.Span.{Span}
 use Rattle.command_line.specs.declared.commands.Span.TheVariants.{Frames, Ticks}
 use Rattle.file_commands.specs.Denial.{Denial}
-use Rattle.file_commands.specs.Ending.{input_text, length_text, partition_text, ticks_text}
+use Rattle.file_commands.specs.Ending.{input_text, length_text, partition_text, saved_text, ticks_text}
 use Rattle.builders.specs.Grouping.{groups_of}
 use Rattle.builders.specs.Steering.{steering_of}
 use Rattle.builders.specs.Imaging.{container_lines_of, container_verdict_of, image_lines_of, xef_of}
@@ -44,10 +50,10 @@ pub record Output : Type 0 where
   pub file : List ℕ
   pub bytes : List ℕ
 
--- a run: the system, with the input words of its partitions, the upsets that strike it, and its number of ticks; or one partition of the system alone, with
--- the upsets of a file, of which its own strike it, and all that it receives
+-- a run: the machine that it begins with, the upsets that strike it, and its number of ticks; or one partition of a system alone, with the upsets of a file,
+-- of which its own strike it, and all that it receives
 pub data Running : Type 0 where
-  Together : (system : Booted) (upsets : List UpsetLine) (ticks : ℕ) → Running
+  Together : (machine : Machine) (upsets : List UpsetLine) (ticks : ℕ) → Running
   Apart : (system : Booted) (p : ℕ) (upsets : List UpsetLine) (cues : List Cue) → Running
 
 -- the outcome of a command: its refusal, if there is one, the file that it writes first, what goes to the report, the files that it writes after
@@ -72,9 +78,10 @@ abbrev pub name_if_any : Option (List ℕ) → List (List ℕ)
 name_if_any None = []
 name_if_any (Some file) = file ∷ []
 
--- the files that a run reads beside its container: those of input words in the order of its words, and that of its upsets, where there is one
+-- the files that a run reads beside its container: those of input words in the order of its words, that of its upsets, where there is one, and the saved machine
+-- that it goes on from, where it does
 abbrev pub run_inputs : List RunOption → List (List ℕ)
-run_inputs options = file_names (inputs_in options) ++ name_if_any (upsets_in options)
+run_inputs options = file_names (inputs_in options) ++ name_if_any (upsets_in options) ++ name_if_any (from_in options)
 
 -- the files that a replay reads beside its container and its script: that of input words and that of its upsets, where there are such
 abbrev pub replay_inputs : List ReplayFile → List (List ℕ)
@@ -131,7 +138,7 @@ later_of (CheckPlan description) = []
 later_of (ListGroups description) = []
 later_of (ListSteerers description) = []
 later_of (Generate number) = []
-later_of (Run container options) = file_names (cores_in options) ++ file_names (scripts_in options)
+later_of (Run container options) = file_names (cores_in options) ++ file_names (scripts_in options) ++ name_if_any (save_in options)
 later_of (Replay container part script options) = name_if_any (replay_core options)
 
 -- the core file of a partition of a machine, under the name that is given for it
@@ -173,32 +180,47 @@ scripts_for upsets system ticks [] = Ok []
 scripts_for upsets system ticks (named ∷ scripts) =
     unless_denied (script_denial upsets system ticks named) (script_before (script_output upsets system ticks named) (scripts_for upsets system ticks scripts))
 
--- the outcome of a run of this many ticks with upsets, of a system whose partitions have these input words, with these core files, and with scripts after
--- them
-unfoldable pub outcome_of_run : List UpsetLine → ℕ → List PartFile → List Output → System → List (List ℕ) → Outcome
-outcome_of_run upsets ticks cores scripts system inputs = record {
+-- the outcome of a run of this many ticks with upsets, from this machine on, with these core files, and with these files after them
+unfoldable pub outcome_of_run : List UpsetLine → ℕ → List PartFile → List Output → Machine → Outcome
+outcome_of_run upsets ticks cores made g = record {
   denial = None;
   output = None;
-  report = texts (upset_report upsets (with_inputs system inputs) ticks);
-  later = core_outputs (after_run upsets (with_inputs system inputs) ticks) cores ++ scripts;
-  run = Some (Together (with_inputs system inputs) upsets ticks);
+  report = texts (report_from upsets g ticks);
+  later = core_outputs (after_ticks upsets g ticks) cores ++ made;
+  run = Some (Together g upsets ticks);
 }
 
 -- the outcome of a raw image, run for this many ticks without input words
 unfoldable pub bare_outcome : List ℕ → ℕ → List ℕ → Outcome
 bare_outcome file ticks image =
     if (length image == 0) || nat_lt IMAGE_BYTES (length image) then command_refused file (length_text (length image))
-    else outcome_of_run [] ticks [] [] (bare_system image) (no_inputs 1)
+    else outcome_of_run [] ticks [] [] (start (with_inputs (bare_system image) (no_inputs 1)))
 
 -- how many ticks a run asks for, under a configuration: major frames are those of plan 0
 abbrev pub ticks_asked : Span → Conf → ℕ
 ticks_asked (Frames count) conf = count * frame_of conf 0
 ticks_asked (Ticks count) conf = count
 
--- the outcome of a run with scripts, or the refusal of one of them
-abbrev pub ran_scripted : List UpsetLine → ℕ → List PartFile → System → List (List ℕ) → Result (List Output) Denial → Outcome
-ran_scripted upsets ticks cores system inputs (Ok scripts) = outcome_of_run upsets ticks cores scripts system inputs
-ran_scripted upsets ticks cores system inputs (Err refusal) = refused_by refusal
+-- the file of a machine after a run of a container, where one is named for it; or its refusal, where it is too long for a file
+abbrev pub save_for : Option (List ℕ) → List ℕ → Machine → Result (List Output) Denial
+save_for None box g = Ok []
+save_for (Some file) box g =
+    if nat_lt FILE_BYTES (length (saved_file (stored_digest box) g)) then Err (denial file (saved_text (length (saved_file (stored_digest box) g))))
+    else Ok (record { file = file; bytes = saved_file (stored_digest box) g } ∷ [])
+
+-- files, and others after them, or the first refusal
+abbrev pub made_after : List Output → Result (List Output) Denial → Result (List Output) Denial
+made_after outputs (Ok others) = Ok (outputs ++ others)
+made_after outputs (Err refusal) = Err refusal
+
+abbrev pub made_both : Result (List Output) Denial → Result (List Output) Denial → Result (List Output) Denial
+made_both (Ok outputs) others = made_after outputs others
+made_both (Err refusal) others = Err refusal
+
+-- the outcome of a run with files that are made of it, or the refusal of one of them
+abbrev pub ran_making : List UpsetLine → ℕ → List PartFile → Machine → Result (List Output) Denial → Outcome
+ran_making upsets ticks cores g (Ok made) = outcome_of_run upsets ticks cores made g
+ran_making upsets ticks cores g (Err refusal) = refused_by refusal
 
 -- the content of the file of this number
 abbrev pub content : ℕ → List (List ℕ) → List ℕ
@@ -209,46 +231,69 @@ abbrev pub upsets_or : List ℕ → Result (List UpsetLine) UpsetFault → Resul
 upsets_or file (Ok upsets) = Ok upsets
 upsets_or file (Err fault) = Err (denial file (upset_fault_text fault))
 
--- the upsets of a run of this many ticks under a configuration, by the bytes of their file: none where no file is named
-abbrev pub upsets_named : Option (List ℕ) → Conf → ℕ → List ℕ → Result (List UpsetLine) Denial
-upsets_named None conf ticks bytes = Ok []
-upsets_named (Some file) conf ticks bytes = upsets_or file (upsets_read conf ticks bytes)
+-- the upsets of a run from a tick on, of this many more ticks, under a configuration, by the bytes of their file: none where no file is named
+abbrev pub upsets_named : Option (List ℕ) → Conf → ℕ → ℕ → List ℕ → Result (List UpsetLine) Denial
+upsets_named None conf begun ticks bytes = Ok []
+upsets_named (Some file) conf begun ticks bytes = upsets_or file (upsets_from conf begun (begun + ticks) bytes)
 
--- the upsets of a run with options, by the contents of the files that it reads beside its container, of which that of the upsets is the last
-unfoldable pub upsets_for : Conf → ℕ → List RunOption → List (List ℕ) → Result (List UpsetLine) Denial
-upsets_for conf ticks options contents = upsets_named (upsets_in options) conf ticks (content (length (inputs_in options)) contents)
+-- the upsets of a run with options, by the contents of the files that it reads beside its container: that of the upsets comes after those of input words
+unfoldable pub upsets_for : Conf → ℕ → ℕ → List RunOption → List (List ℕ) → Result (List UpsetLine) Denial
+upsets_for conf begun ticks options contents = upsets_named (upsets_in options) conf begun ticks (content (length (inputs_in options)) contents)
 
--- the outcome of a run with upsets, or their refusal
-abbrev pub ran_struck : ℕ → List RunOption → System → List (List ℕ) → Result (List UpsetLine) Denial → Outcome
-ran_struck ticks options system inputs (Ok upsets) =
-    ran_scripted upsets ticks (cores_in options) system inputs (scripts_for upsets (with_inputs system inputs) ticks (scripts_in options))
-ran_struck ticks options system inputs (Err refusal) = refused_by refusal
+-- the machine that a file has, of this system, or its refusal
+abbrev pub machine_or : List ℕ → System → Result SavedMachine SavedFault → Result Machine Denial
+machine_or file system (Ok saved) = Ok (machine_saved (with_inputs system []) saved)
+machine_or file system (Err fault) = Err (denial file (saved_fault_text fault))
 
--- the outcome of a run, of a container's system with these input words: it is refused where it asks for more ticks than a run may have, where the file of
--- its upsets is refused, and where a script of it is too long
-abbrev pub ran_for : List ℕ → ℕ → List RunOption → List (List ℕ) → System → List (List ℕ) → Outcome
-ran_for file asked options contents system inputs =
-    if nat_lt TICKS asked then command_refused file (ticks_text asked)
-    else ran_struck asked options system inputs (upsets_for system.conf asked options contents)
+-- the machine that a run of a container's system begins with: one that boots with these input words, or the one that a file has that was saved from a run of
+-- this container
+abbrev pub beginning_named : Option (List ℕ) → List ℕ → System → List (List ℕ) → List ℕ → Result Machine Denial
+beginning_named None box system inputs bytes = Ok (start (with_inputs system inputs))
+beginning_named (Some file) box system inputs bytes =
+    machine_or file system ((saved_format system.conf (loaded_of (with_inputs system [])) (stored_digest box)).read bytes)
+
+-- by the contents of the files that a run reads beside its container, of which that of the saved machine is the last
+unfoldable pub beginning_of : List RunOption → List ℕ → List (List ℕ) → System → List (List ℕ) → Result Machine Denial
+beginning_of options box contents system inputs =
+    beginning_named (from_in options) box system inputs (content (length (inputs_in options) + length (name_if_any (upsets_in options))) contents)
+
+-- the outcome of a run from this machine on with upsets, or their refusal
+abbrev pub ran_struck : ℕ → List RunOption → List ℕ → Machine → Result (List UpsetLine) Denial → Outcome
+ran_struck ticks options box g (Ok upsets) =
+    ran_making upsets ticks (cores_in options) g
+    (made_both (scripts_for upsets g.system ticks (scripts_in options)) (save_for (save_in options) box (after_ticks upsets g ticks)))
+ran_struck ticks options box g (Err refusal) = refused_by refusal
+
+-- the outcome of a run from this machine on: it is refused where it goes beyond the ticks that a run may have, where the file of its upsets is refused, and where
+-- a script of it or its saved machine is too long
+abbrev pub ran_for : List ℕ → ℕ → List RunOption → List ℕ → List (List ℕ) → Machine → Outcome
+ran_for file asked options box contents g =
+    if nat_lt TICKS (g.ticks + asked) then command_refused file (ticks_text (g.ticks + asked))
+    else ran_struck asked options box g (upsets_for g.system.conf g.ticks asked options contents)
 
 -- the outcome of a run, by the ticks that its options ask for
-unfoldable pub ran_within : List ℕ → List RunOption → List (List ℕ) → System → List (List ℕ) → Outcome
-ran_within file options contents system inputs = ran_for file (ticks_asked (span_in options) system.conf) options contents system inputs
+unfoldable pub ran_within : List ℕ → List RunOption → List ℕ → List (List ℕ) → Machine → Outcome
+ran_within file options box contents g = ran_for file (ticks_asked (span_in options) g.system.conf) options box contents g
+
+-- the outcome of a run, by the machine that it begins with, or the refusal of that
+abbrev pub ran_from : List ℕ → List RunOption → List ℕ → List (List ℕ) → Result Machine Denial → Outcome
+ran_from file options box contents (Ok g) = ran_within file options box contents g
+ran_from file options box contents (Err refusal) = refused_by refusal
 
 -- the outcome of a run, of a container's system with input words, or the refusal of an input's file
-abbrev pub ran_with : List ℕ → List RunOption → List (List ℕ) → System → Result (List (List ℕ)) Denial → Outcome
-ran_with file options contents system (Ok inputs) = ran_within file options contents system inputs
-ran_with file options contents system (Err refusal) = refused_by refusal
+abbrev pub ran_with : List ℕ → List RunOption → List ℕ → List (List ℕ) → System → Result (List (List ℕ)) Denial → Outcome
+ran_with file options box contents system (Ok inputs) = ran_from file options box contents (beginning_of options box contents system inputs)
+ran_with file options box contents system (Err refusal) = refused_by refusal
 
--- the outcome of a container that is run with options and inputs with these contents, or the refusal of its file
-abbrev pub run_by : List ℕ → List RunOption → List (List ℕ) → Result System BoxFault → Outcome
-run_by file options contents (Ok system) =
-    ran_with file options contents system (inputs_for (length system.conf.parts) options contents)
-run_by file options contents (Err fault) = command_refused file (box_fault_text fault)
+-- the outcome of a container with these bytes that is run with options and files with these contents, or the refusal of its file
+abbrev pub run_by : List ℕ → List RunOption → List ℕ → List (List ℕ) → Result System BoxFault → Outcome
+run_by file options box contents (Ok system) =
+    ran_with file options box contents system (inputs_for (length system.conf.parts) options contents)
+run_by file options box contents (Err fault) = command_refused file (box_fault_text fault)
 
--- the outcome of the container of a file with these bytes, run with options and inputs with these contents
+-- the outcome of the container of a file with these bytes, run with options and files with these contents
 unfoldable pub run_outcome : List ℕ → List RunOption → List ℕ → List (List ℕ) → Outcome
-run_outcome file options bytes contents = run_by file options contents (unpacked bytes)
+run_outcome file options bytes contents = run_by file options bytes contents (unpacked bytes)
 
 -- the core file of a partition that was replayed, under the name that is given for it
 abbrev pub replay_output : Readied → List ℕ → Output

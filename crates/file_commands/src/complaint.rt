@@ -32,7 +32,7 @@ pub fn complain<E: Sink>(err: &mut E, ending: &Ending<'_>) -> Result<(), Failed>
 }
 
 // Writes the line of a file that is refused.
-#[tactic(auto, unfolding(crate::specs::Ending::length_text, crate::specs::Ending::ticks_text, crate::specs::Ending::partition_text, crate::specs::Ending::input_text))]
+#[tactic(auto, unfolding(crate::specs::Ending::length_text, crate::specs::Ending::ticks_text, crate::specs::Ending::saved_text, crate::specs::Ending::partition_text, crate::specs::Ending::input_text))]
 fn deny<E: Sink>(err: &mut E, file: &str, why: &Refusal) -> Result<(), Failed>
     ensures line { Writes result (E.got err.old) (codes "xm_run: " ++ file.now ++ after_file (refusal_text why.now)) (E.got err.new) }
     ensures cause { HasCause result (E.faults err.old) (E.faults err.new) }
@@ -41,6 +41,7 @@ fn deny<E: Sink>(err: &mut E, file: &str, why: &Refusal) -> Result<(), Failed>
         Refusal::TooLong => name_file(err, file, b": too-long\n"),
         Refusal::Length { found } => { name_number(err, file, b": image length=", *found as u64) }
         Refusal::Ticks { asked } => name_number(err, file, b": ticks asked=", *asked),
+        Refusal::Saved { found } => name_number(err, file, b": length found=", *found),
         Refusal::Partition { id } => name_number(err, file, b": partition id=", u64::from(*id)),
         Refusal::Input { found } => { name_number(err, file, b": input length=", *found as u64) }
         Refusal::Fault { text } => name_text(err, file, text),

@@ -16,6 +16,8 @@ pub enum Refusal {
     Length { found: usize },
     /// A run would have this many ticks, too many.
     Ticks { asked: u64 },
+    /// A saved machine would have this many bytes, more than a file may have.
+    Saved { found: u64 },
     /// An input is for a partition that the system does not have.
     Partition { id: PartId },
     /// An input's length is no multiple of 4.

@@ -17,6 +17,7 @@ pub use delivery::{report, unmade};
 pub use ending::{Ending, Refusal, status_of};
 pub use packing::pack_files;
 pub use reading::{
-    content_after, first_long, first_long_of_four, read_file, read_files, read_four, split_contents,
+    content_after, content_after_upsets, first_long, first_long_of_four, read_file, read_files,
+    read_four, split_contents,
 };
 pub use status::Status;

@@ -44,7 +44,7 @@ pub fn pack_files<'a, S: Store, O: Sink>(
         (outside (S.files files.new) (S.read_faults files.new) (S.write_faults files.new) (S.calls files.new)
         (O.got out.new) (O.faults out.new)) }
 {
-    match read_files(alloc, configuration, images, None, files) {
+    match read_files(alloc, configuration, images, None, None, files) {
         Ok(contents) => {
             let container = container(alloc, configuration, images, &contents);
             write_container(output, container, files, out)
@@ -64,7 +64,7 @@ fn container<'a>(
         (limited (first_long (configuration.now ∷ file_names (seen_files images.entry)) (map vector_bytes contents.now))
         (container_of configuration.now (content 0 (map vector_bytes contents.now)) (seen_files images.entry) (drop 1 (map vector_bytes contents.now)))) }
 {
-    match first_long(configuration, images, None, contents) {
+    match first_long(configuration, images, None, None, contents) {
         Some(file) => Err(Ending::Refused {
             file,
             why: Refusal::TooLong,

@@ -1,6 +1,6 @@
 //! Files are read.
 
-ghost use Rattle.std.specs.Prelude.{◌≡◌, ◌∷◌, ◌++◌, ℕ, List, None, Option, drop, length, map, option_copied};
+ghost use Rattle.std.specs.Prelude.{◌≡◌, ◌∷◌, ◌+◌, ◌++◌, ℕ, List, None, Option, drop, length, map, option_copied};
 ghost use Rattle.file_commands.specs.Outcome.{content, first_long, name_if_any};
 ghost use Rattle.file_commands.specs.Packing.{file_names};
 ghost use Rattle.file_commands.specs.EndingValues.{AreFilesRead, IsFileRead, vector_bytes};
@@ -36,19 +36,21 @@ pub fn read_file<'a, S: Store>(
     }
 }
 
-/// The bytes of a file, of files for partitions, and of one more where there is one, read in this order: of each its bytes, or its first
-/// ones where it is too long.
+/// The bytes of a file, of files for partitions, and of two more where there are such, that of upsets and that of a saved machine, read in this order: of each
+/// its bytes, or its first ones where it is too long.
 pub fn read_files<'a, S: Store>(
     alloc: Global,
     first: &'a str,
     others: PartFiles<'a>,
-    last: Option<&'a str>,
+    upsets: Option<&'a str>,
+    from: Option<&'a str>,
     files: &mut S,
 ) -> Result<Vec<Vec<u8>>, Ending<'a>>
     // The bytes of several files in their order; or the call ends at the first that is not read.
     ensures { (got : Option (List ℕ)) (faults : ℕ)
         → AreFilesRead result
-        (first.now ∷ file_names (seen_files others.entry) ++ name_if_any (option_copied last.entry))
+        (first.now ∷ file_names (seen_files others.entry) ++ name_if_any (option_copied upsets.entry)
+        ++ name_if_any (option_copied from.entry))
         (outside (S.files files.old) (S.read_faults files.old) (S.write_faults files.old) (S.calls files.old)
         got faults)
         (outside (S.files files.new) (S.read_faults files.new) (S.write_faults files.new) (S.calls files.new)
@@ -63,7 +65,11 @@ pub fn read_files<'a, S: Store>(
         Ok(()) => {}
         Err(ending) => return Err(ending),
     }
-    match read_if_any(alloc, last, &mut contents, files) {
+    match read_if_any(alloc, upsets, &mut contents, files) {
+        Ok(()) => {}
+        Err(ending) => return Err(ending),
+    }
+    match read_if_any(alloc, from, &mut contents, files) {
         Ok(()) => Ok(contents),
         Err(ending) => Err(ending),
     }
@@ -213,46 +219,50 @@ fn first_long_of_two<'a>(
     if_long(last, bytes)
 }
 
-/// The first of the files with these contents that is too long: this one, those for partitions, and one more where there is one.
+/// The first of the files with these contents that is too long: this one, those for partitions, and two more where there are such.
 pub fn first_long<'a>(
     first: &'a str,
     others: PartFiles<'a>,
-    last: Option<&'a str>,
+    upsets: Option<&'a str>,
+    from: Option<&'a str>,
     contents: &[Vec<u8>],
 ) -> Option<&'a str>
     // The first of the files that has more bytes than a file may have.
     ensures value { option_copied result
-        ≡ first_long (first.now ∷ file_names (seen_files others.entry) ++ name_if_any (option_copied last.entry))
+        ≡ first_long
+        (first.now ∷ file_names (seen_files others.entry) ++ name_if_any (option_copied upsets.entry)
+        ++ name_if_any (option_copied from.entry))
         (map vector_bytes contents.now) }
 {
     let (bytes, more) = contents.split_first()?;
     if bytes.len() > FILE_BYTES {
         return Some(first);
     }
-    first_long_for_parts(others, last, more)
+    first_long_for_parts(others, upsets, from, more)
 }
 
-// The first of the files for partitions, and of one more where there is one, that is too long.
+// The first of the files for partitions, and of two more where there are such, that is too long.
 fn first_long_for_parts<'a>(
     files: PartFiles<'a>,
-    last: Option<&'a str>,
+    upsets: Option<&'a str>,
+    from: Option<&'a str>,
     contents: &[Vec<u8>],
 ) -> Option<&'a str>
     ensures value { option_copied result
-        ≡ first_long (file_names (seen_files files.entry) ++ name_if_any (option_copied last.entry))
+        ≡ first_long (file_names (seen_files files.entry) ++ name_if_any (option_copied upsets.entry) ++ name_if_any (option_copied from.entry))
         (map vector_bytes contents.now) }
 {
     let mut rest = files;
-    for bytes in contents {
-        let Some((first, others)) = rest.split_first() else {
-            return if_long(last, bytes);
-        };
+    let mut more = contents;
+    while let Some((first, others)) = rest.split_first() {
+        let (bytes, after) = more.split_first()?;
         if bytes.len() > FILE_BYTES {
             return Some(first.file);
         }
         rest = others;
+        more = after;
     }
-    None
+    first_long_of_two(upsets, from, more)
 }
 
 // The file, where there is one and its bytes are too long.
@@ -280,6 +290,26 @@ pub fn content_after<'a>(parts: PartFiles<'_>, contents: &'a [Vec<u8>]) -> &'a [
     match more.first() {
         Some(bytes) => bytes,
         None => b"",
+    }
+}
+
+/// The content of the file after those for partitions and that of upsets, where there is one.
+pub fn content_after_upsets<'a>(
+    parts: PartFiles<'_>,
+    upsets: Option<&str>,
+    contents: &'a [Vec<u8>],
+) -> &'a [u8]
+    // The content of the file after those for partitions and, where there is one, that of upsets.
+    ensures { result.now
+        ≡ content (length (seen_files parts.entry) + length (name_if_any (option_copied upsets.entry)))
+        (map vector_bytes contents.now) }
+{
+    match upsets {
+        None => content_after(parts, contents),
+        Some(_) => match contents.split_first() {
+            Some((_, more)) => content_after(parts, more),
+            None => b"",
+        },
     }
 }
 

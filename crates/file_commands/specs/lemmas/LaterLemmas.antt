@@ -1,22 +1,24 @@
 -- The files that a command writes after its report are those that its words name.
-use Rattle.std.proofs.Common.{◌≡◌, ℕ, ◌≤◌, ◌⊎◌, inl, inr, ⊎_elim, Bool, true, false, nat_lt, ◌==◌, ◌||◌, if◌then◌else◌, List, [], ◌∷◌, ◌++◌, length, map, drop, Option, Some, None, Result, Ok, Err, refl, sym, ap, ◌∙◌, arith}
-use Rattle.std.proofs.lemmas.List.{length-map, map-append}
-use Rattle.xm_base.specs.declared.limits.TheConstants.{IMAGE_BYTES, TICKS}
+use Rattle.std.proofs.Common.{◌≡◌, ℕ, ◌+◌, ◌≤◌, ◌⊎◌, inl, inr, ⊎_elim, Bool, true, false, nat_lt, ◌==◌, ◌||◌, if◌then◌else◌, List, [], ◌∷◌, ◌++◌, length, map, drop, Option, Some, None, Result, Ok, Err, refl, subst, sym, ap, ◌∙◌, arith}
+use Rattle.std.proofs.lemmas.List.{append_assoc, length-map, map-append}
+use Rattle.xm_base.specs.declared.limits.TheConstants.{FILE_BYTES, IMAGE_BYTES, TICKS}
 use Rattle.xm_container.specs.Reading.{unpacked}
 use Rattle.fault_messages.specs.declared.fault.BoxFault.{BoxFault}
 use Rattle.loaded_system.specs.Bare.{bare_system}
 use Rattle.loaded_system.specs.System.{System}
-use Rattle.machine_model.specs.Machine.{Machine}
+use Rattle.machine_model.specs.Machine.{Machine, start}
 use Rattle.machine_model.specs.View.{System as Booted}
 use Rattle.upset_model.specs.declared.upset_line.UpsetLine.{UpsetLine}
+use Rattle.continuation_laws.specs.Onward.{after_ticks}
+use Rattle.saved_machines.specs.Saving.{saved_file, stored_digest}
 use Rattle.system_state.specs.State.{with_inputs}
-use Rattle.command_line.specs.Words.{Command, PartFile, RunOption, Bare, Parse, Upgrade, BuildImage, ReadImage, Pack, ListContainer, CheckContainer, MakePlan, CheckPlan, ListGroups, ListSteerers, Generate, Run, Replay, ReplayFile, cores_in, replay_core, scripts_in, span_in}
+use Rattle.command_line.specs.Words.{Command, PartFile, RunOption, Bare, Parse, Upgrade, BuildImage, ReadImage, Pack, ListContainer, CheckContainer, MakePlan, CheckPlan, ListGroups, ListSteerers, Generate, Run, Replay, ReplayFile, cores_in, replay_core, save_in, scripts_in, span_in}
 use Rattle.builders.specs.Ready.{Replay as Readied, Unready, replay_of}
 use Rattle.file_commands.specs.Denial.{Denial}
-use Rattle.file_commands.specs.Ending.{length_text, ticks_text}
+use Rattle.file_commands.specs.Ending.{length_text, saved_text, ticks_text}
 use Rattle.file_commands.specs.Inputs.{no_inputs}
-use Rattle.file_commands.specs.Outcome.{Outcome, Output, bare_outcome, content, converted, core_outputs, first_long, replay_input_bytes, replay_upset_bytes, inputs_of, later_of, name_if_any, outcome_of_file, outcome_of_print, outcome_of, output_of, packed_to, played, outcome_of_run, ran_for, ran_scripted, ran_struck, ran_with, ran_within, command_refused, replay_outcome_by, replay_outcome, replay_output, run_by, run_outcome, script_before, script_denial, script_output, scripts_for, ticks_asked, unless_denied, unless_long, outcome_of_contents, upsets_for}
-use Rattle.file_commands.specs.Packing.{container_of, file_names}
+use Rattle.file_commands.specs.Outcome.{Outcome, Output, bare_outcome, beginning_of, content, converted, core_outputs, first_long, replay_input_bytes, replay_upset_bytes, inputs_of, later_of, name_if_any, outcome_of_file, outcome_of_print, outcome_of, output_of, packed_to, played, outcome_of_run, made_after, made_both, ran_for, ran_from, ran_making, ran_struck, ran_with, ran_within, save_for, command_refused, replay_outcome_by, replay_outcome, replay_output, run_by, run_outcome, script_before, script_denial, script_output, scripts_for, ticks_asked, unless_denied, unless_long, outcome_of_contents, upsets_for}
+use Rattle.file_commands.specs.Packing.{container_of, denial, file_names}
 use Rattle.file_commands.specs.Work.{file_in}
 use Rattle.file_commands.specs.lemmas.OutputLemmas.{output-named}
 
@@ -59,55 +61,89 @@ scripts_named upsets system ticks (named ∷ names) = at (script_denial upsets s
     at None (Ok outputs) are = ap (λ (files : List (List ℕ)). named.file ∷ files) are
     at None (Err refusal) are = tt
 
-ran-later : (upsets : List UpsetLine) (ticks : ℕ) (cores : List PartFile) (scripts : List Output) (names : List (List ℕ)) (system : System) (inputs : List (List ℕ)) → output_names scripts ≡ names
-    → AreNamed (file_names cores ++ names) (outcome_of_run upsets ticks cores scripts system inputs).later
+-- and so is a saved machine, or it is refused
+save_named : (named : Option (List ℕ)) (box : List ℕ) (g : Machine) → IsNamed (name_if_any named) (save_for named box g)
+save_named None box g = refl
+save_named (Some file) box g = at (nat_lt FILE_BYTES (length (saved_file (stored_digest box) g)))
+  where
+    at : (t : Bool) → IsNamed (file ∷ []) (if t then Err (denial file (saved_text (length (saved_file (stored_digest box) g)))) else Ok (record { file = file; bytes = saved_file (stored_digest box) g } ∷ []))
+    at true = tt
+    at false = refl
+
+-- and so are files with others after them
+after_named : (names others : List (List ℕ)) (outputs : List Output) (later : Result (List Output) Denial) → output_names outputs ≡ names → IsNamed others later → IsNamed (names ++ others) (made_after outputs later)
+after_named names others outputs (Ok later) first last =
+    map-append (λ (output : Output). output.file) outputs later ∙ ap (λ (files : List (List ℕ)). files ++ output_names later) first ∙ ap (λ (files : List (List ℕ)). names ++ files) last
+after_named names others outputs (Err refusal) first last = tt
+
+both_named : (names others : List (List ℕ)) (made later : Result (List Output) Denial) → IsNamed names made → IsNamed others later → IsNamed (names ++ others) (made_both made later)
+both_named names others (Ok outputs) later first last = after_named names others outputs later first last
+both_named names others (Err refusal) later first last = tt
+
+ran-later : (upsets : List UpsetLine) (ticks : ℕ) (cores : List PartFile) (made : List Output) (names : List (List ℕ)) (g : Machine) → output_names made ≡ names
+    → AreNamed (file_names cores ++ names) (outcome_of_run upsets ticks cores made g).later
 unfolding outcome_of_run
-ran-later upsets ticks cores scripts names system inputs are =
-    inl (map-append (λ (output : Output). output.file) (core_outputs _ cores) scripts ∙ ap (λ (files : List (List ℕ)). files ++ output_names scripts) (core_outputs-files _ cores)
+ran-later upsets ticks cores made names g are =
+    inl (map-append (λ (output : Output). output.file) (core_outputs _ cores) made ∙ ap (λ (files : List (List ℕ)). files ++ output_names made) (core_outputs-files _ cores)
     ∙ ap (λ (files : List (List ℕ)). file_names cores ++ files) are)
 
 bare-later : (file : List ℕ) (ticks : ℕ) (image : List ℕ) → AreNamed [] (bare_outcome file ticks image).later
 unfolding bare_outcome
 bare-later file ticks image = at ((length image == 0) || nat_lt IMAGE_BYTES (length image))
   where
-    at : (t : Bool) → AreNamed [] (if t then command_refused file (length_text (length image)) else outcome_of_run [] ticks [] [] (bare_system image) (no_inputs 1)).later
+    at : (t : Bool) → AreNamed [] (if t then command_refused file (length_text (length image)) else outcome_of_run [] ticks [] [] (start (with_inputs (bare_system image) (no_inputs 1)))).later
     at true = inr refl
-    at false = ran-later [] ticks [] [] [] (bare_system image) (no_inputs 1) refl
+    at false = ran-later [] ticks [] [] [] (start (with_inputs (bare_system image) (no_inputs 1))) refl
 
--- the names of the core files and the scripts of a run
+-- the names of the files that a run makes after its core files: its scripts and its saved machine
+abbrev made_names : List RunOption → List (List ℕ)
+made_names options = file_names (scripts_in options) ++ name_if_any (save_in options)
+
+-- the names of all files of a run, its core files first
 abbrev run_names : List RunOption → List (List ℕ)
-run_names options = file_names (cores_in options) ++ file_names (scripts_in options)
+run_names options = file_names (cores_in options) ++ file_names (scripts_in options) ++ name_if_any (save_in options)
 
-scripted-later : (upsets : List UpsetLine) (ticks : ℕ) (options : List RunOption) (system : System) (inputs : List (List ℕ)) (scripts : Result (List Output) Denial) → IsNamed (file_names (scripts_in options)) scripts
-    → AreNamed (run_names options) (ran_scripted upsets ticks (cores_in options) system inputs scripts).later
-scripted-later upsets ticks options system inputs (Ok scripts) are = ran-later upsets ticks (cores_in options) scripts (file_names (scripts_in options)) system inputs are
-scripted-later upsets ticks options system inputs (Err refusal) are = inr refl
+-- those are the core files and then the others
+names_joined : (options : List RunOption) → file_names (cores_in options) ++ made_names options ≡ run_names options
+names_joined options = sym (append_assoc (file_names (cores_in options)) (file_names (scripts_in options)) (name_if_any (save_in options)))
 
-struck-later : (ticks : ℕ) (options : List RunOption) (system : System) (inputs : List (List ℕ)) (read : Result (List UpsetLine) Denial) → AreNamed (run_names options) (ran_struck ticks options system inputs read).later
-struck-later ticks options system inputs (Ok upsets) = scripted-later upsets ticks options system inputs _ (scripts_named upsets (with_inputs system inputs) ticks (scripts_in options))
-struck-later ticks options system inputs (Err refusal) = inr refl
+making-later : (upsets : List UpsetLine) (ticks : ℕ) (options : List RunOption) (g : Machine) (made : Result (List Output) Denial) → IsNamed (made_names options) made
+    → AreNamed (run_names options) (ran_making upsets ticks (cores_in options) g made).later
+making-later upsets ticks options g (Ok made) are =
+    subst (λ (names : List (List ℕ)). AreNamed names (outcome_of_run upsets ticks (cores_in options) made g).later) (names_joined options) (ran-later upsets ticks (cores_in options) made (made_names options) g are)
+making-later upsets ticks options g (Err refusal) are = inr refl
 
-within-later : (file : List ℕ) (options : List RunOption) (contents : List (List ℕ)) (system : System) (inputs : List (List ℕ)) → AreNamed (run_names options) (ran_within file options contents system inputs).later
+struck-later : (ticks : ℕ) (options : List RunOption) (box : List ℕ) (g : Machine) (read : Result (List UpsetLine) Denial) → AreNamed (run_names options) (ran_struck ticks options box g read).later
+struck-later ticks options box g (Ok upsets) =
+    making-later upsets ticks options g _
+    (both_named (file_names (scripts_in options)) (name_if_any (save_in options)) _ _ (scripts_named upsets g.system ticks (scripts_in options)) (save_named (save_in options) box (after_ticks upsets g ticks)))
+struck-later ticks options box g (Err refusal) = inr refl
+
+within-later : (file : List ℕ) (options : List RunOption) (box : List ℕ) (contents : List (List ℕ)) (g : Machine) → AreNamed (run_names options) (ran_within file options box contents g).later
 unfolding ran_within
-within-later file options contents system inputs = at (ticks_asked (span_in options) system.conf)
+within-later file options box contents g = at (ticks_asked (span_in options) g.system.conf)
   where
-    by : (asked : ℕ) (t : Bool) → AreNamed (run_names options) (if t then command_refused file (ticks_text asked) else ran_struck asked options system inputs (upsets_for system.conf asked options contents)).later
+    by : (asked : ℕ) (t : Bool) → AreNamed (run_names options) (if t then command_refused file (ticks_text (g.ticks + asked)) else ran_struck asked options box g (upsets_for g.system.conf g.ticks asked options contents)).later
     by asked true = inr refl
-    by asked false = struck-later asked options system inputs (upsets_for system.conf asked options contents)
+    by asked false = struck-later asked options box g (upsets_for g.system.conf g.ticks asked options contents)
 
-    at : (asked : ℕ) → AreNamed (run_names options) (ran_for file asked options contents system inputs).later
-    at asked = by asked (nat_lt TICKS asked)
+    at : (asked : ℕ) → AreNamed (run_names options) (ran_for file asked options box contents g).later
+    at asked = by asked (nat_lt TICKS (g.ticks + asked))
 
-with-later : (file : List ℕ) (options : List RunOption) (contents : List (List ℕ)) (system : System) (read : Result (List (List ℕ)) Denial) → AreNamed (run_names options) (ran_with file options contents system read).later
-with-later file options contents system (Ok inputs) = within-later file options contents system inputs
-with-later file options contents system (Err refusal) = inr refl
+from-later : (file : List ℕ) (options : List RunOption) (box : List ℕ) (contents : List (List ℕ)) (begun : Result Machine Denial) → AreNamed (run_names options) (ran_from file options box contents begun).later
+from-later file options box contents (Ok g) = within-later file options box contents g
+from-later file options box contents (Err refusal) = inr refl
+
+with-later : (file : List ℕ) (options : List RunOption) (box : List ℕ) (contents : List (List ℕ)) (system : System) (read : Result (List (List ℕ)) Denial) → AreNamed (run_names options) (ran_with file options box contents system read).later
+with-later file options box contents system (Ok inputs) = from-later file options box contents (beginning_of options box contents system inputs)
+with-later file options box contents system (Err refusal) = inr refl
 
 run-later : (file : List ℕ) (options : List RunOption) (bytes : List ℕ) (contents : List (List ℕ)) → AreNamed (run_names options) (run_outcome file options bytes contents).later
 unfolding run_outcome
 run-later file options bytes contents = at (unpacked bytes)
   where
-    at : (read : Result System BoxFault) → AreNamed (run_names options) (run_by file options contents read).later
-    at (Ok system) = with-later file options contents system _
+    at : (read : Result System BoxFault) → AreNamed (run_names options) (run_by file options bytes contents read).later
+    at (Ok system) = with-later file options bytes contents system _
     at (Err fault) = inr refl
 
 made-later : (file : List ℕ) (outcome : List ℕ → Outcome) (made_of : Result (List ℕ) (List ℕ)) → ((bytes : List ℕ) → (outcome bytes).later ≡ []) → (converted file outcome made_of).later ≡ []

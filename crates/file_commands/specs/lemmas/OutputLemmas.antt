@@ -1,11 +1,12 @@
 -- The calls of the store for files, and the file that a command writes before its report: it is the one that its words name.
-use Rattle.std.proofs.Common.{◌≡◌, ℕ, Bool, true, false, nat_lt, ◌==◌, ◌||◌, if◌then◌else◌, List, [], ◌∷◌, length, drop, Option, Some, None, Result, Ok, Err, refl, ap}
+use Rattle.std.proofs.Common.{◌≡◌, ℕ, ◌+◌, Bool, true, false, nat_lt, ◌==◌, ◌||◌, if◌then◌else◌, List, [], ◌∷◌, length, drop, Option, Some, None, Result, Ok, Err, refl, ap}
 use Rattle.xm_base.specs.declared.limits.TheConstants.{IMAGE_BYTES, TICKS}
-use Rattle.command_line.specs.Words.{Command, PartFile, RunOption, Bare, Parse, Upgrade, BuildImage, ReadImage, Pack, ListContainer, CheckContainer, MakePlan, CheckPlan, ListGroups, ListSteerers, Generate, Run, Replay, ReplayFile, cores_in, replay_core, scripts_in, span_in}
+use Rattle.command_line.specs.Words.{Command, PartFile, RunOption, Bare, Parse, Upgrade, BuildImage, ReadImage, Pack, ListContainer, CheckContainer, MakePlan, CheckPlan, ListGroups, ListSteerers, Generate, Run, Replay, ReplayFile, cores_in, replay_core, span_in}
 use Rattle.xm_container.specs.Reading.{unpacked}
 use Rattle.fault_messages.specs.declared.fault.BoxFault.{BoxFault}
 use Rattle.loaded_system.specs.Bare.{bare_system}
 use Rattle.loaded_system.specs.System.{System}
+use Rattle.machine_model.specs.Machine.{Machine, start}
 use Rattle.upset_model.specs.declared.upset_line.UpsetLine.{UpsetLine}
 use Rattle.system_state.specs.State.{with_inputs}
 use Rattle.file_commands.specs.Ending.{length_text, ticks_text}
@@ -13,7 +14,7 @@ use Rattle.file_commands.specs.Inputs.{no_inputs}
 use Rattle.file_commands.specs.Packing.{container_of}
 use Rattle.builders.specs.Ready.{Replay as Readied, Unready, replay_of}
 use Rattle.file_commands.specs.Denial.{Denial}
-use Rattle.file_commands.specs.Outcome.{Output, bare_outcome, content, first_long, replay_input_bytes, replay_upset_bytes, converted, outcome_of_file, outcome_of_print, packed_to, played, outcome_of_run, ran_for, ran_scripted, ran_struck, ran_with, ran_within, command_refused, replay_outcome_by, replay_outcome, run_by, run_outcome, inputs_of, outcome_of, output_of, scripts_for, ticks_asked, unless_long, outcome_of_contents, upsets_for}
+use Rattle.file_commands.specs.Outcome.{Output, bare_outcome, beginning_of, content, first_long, replay_input_bytes, replay_upset_bytes, converted, outcome_of_file, outcome_of_print, packed_to, played, outcome_of_run, ran_for, ran_from, ran_making, ran_struck, ran_with, ran_within, command_refused, replay_outcome_by, replay_outcome, run_by, run_outcome, inputs_of, outcome_of, output_of, ticks_asked, unless_long, outcome_of_contents, upsets_for}
 use Rattle.file_commands.specs.Work.{counted_by, Outside, after_store_call, called_for}
 
 -- Calls.
@@ -44,54 +45,59 @@ reported-output : (file : List ℕ) (text : Result (List ℕ) (List ℕ)) (outpu
 reported-output file (Ok text) output e = cc
 reported-output file (Err text) output e = cc
 
--- a run of a system writes no file
-ran-output : (upsets : List UpsetLine) (ticks : ℕ) (cores : List PartFile) (scripts : List Output) (system : System) (inputs : List (List ℕ)) (output : Output) → (outcome_of_run upsets ticks cores scripts system inputs).output ≡ Some output → ⊥
+-- a run of a machine writes no file before its report
+ran-output : (upsets : List UpsetLine) (ticks : ℕ) (cores : List PartFile) (made : List Output) (g : Machine) (output : Output) → (outcome_of_run upsets ticks cores made g).output ≡ Some output → ⊥
 unfolding outcome_of_run
-ran-output upsets ticks cores scripts system inputs output e = cc
+ran-output upsets ticks cores made g output e = cc
 
 -- a run of an image writes no file
 bare-output : (file : List ℕ) (ticks : ℕ) (image : List ℕ) (output : Output) → (bare_outcome file ticks image).output ≡ Some output → ⊥
 unfolding bare_outcome
 bare-output file ticks image output e = at ((length image == 0) || nat_lt IMAGE_BYTES (length image)) e
   where
-    at : (t : Bool) → (if t then command_refused file (length_text (length image)) else outcome_of_run [] ticks [] [] (bare_system image) (no_inputs 1)).output ≡ Some output → ⊥
+    at : (t : Bool) → (if t then command_refused file (length_text (length image)) else outcome_of_run [] ticks [] [] (start (with_inputs (bare_system image) (no_inputs 1)))).output ≡ Some output → ⊥
     at true e = cc
-    at false e = ran-output [] ticks [] [] (bare_system image) (no_inputs 1) output e
+    at false e = ran-output [] ticks [] [] (start (with_inputs (bare_system image) (no_inputs 1))) output e
 
--- a run whose scripts may be too long writes no file
-scripted-output : (upsets : List UpsetLine) (ticks : ℕ) (cores : List PartFile) (system : System) (inputs : List (List ℕ)) (scripts : Result (List Output) Denial) (output : Output) → (ran_scripted upsets ticks cores system inputs scripts).output ≡ Some output → ⊥
-scripted-output upsets ticks cores system inputs (Ok scripts) output e = ran-output upsets ticks cores scripts system inputs output e
-scripted-output upsets ticks cores system inputs (Err refusal) output e = cc
+-- nor does one whose made files may be refused
+making-output : (upsets : List UpsetLine) (ticks : ℕ) (cores : List PartFile) (g : Machine) (made : Result (List Output) Denial) (output : Output) → (ran_making upsets ticks cores g made).output ≡ Some output → ⊥
+making-output upsets ticks cores g (Ok made) output e = ran-output upsets ticks cores made g output e
+making-output upsets ticks cores g (Err refusal) output e = cc
 
--- a run whose upsets may be refused writes no file
-struck-output : (ticks : ℕ) (options : List RunOption) (system : System) (inputs : List (List ℕ)) (read : Result (List UpsetLine) Denial) (output : Output) → (ran_struck ticks options system inputs read).output ≡ Some output → ⊥
-struck-output ticks options system inputs (Ok upsets) output e = scripted-output upsets ticks (cores_in options) system inputs (scripts_for upsets (with_inputs system inputs) ticks (scripts_in options)) output e
-struck-output ticks options system inputs (Err refusal) output e = cc
+-- nor one whose upsets may be refused
+struck-output : (ticks : ℕ) (options : List RunOption) (box : List ℕ) (g : Machine) (read : Result (List UpsetLine) Denial) (output : Output) → (ran_struck ticks options box g read).output ≡ Some output → ⊥
+struck-output ticks options box g (Ok upsets) output e = making-output upsets ticks (cores_in options) g _ output e
+struck-output ticks options box g (Err refusal) output e = cc
 
--- a run that may be too long writes no file
-within-output : (file : List ℕ) (options : List RunOption) (contents : List (List ℕ)) (system : System) (inputs : List (List ℕ)) (output : Output) → (ran_within file options contents system inputs).output ≡ Some output → ⊥
+-- nor one that may be too long
+within-output : (file : List ℕ) (options : List RunOption) (box : List ℕ) (contents : List (List ℕ)) (g : Machine) (output : Output) → (ran_within file options box contents g).output ≡ Some output → ⊥
 unfolding ran_within
-within-output file options contents system inputs output e = at (ticks_asked (span_in options) system.conf) e
+within-output file options box contents g output e = at (ticks_asked (span_in options) g.system.conf) e
   where
-    by : (asked : ℕ) (t : Bool) → (if t then command_refused file (ticks_text asked) else ran_struck asked options system inputs (upsets_for system.conf asked options contents)).output ≡ Some output → ⊥
+    by : (asked : ℕ) (t : Bool) → (if t then command_refused file (ticks_text (g.ticks + asked)) else ran_struck asked options box g (upsets_for g.system.conf g.ticks asked options contents)).output ≡ Some output → ⊥
     by asked true e = cc
-    by asked false e = struck-output asked options system inputs (upsets_for system.conf asked options contents) output e
+    by asked false e = struck-output asked options box g (upsets_for g.system.conf g.ticks asked options contents) output e
 
-    at : (asked : ℕ) → (ran_for file asked options contents system inputs).output ≡ Some output → ⊥
-    at asked e = by asked (nat_lt TICKS asked) e
+    at : (asked : ℕ) → (ran_for file asked options box contents g).output ≡ Some output → ⊥
+    at asked e = by asked (nat_lt TICKS (g.ticks + asked)) e
 
--- a run whose inputs may be refused writes no file
-with-output : (file : List ℕ) (options : List RunOption) (contents : List (List ℕ)) (system : System) (read : Result (List (List ℕ)) Denial) (output : Output) → (ran_with file options contents system read).output ≡ Some output → ⊥
-with-output file options contents system (Ok inputs) output e = within-output file options contents system inputs output e
-with-output file options contents system (Err refusal) output e = cc
+-- nor one whose saved machine may be refused
+from-output : (file : List ℕ) (options : List RunOption) (box : List ℕ) (contents : List (List ℕ)) (begun : Result Machine Denial) (output : Output) → (ran_from file options box contents begun).output ≡ Some output → ⊥
+from-output file options box contents (Ok g) output e = within-output file options box contents g output e
+from-output file options box contents (Err refusal) output e = cc
 
--- a run of a container writes no file
+-- nor one whose inputs may be refused
+with-output : (file : List ℕ) (options : List RunOption) (box : List ℕ) (contents : List (List ℕ)) (system : System) (read : Result (List (List ℕ)) Denial) (output : Output) → (ran_with file options box contents system read).output ≡ Some output → ⊥
+with-output file options box contents system (Ok inputs) output e = from-output file options box contents (beginning_of options box contents system inputs) output e
+with-output file options box contents system (Err refusal) output e = cc
+
+-- a run of a container writes no file before its report
 run-output : (file : List ℕ) (options : List RunOption) (bytes : List ℕ) (contents : List (List ℕ)) (output : Output) → (run_outcome file options bytes contents).output ≡ Some output → ⊥
 unfolding run_outcome
 run-output file options bytes contents output e = at (unpacked bytes) e
   where
-    at : (read : Result System BoxFault) → (run_by file options contents read).output ≡ Some output → ⊥
-    at (Ok system) e = with-output file options contents system _ output e
+    at : (read : Result System BoxFault) → (run_by file options bytes contents read).output ≡ Some output → ⊥
+    at (Ok system) e = with-output file options bytes contents system _ output e
     at (Err fault) e = cc
 
 -- a replay writes no file before its report

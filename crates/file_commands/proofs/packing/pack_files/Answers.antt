@@ -17,7 +17,7 @@ returns-in-Ok g c =
     let command = Pack configuration c.args.output.now images in
     let ending = ending_of c.write_container.result in
     let contents = map vector_bytes c.in-Ok.contents.items in
-    let read = rw (append-nil (file_names images)) at c.in-Ok.ensures (g.O.Sink.got c.args.out.now) (g.O.Sink.faults c.args.out.now) in
+    let read = rw (append-nil (file_names images), append-nil (file_names images)) at c.in-Ok.ensures (g.O.Sink.got c.args.out.now) (g.O.Sink.faults c.args.out.now) in
     let makes = rw c.deref.ensures.value at c.container-container.ensures.value in
     let comes = c.write_container.ensures (limited (first_long (configuration ∷ file_names images) contents) (container_of configuration (content 0 contents) images (drop 1 contents))) makes in
     done_by ending command contents _ _ read.0 (packed_outcome ending configuration c.args.output.now images contents _ _ _ read.1 comes)
@@ -25,4 +25,4 @@ returns-in-Ok g c =
 pub returns-in-Err : goal.returns-in-Err
 returns-in-Err g c =
     not_all_read_done (ending_of c.in-Err.ending) (Pack c.args.configuration.now c.args.output.now (seen_files c.args.images)) _ _
-    (rw (append-nil (file_names (seen_files c.args.images))) at c.in-Err.ensures (g.O.Sink.got c.args.out.now) (g.O.Sink.faults c.args.out.now))
+    (rw (append-nil (file_names (seen_files c.args.images)), append-nil (file_names (seen_files c.args.images))) at c.in-Err.ensures (g.O.Sink.got c.args.out.now) (g.O.Sink.faults c.args.out.now))
