@@ -1,3 +1,5 @@
+pub mod BeginLemmas
+pub mod MakingLemmas
 pub mod NumberLemmas
 pub mod ReadyLemmas
 pub mod RunLemmas

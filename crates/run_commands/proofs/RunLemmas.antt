@@ -4,21 +4,21 @@ use Rattle.std.specs.List.{AllByRecursion}
 use Rattle.std.specs.Prelude.{◌==◌, if◌then◌else◌}
 use Rattle.std.proofs.lemmas.List.Elements.{All-cons, All-head, All-nil, All-tail}
 use Rattle.std.proofs.lemmas.List.{get_or-map, length-map, replicate_more}
+use Rattle.continuation_laws.specs.Onward.{coming}
 use Rattle.machine_model.specs.Cue.{Cue, script}
-use Rattle.loaded_system.specs.System.{System}
 use Rattle.xm_conf.specs.Configuration.{Conf}
-use Rattle.upset_files.specs.Fits.{AllFit, FitsRun}
+use Rattle.upset_files.specs.Fits.{AllFit}
 use Rattle.upset_files.specs.Laws.{UpsetsMayStrike}
-use Rattle.machine_model.specs.Facts.{BootsComplete, RunsKeepNumbers}
+use Rattle.machine_model.specs.Facts.{RunsKeepNumbers}
+use Rattle.loaded_system.specs.System.{System as Loaded}
 use Rattle.machine_model.specs.Machine.{Machine, run, start}
 use Rattle.machine_model.specs.View.{System as Booted, view_of}
 use Rattle.upset_model.specs.Coming.{AreOrdered}
-use Rattle.upset_model.specs.Places.{due, is_place, schedule_of, upset_of}
+use Rattle.upset_model.specs.Places.{due, is_place, upset_of, upsets_of}
 use Rattle.upset_model.specs.Upsets.{Schedule, ready, upset_run, upset_script}
 use Rattle.upset_model.specs.declared.upset_line.UpsetLine.{UpsetLine}
 use Rattle.upset_model.specs.lemmas.ComingLemmas.{ordered_from}
 use Rattle.upset_model.specs.lemmas.Segments.{ready_ticks}
-use Rattle.system_state.specs.State.{with_inputs}
 use Rattle.cue_scripts.specs.Entries.{bare_cue, is_away, is_bare, plain_kind}
 use Rattle.cue_scripts.specs.Spelling.{script_text}
 use Rattle.cue_scripts.specs.Written.{IsScriptFile, IsWritten, Written, closed_by, entry_closed, is_open, plain_repeated, repeated_by, with_alike, with_cue, with_script_entry}
@@ -26,7 +26,8 @@ use Rattle.fault_messages.specs.declared.fault.ScriptFault.{ScriptFault}
 use Rattle.recording_model.specs.Receiving.{HasNumbers}
 use Rattle.run_commands.specs.declared.recording.Recording.{Recording}
 use Rattle.run_commands.specs.lemmas.Recordings.{IsRecorded, ReceivesMore}
-use Rattle.run_commands.specs.lemmas.StruckRuns.{quiet_script, ready_parts, segment_run, segment_script, struck_ends, struck_few, struck_numbered, struck_ticks}
+use Rattle.run_commands.specs.lemmas.StruckRuns.{quiet_script, ready_parts, segment_run, segment_script, struck_ends, struck_few, struck_numbered, struck_rests, struck_ticks}
+use Rattle.system_state.specs.State.{with_inputs}
 use Rattle.xm_machine.specs.Cues.{last_received}
 use Rattle.xm_machine.specs.Machine.{Meaning}
 use Rattle.xm_machine.specs.Striking.{MayStrike}
@@ -207,6 +208,17 @@ all_recorded s g asked done now first recordings enough is =
     let same : done ≡ asked = omega (arith, enough, is.within) in
     subst (λ n. All (IsRecorded s g n) recordings) same is.recorded
 
+-- and the machine is the one after them
+pub all_run : (s : Schedule) (g : Machine) (asked done : ℕ) (now : Machine) (first recordings : List Recording) → asked ≤ done → AreRecorded s g asked done now first recordings → now ≡ upset_run s g asked
+all_run s g asked done now first recordings enough is =
+    let same : done ≡ asked = omega (arith, enough, is.within) in
+    is.state ∙ ap (upset_run s g) same
+
+-- so it is where the hypervisor has halted
+pub halt_run : (s : Schedule) (g : Machine) (asked done : ℕ) (now : Machine) (first recordings : List Recording) → now.halted ≡ true → AreRecorded s g asked done now first recordings → now ≡ upset_run s g asked
+halt_run s g asked done now first recordings halts is =
+    is.state ∙ struck_rests done asked s g is.within (ap (λ (m : Machine). m.halted) (sym is.state) ∙ halts)
+
 -- the hypervisor has halted
 pub halt_recorded : (s : Schedule) (g : Machine) (asked done : ℕ) (now : Machine) (first recordings : List Recording) → now.halted ≡ true → AreRecorded s g asked done now first recordings → All (IsRecorded s g asked) recordings
 halt_recorded s g asked done now first recordings halts is = λ k d within. whole (get_or recordings k d) (is.recorded k d within)
@@ -231,10 +243,10 @@ room_left s g asked most done ticks now first recordings few below left is = λ 
     omega (arith, few, below, left, (is.recorded k d within).written.count, struck_few done s g (get_or recordings k d).p)
 
 -- and these may be done
-pub ticks_left : (s : Schedule) (g : Machine) (asked most done : ℕ) (now struck : Machine) (first recordings : List Recording) → g.ticks ≡ 0 → asked ≤ most → done < asked → AreRecorded s g asked done now first recordings
+pub ticks_left : (s : Schedule) (g : Machine) (asked most done : ℕ) (now struck : Machine) (first recordings : List Recording) → g.ticks + asked ≤ most → done < asked → AreRecorded s g asked done now first recordings
     → struck ≡ ready (s done) now → struck.ticks + (asked - done) ≤ most
-ticks_left s g asked most done now struck first recordings fresh few below is begins =
-    omega (arith, fresh, few, below, struck_ticks done s g, ap (λ (m : Machine). m.ticks) is.state, ap (λ (m : Machine). m.ticks) begins, ready_ticks (s done) now)
+ticks_left s g asked most done now struck first recordings few below is begins =
+    omega (arith, few, below, struck_ticks done s g, ap (λ (m : Machine). m.ticks) is.state, ap (λ (m : Machine). m.ticks) begins, ready_ticks (s done) now)
 
 -- the partitions are as many as at first
 pub parts_left : RunsKeepNumbers → (s : Schedule) (g : Machine) (count asked done ticks : ℕ) (now struck next : Machine) (first recordings : List Recording) → length g.parts ≡ count → All (λ recording. recording.p < count) first
@@ -258,40 +270,29 @@ pub has_received : RunsKeepNumbers → (ticks : ℕ) (old new : Meaning) → new
     → (p : ℕ) → p < length new.state.parts → script old.state p ticks ≡ span_cues ticks (last_received new p)
 has_received keeps ticks old new goes received = λ p there. received p (omega (arith, there, (keeps old.state ticks).parts, ap (λ (m : Machine). length m.parts) goes))
 
--- a machine boots with the partitions of its configuration
-pub started-parts : BootsComplete → (system : System) (inputs : List (List ℕ)) → length (start (with_inputs system inputs)).parts ≡ length system.conf.parts
-unfolding start
-started-parts law system inputs = (law (with_inputs system inputs)).parts
-
--- The upsets that are to come.
+-- The upsets that are to come, whose ticks are those since the boot: this many were done before the run.
 
 -- the lines of a file for ticks that are not done
-pub record AreComing (all : List UpsetLine) (done : ℕ) (coming : List UpsetLine) : Type 0 where
-  pub ordered : AreOrdered done coming
-  pub same : (k : ℕ) → done ≤ k → due coming k ≡ due all k
+pub record AreComing (all : List UpsetLine) (tick : ℕ) (coming : List UpsetLine) : Type 0 where
+  pub ordered : AreOrdered tick coming
+  pub same : (k : ℕ) → tick ≤ k → due coming k ≡ due all k
 
 -- all of a run that begins
 pub fit_ordered : (conf : Conf) (ticks before : ℕ) (lines : List UpsetLine) → AllFit conf ticks before lines → AreOrdered before lines
 fit_ordered conf ticks before [] fit = tt
 fit_ordered conf ticks before (line ∷ lines) fit = ((fit.0).order, fit_ordered conf ticks line.tick lines fit.1)
 
-pub coming_all : (all coming : List UpsetLine) → coming ≡ all → AreOrdered 0 all → AreComing all 0 coming
-coming_all all coming same ordered = subst (AreComing all 0) (sym same) (record { ordered = ordered; same = λ k above. refl })
+pub coming_all : (all coming : List UpsetLine) (begun tick : ℕ) → coming ≡ all → tick ≡ begun → AreOrdered begun all → AreComing all tick coming
+coming_all all coming begun tick same at ordered =
+    subst (λ n. AreComing all n coming) (sym at) (subst (AreComing all begun) (sym same) (record { ordered = ordered; same = λ k above. refl }))
 
--- they may strike the machine that boots
-started-place : UpsetsMayStrike → (system : System) (inputs : List (List ℕ)) (ticks before : ℕ) (line : UpsetLine) → FitsRun system.conf ticks before line
-    → is_place (view_of (start (with_inputs system inputs)).system line.part) line.place line.bit ≡ true
-unfolding start
-started-place may system inputs ticks before line fits = may (with_inputs system inputs) ticks before line fits
-
-pub all_may : UpsetsMayStrike → BootsComplete → (system : System) (inputs : List (List ℕ)) (g : Machine) (ticks before : ℕ) (lines : List UpsetLine) → g ≡ start (with_inputs system inputs)
-    → AllFit system.conf ticks before lines → All (MayStrike g) lines
-all_may may boots system inputs g ticks before [] is fit = All-nil (MayStrike g)
-all_may may boots system inputs g ticks before (line ∷ lines) is fit =
+-- they may strike a whole machine
+pub all_may : UpsetsMayStrike → (g : Machine) (ticks before : ℕ) (lines : List UpsetLine) → length g.parts ≡ length g.system.conf.parts → AllFit g.system.conf ticks before lines → All (MayStrike g) lines
+all_may may g ticks before [] many fit = All-nil (MayStrike g)
+all_may may g ticks before (line ∷ lines) many fit =
     All-cons (MayStrike g) line lines
-    (subst (λ (m : Machine). MayStrike m line) (sym is)
-    (record { partition = omega (arith, started-parts boots system inputs, (fit.0).partition); place = started-place may system inputs ticks before line fit.0 }))
-    (all_may may boots system inputs g ticks line.tick lines is fit.1)
+    (record { partition = omega (arith, many, (fit.0).partition); place = may g.system ticks before line fit.0 })
+    (all_may may g ticks line.tick lines many fit.1)
 
 -- those before one tick are some of all
 due_all : (P : UpsetLine → Type 0) (k : ℕ) (lines : List UpsetLine) → All P lines → All P (due lines k)
@@ -303,10 +304,10 @@ due_all P k (line ∷ lines) all = at (line.tick == k) (due_all P k lines (All-t
     at false rest = rest
 
 -- and may strike the machine after the ticks before it
-pub may_next : RunsKeepNumbers → (s : Schedule) (g : Machine) (asked done : ℕ) (now : Machine) (first recordings : List Recording) (all coming these : List UpsetLine) → AreRecorded s g asked done now first recordings
-    → AreComing all done coming → these ≡ due coming done → All (MayStrike g) all → All (MayStrike now) these
-may_next keeps s g asked done now first recordings all coming these is comes are may =
-    subst (All (MayStrike now)) (sym (are ∙ comes.same done (omega arith))) (λ k d within. still (get_or (due all done) k d) (due_all (MayStrike g) done all may k d within))
+pub may_next : RunsKeepNumbers → (s : Schedule) (g : Machine) (asked done tick : ℕ) (now : Machine) (first recordings : List Recording) (all coming these : List UpsetLine) → AreRecorded s g asked done now first recordings
+    → AreComing all tick coming → these ≡ due coming tick → All (MayStrike g) all → All (MayStrike now) these
+may_next keeps s g asked done tick now first recordings all coming these is comes are may =
+    subst (All (MayStrike now)) (sym (are ∙ comes.same tick (omega arith))) (λ k d within. still (get_or (due all tick) k d) (due_all (MayStrike g) tick all may k d within))
   where
     system_is : now.system ≡ g.system
     system_is = ap (λ (m : Machine). m.system) is.state ∙ (struck_numbered keeps done s g).1
@@ -318,24 +319,30 @@ may_next keeps s g asked done now first recordings all coming these is comes are
     }
 
 -- those of the next tick strike
-pub begins_with : (all coming these : List UpsetLine) (done : ℕ) (now struck : Machine) → AreComing all done coming → these ≡ due coming done → struck ≡ ready (map upset_of these) now → struck ≡ ready (schedule_of all done) now
-begins_with all coming these done now struck comes are begins = begins ∙ ap (λ (lines : List UpsetLine). ready (map upset_of lines) now) (are ∙ comes.same done (omega arith))
+pub begins_with : (all waiting these : List UpsetLine) (g : Machine) (done : ℕ) (now struck : Machine) → AreComing all (g.ticks + done) waiting → these ≡ due waiting (g.ticks + done) → struck ≡ ready (map upset_of these) now
+    → struck ≡ ready (upsets_of (coming all g) done) now
+begins_with all waiting these g done now struck comes are begins =
+    begins ∙ ap (λ (lines : List UpsetLine). ready (map upset_of lines) now) (are ∙ comes.same (g.ticks + done) (omega arith))
 
 -- and none before the tick of the first of the others
-pub comes_next : (all coming rest : List UpsetLine) (done next ticks : ℕ) (now struck : Machine) → AreComing all done coming → struck ≡ ready (schedule_of all done) now
-    → ((k : ℕ) → done < k → due rest k ≡ due coming k) → ((k : ℕ) → k < next → due rest k ≡ []) → 0 < ticks → done + ticks ≤ next → IsNext (schedule_of all) done ticks now struck
-comes_next all coming rest done next ticks now struck is begins kept none some within = record {
+pub comes_next : (all waiting rest : List UpsetLine) (g : Machine) (done next ticks : ℕ) (now struck : Machine) → AreComing all (g.ticks + done) waiting → struck ≡ ready (upsets_of (coming all g) done) now
+    → ((k : ℕ) → g.ticks + done < k → due rest k ≡ due waiting k) → ((k : ℕ) → k < next → due rest k ≡ []) → 0 < ticks → g.ticks + (done + ticks) ≤ next → IsNext (upsets_of (coming all g)) done ticks now struck
+comes_next all waiting rest g done next ticks now struck is begins kept none some within = record {
   some = some;
   struck = begins;
-  quiet = λ k above below. ap (map upset_of) (sym (is.same k (omega (arith, above))) ∙ sym (kept k above) ∙ none k (omega (arith, below, within)));
+  quiet = λ k above below.
+      let after : g.ticks + done < g.ticks + k = omega (arith, above) in
+      let least : g.ticks + done ≤ g.ticks + k = omega (arith, above) in
+      let before : g.ticks + k < next = omega (arith, below, within) in
+      ap (map upset_of) (sym (is.same (g.ticks + k) least) ∙ sym (kept (g.ticks + k) after) ∙ none (g.ticks + k) before);
 }
 
 -- and the others are to come
-pub comes_after : (all coming rest : List UpsetLine) (done next ticks : ℕ) → AreComing all done coming → ((k : ℕ) → done < k → due rest k ≡ due coming k) → AreOrdered next rest → 0 < ticks → done + ticks ≤ next
-    → AreComing all (done + ticks) rest
-comes_after all coming rest done next ticks is kept ordered some within = record {
-  ordered = ordered_from (done + ticks) next rest within ordered;
-  same = λ k above. kept k (omega (arith, above, some)) ∙ is.same k (omega (arith, above));
+pub comes_after : (all waiting rest : List UpsetLine) (tick next later : ℕ) → AreComing all tick waiting → ((k : ℕ) → tick < k → due rest k ≡ due waiting k) → AreOrdered next rest → tick < later → later ≤ next
+    → AreComing all later rest
+comes_after all waiting rest tick next later is kept ordered some within = record {
+  ordered = ordered_from later next rest within ordered;
+  same = λ k above. kept k (omega (arith, above, some)) ∙ is.same k (omega (arith, above, some));
 }
 
 -- what is recorded of one partition
@@ -348,20 +355,27 @@ only_recorded s g ticks p first lent recordings of one same all =
     (sym (get_or-map (λ recording. recording.p) recordings 0 first p there) ∙ ap (λ parts. get_or parts 0 p) parts, all 0 first there)
 
 -- the file of it, in a run without upsets
-pub file_recorded : {X : Type 0} (view : X → List ℕ) (made : Result X ScriptFault) (s : Schedule) (g : Machine) (ticks p : ℕ) (recording : Recording) → ((k : ℕ) → s k ≡ []) → recording.p ≡ p → IsRecorded s g ticks recording
-    → ((cues : List Cue) → IsWritten cues recording.writer → IsScriptFile view (script_text recording.p cues) made) → IsScriptFile view (script_text p (script g p ticks)) made
-file_recorded view made s g ticks p recording none same is finishes =
-    subst (λ part. IsScriptFile view (script_text part (script g part ticks)) made) same
-    (subst (λ cues. IsScriptFile view (script_text recording.p cues) made) (quiet_script ticks s g recording.p none) (finishes (upset_script s g recording.p ticks) is.written))
+pub file_recorded : {X : Type 0} (view : X → List ℕ) (made : Result X ScriptFault) (s : Schedule) (g first : Machine) (ticks p : ℕ) (recording : Recording) → g ≡ first → ((k : ℕ) → s k ≡ []) → recording.p ≡ p → IsRecorded s g ticks recording
+    → ((cues : List Cue) → IsWritten cues recording.writer → IsScriptFile view (script_text recording.p cues) made) → IsScriptFile view (script_text p (script first p ticks)) made
+file_recorded view made s g first ticks p recording begins none same is finishes =
+    subst (λ (m : Machine). IsScriptFile view (script_text p (script m p ticks)) made) begins
+    (subst (λ part. IsScriptFile view (script_text part (script g part ticks)) made) same
+    (subst (λ cues. IsScriptFile view (script_text recording.p cues) made) (quiet_script ticks s g recording.p none) (finishes (upset_script s g recording.p ticks) is.written)))
 
 -- and its numbers
-pub numbers_recorded : {X E : Type 0} (made : Result X E) (s : Schedule) (g : Machine) (ticks p : ℕ) (recording : Recording) → ((k : ℕ) → s k ≡ []) → recording.p ≡ p → IsRecorded s g ticks recording
-    → IfOk made (λ _. AllByRecursion HasNumbers (script g p ticks))
-numbers_recorded made s g ticks p recording none same is =
-    are_numbered made (script g p ticks)
-    (subst (λ part. AllByRecursion HasNumbers (script g part ticks)) same (subst (AllByRecursion HasNumbers) (quiet_script ticks s g recording.p none) is.numbers))
+pub numbers_recorded : {X E : Type 0} (made : Result X E) (s : Schedule) (g first : Machine) (ticks p : ℕ) (recording : Recording) → g ≡ first → ((k : ℕ) → s k ≡ []) → recording.p ≡ p → IsRecorded s g ticks recording
+    → IfOk made (λ _. AllByRecursion HasNumbers (script first p ticks))
+numbers_recorded made s g first ticks p recording begins none same is =
+    subst (λ (m : Machine). IfOk made (λ _. AllByRecursion HasNumbers (script m p ticks))) begins
+    (are_numbered made (script g p ticks)
+    (subst (λ part. AllByRecursion HasNumbers (script g part ticks)) same (subst (AllByRecursion HasNumbers) (quiet_script ticks s g recording.p none) is.numbers)))
 
--- a machine boots with no tick done
-pub started-ticks : (system : Booted) → (start system).ticks ≡ 0
+-- one recording, of a partition of a machine that boots
+pub only_inside : (recordings : List Recording) (recording : Recording) (p parts : ℕ) → recording.p ≡ p → recordings ≡ recording ∷ [] → p < parts → All (λ (r : Recording). r.p < parts) recordings
+only_inside recordings recording p parts same only below =
+    subst (All (λ (r : Recording). r.p < parts)) (sym only)
+    (All-cons (λ (r : Recording). r.p < parts) recording [] (omega (arith, same, below)) (All-nil (λ (r : Recording). r.p < parts)))
+
+pub boot_parts : (system : Loaded) (inputs : List (List ℕ)) (g : Machine) → g ≡ start (with_inputs system inputs) → length g.system.conf.parts ≡ length system.conf.parts
 unfolding start
-started-ticks system = refl
+boot_parts system inputs g boots = ap (λ (m : Machine). length m.system.conf.parts) boots

@@ -1,18 +1,17 @@
--- Scripts that are made before a run, and written after its core files.
-use Rattle.std.proofs.Common.{◌≡◌, ℕ, ◌+◌, ◌<◌, ◌≤◌, Bool, true, false, nat_lt, if◌then◌else◌, List, [], ◌∷◌, ◌++◌, length, map, drop, Option, Some, None, Result, Ok, Err, get_or, refl, sym, ap, ◌∙◌, subst, arith, append_assoc}
+-- Files that are made before a run, and written after its core files.
+use Rattle.std.proofs.Common.{◌≡◌, ℕ, ◌+◌, ◌<◌, ◌≤◌, ◌⊎◌, inl, inr, true, false, nat_lt, List, [], ◌∷◌, ◌++◌, length, map, drop, Option, Some, None, Result, Ok, Err, get_or, refl, sym, ap, ◌∙◌, subst, arith, append_assoc}
+use Rattle.std.proofs.Math.Nat.{zero-add}
 use Rattle.std.specs.Prelude.{All}
 use Rattle.std.specs.List.{AllByRecursion}
 use Rattle.std.proofs.lemmas.Bool.Decides.{nat_tests}
 use Rattle.std.proofs.lemmas.List.{append-nil, at_drop_more, length-map, map-append}
-use Rattle.std.proofs.lemmas.List.Elements.{All-from_recursion, All-head, All-tail}
-use Rattle.xm_base.specs.declared.limits.TheConstants.{FILE_BYTES, TICKS}
+use Rattle.std.proofs.lemmas.List.Elements.{All-from_recursion, All-head, All-nil, All-tail}
+use Rattle.xm_base.specs.declared.limits.TheConstants.{FILE_BYTES}
 use Rattle.xm_outside.specs.Causes.{Rose}
 use Rattle.xm_outside.specs.Files.{OthersStay}
-use Rattle.loaded_system.specs.System.{System}
 use Rattle.machine_model.specs.Machine.{Machine, start}
 use Rattle.machine_model.specs.View.{System as Booted}
-use Rattle.system_state.specs.State.{with_inputs}
-use Rattle.command_line.specs.Words.{PartFile, RunOption, span_in}
+use Rattle.command_line.specs.Words.{PartFile}
 use Rattle.std.specs.String.{string_bytes}
 use Rattle.fault_messages.specs.Texts.{script_fault_text}
 use Rattle.cue_scripts.specs.Written.{IsScriptFile}
@@ -23,14 +22,16 @@ use Rattle.builders.specs.declared.unmade.Unmade.{Unmade}
 use Rattle.builders.specs.declared.unmade.Unmade.TheVariants as unmade
 use Rattle.file_commands.specs.Makes.{IsUnmadeOf}
 use Rattle.file_commands.specs.Denial.{Denial}
-use Rattle.file_commands.specs.Ending.{Ending, Done, Usage, ReadFault, Refused, WriteFaultReport, WriteFaultFile, UartFault, NoMemory, ticks_text}
+use Rattle.file_commands.specs.Ending.{Ending, Done, Usage, ReadFault, Refused, WriteFaultReport, WriteFaultFile, UartFault, NoMemory}
+use Rattle.continuation_laws.specs.Onward.{coming}
+use Rattle.upset_model.specs.Places.{due, schedule_of, upset_of, upsets_of}
 use Rattle.upset_model.specs.Upsets.{Schedule}
 use Rattle.upset_model.specs.declared.upset_line.UpsetLine.{UpsetLine}
-use Rattle.file_commands.specs.Outcome.{Output, ran_for, ran_struck, ran_within, command_refused, script_before, script_bytes, script_denial, script_output, scripts_for, ticks_asked, unless_denied, upsets_for}
+use Rattle.file_commands.specs.Outcome.{Output, script_before, script_bytes, script_denial, script_output, scripts_for, unless_denied}
 use Rattle.run_commands.specs.declared.recording.Recording.{Recording}
 use Rattle.run_commands.specs.lemmas.Cores.{AreForPartitions}
 use Rattle.run_commands.specs.lemmas.Recordings.{IsRecorded, parts_of}
-use Rattle.run_commands.specs.lemmas.Scripts.{script_or}
+use Rattle.run_commands.specs.lemmas.Made.{made_or}
 use Rattle.file_commands.specs.EndingValues.{AreSaved, ending_of}
 use Rattle.file_commands.specs.lemmas.EndingValuesTerms.{IsDenied}
 use Rattle.file_commands.specs.declared.ending.Ending as code
@@ -41,14 +42,14 @@ use Rattle.run_commands.specs.lemmas.CoreLemmas.{saves_after}
 
 -- one that is not too long
 pub script_made : (upsets : List UpsetLine) (system : Booted) (ticks part : ℕ) (file bytes : List ℕ) → bytes ≡ script_bytes upsets system ticks part → length (script_bytes upsets system ticks part) ≤ FILE_BYTES
-    → script_or (script_denial upsets system ticks (record { part = part; file = file })) (script_output upsets system ticks (record { part = part; file = file })) ≡ Ok (record { file = file; bytes = bytes })
+    → made_or (script_denial upsets system ticks (record { part = part; file = file })) (script_output upsets system ticks (record { part = part; file = file })) ≡ Ok (record { file = file; bytes = bytes })
 script_made upsets system ticks part file bytes is few =
     let test : nat_lt FILE_BYTES (length (script_bytes upsets system ticks part)) ≡ false = grind (arith, nat_tests, few) in
     rw test (ap (λ (b : List ℕ). Ok (record { file = file; bytes = b })) (sym is))
 
 -- one that is
 pub script_long : (upsets : List UpsetLine) (system : Booted) (ticks part : ℕ) (file : List ℕ) (found : ℕ) → found ≡ length (script_bytes upsets system ticks part) → FILE_BYTES < length (script_bytes upsets system ticks part)
-    → script_or (script_denial upsets system ticks (record { part = part; file = file })) (script_output upsets system ticks (record { part = part; file = file })) ≡ Err (record { file = file; text = script_fault_text (fault.Length found) })
+    → made_or (script_denial upsets system ticks (record { part = part; file = file })) (script_output upsets system ticks (record { part = part; file = file })) ≡ Err (record { file = file; text = script_fault_text (fault.Length found) })
 script_long upsets system ticks part file found is long =
     let test : nat_lt FILE_BYTES (length (script_bytes upsets system ticks part)) ≡ true = grind (arith, nat_tests, long) in
     rw test (ap (λ (n : ℕ). Err (record { file = file; text = script_fault_text (fault.Length n) })) (sym is))
@@ -56,7 +57,7 @@ script_long upsets system ticks part file found is long =
 -- one that was not made
 pub script_unmade : {X : Type 0} (view : X → List ℕ) (upsets : List UpsetLine) (system : Booted) (ticks part : ℕ) (file : List ℕ) (why : ScriptFault) (said : Unmade) (e : Ending)
     → IsScriptFile view (script_bytes upsets system ticks part) (Err why) → IsRefusalText said (script_fault_text why) → (why ≡ fault.Memory → said ≡ unmade.Memory) → IsUnmadeOf e file said
-    → IsDenied e (script_or (script_denial upsets system ticks (record { part = part; file = file })) (script_output upsets system ticks (record { part = part; file = file })))
+    → IsDenied e (made_or (script_denial upsets system ticks (record { part = part; file = file })) (script_output upsets system ticks (record { part = part; file = file })))
 script_unmade view upsets system ticks part file (fault.Length found) (unmade.Refused words) e is stated memory ends =
     let text_is : string_bytes words ≡ script_fault_text (fault.Length found) = stated in
     rw (ends, text_is) (script_long upsets system ticks part file found is.0 is.1)
@@ -136,14 +137,21 @@ first_recorded s g ticks more recordings one is all =
     let both = subst (All (IsRecorded s g ticks)) is all in
     (All-head (IsRecorded s g ticks) one recordings both, All-tail (IsRecorded s g ticks) one recordings both)
 
--- what is recorded of a system that is made once more is that of the first
-pub recorded_again : (s : Schedule) (again system : System) (ticks : ℕ) (read : Result (List (List ℕ)) Denial) (inputs given : List (List ℕ)) (recordings all : List Recording) → again ≡ system → read ≡ Ok inputs → read ≡ Ok given
-    → all ≡ recordings → All (IsRecorded s (start (with_inputs again inputs)) ticks) recordings → All (IsRecorded s (start (with_inputs system given)) ticks) all
-recorded_again s again system ticks read inputs given recordings all same is other whole have =
-    let words : inputs ≡ given = (let both : Ok inputs ≡ Ok given = sym is ∙ other in cc) in
-    subst (All (IsRecorded s (start (with_inputs system given)) ticks)) (sym whole)
-    (subst (λ (machine : Machine). All (IsRecorded s machine ticks) recordings)
-    (ap (λ (s : System). start (with_inputs s inputs)) same ∙ ap (λ (ws : List (List ℕ)). start (with_inputs system ws)) words) have)
+-- what is recorded of a machine that boots is what its system receives; and where there are no scripts there is nothing
+pub recorded_boot : (upsets : List UpsetLine) (g : Machine) (ticks : ℕ) (recordings : List Recording) (names : List PartFile) → recorded_parts recordings ≡ parts_of names → (names ≡ []) ⊎ (g ≡ start g.system)
+    → All (IsRecorded (upsets_of (coming upsets g)) g ticks) recordings → All (IsRecorded (schedule_of upsets) (start g.system) ticks) recordings
+unfolding start
+recorded_boot upsets g ticks recordings names same (inl none) have = at recordings (same ∙ ap parts_of none)
+  where
+    at : (recordings : List Recording) → recorded_parts recordings ≡ [] → All (IsRecorded (schedule_of upsets) (start g.system) ticks) recordings
+    at [] none = All-nil (IsRecorded (schedule_of upsets) (start g.system) ticks)
+    at (one ∷ others) none = absurd cc
+recorded_boot upsets g ticks recordings names same (inr boots) have =
+    subst (λ (s : Schedule). All (IsRecorded s (start g.system) ticks) recordings) (booted_schedule upsets g.system)
+    (subst (λ (m : Machine). All (IsRecorded (upsets_of (coming upsets m)) m ticks) recordings) boots have)
+  where
+    booted_schedule : (upsets : List UpsetLine) (system : Booted) → upsets_of (coming upsets (start system)) ≡ schedule_of upsets
+    booted_schedule upsets system = λ i k. map upset_of (due upsets (zero-add k i))
 
 -- Scripts, one after another.
 
@@ -171,14 +179,14 @@ one_before first output (Err refusal) = refl
 
 -- the next one was made
 pub next_made : (upsets : List UpsetLine) (system : Booted) (ticks : ℕ) (all rest others : List PartFile) (named : PartFile) (first next : List Output) (output : Output)
-    → rest ≡ named ∷ others → script_or (script_denial upsets system ticks named) (script_output upsets system ticks named) ≡ Ok output → next ≡ first ++ output ∷ []
+    → rest ≡ named ∷ others → made_or (script_denial upsets system ticks named) (script_output upsets system ticks named) ≡ Ok output → next ≡ first ++ output ∷ []
     → scripts_for upsets system ticks all ≡ scripts_before first (scripts_for upsets system ticks rest)
     → scripts_for upsets system ticks all ≡ scripts_before next (scripts_for upsets system ticks others)
 next_made upsets system ticks all rest others named first next output is made more goes =
     at (script_denial upsets system ticks named) made (goes ∙ ap (λ (names : List PartFile). scripts_before first (scripts_for upsets system ticks names)) is)
     ∙ ap (λ (outputs : List Output). scripts_before outputs (scripts_for upsets system ticks others)) (sym more)
   where
-    at : (refusal : Option Denial) → script_or refusal (script_output upsets system ticks named) ≡ Ok output
+    at : (refusal : Option Denial) → made_or refusal (script_output upsets system ticks named) ≡ Ok output
         → scripts_for upsets system ticks all ≡ scripts_before first (unless_denied refusal (script_before (script_output upsets system ticks named) (scripts_for upsets system ticks others)))
         → scripts_for upsets system ticks all ≡ scripts_before (first ++ output ∷ []) (scripts_for upsets system ticks others)
     at None made goes =
@@ -189,7 +197,7 @@ next_made upsets system ticks all rest others named first next output is made mo
 
 -- the next one is refused, or memory ran out for it
 pub next_denied : (upsets : List UpsetLine) (system : Booted) (ticks : ℕ) (all rest others : List PartFile) (named : PartFile) (first : List Output) (e : Ending)
-    → rest ≡ named ∷ others → IsDenied e (script_or (script_denial upsets system ticks named) (script_output upsets system ticks named))
+    → rest ≡ named ∷ others → IsDenied e (made_or (script_denial upsets system ticks named) (script_output upsets system ticks named))
     → scripts_for upsets system ticks all ≡ scripts_before first (scripts_for upsets system ticks rest)
     → IsDenied e (scripts_for upsets system ticks all)
 next_denied upsets system ticks all rest others named first Done is denied goes = absurd denied
@@ -198,7 +206,7 @@ next_denied upsets system ticks all rest others named first (ReadFault file) is 
 next_denied upsets system ticks all rest others named first (Refused file text) is denied goes =
     at (script_denial upsets system ticks named) denied (goes ∙ ap (λ (names : List PartFile). scripts_before first (scripts_for upsets system ticks names)) is)
   where
-    at : (refusal : Option Denial) → script_or refusal (script_output upsets system ticks named) ≡ Err (record { file = file; text = text })
+    at : (refusal : Option Denial) → made_or refusal (script_output upsets system ticks named) ≡ Err (record { file = file; text = text })
         → scripts_for upsets system ticks all ≡ scripts_before first (unless_denied refusal (script_before (script_output upsets system ticks named) (scripts_for upsets system ticks others)))
         → scripts_for upsets system ticks all ≡ Err (record { file = file; text = text })
     at None denied goes = absurd (cc)
@@ -214,43 +222,29 @@ pub all_made : (upsets : List UpsetLine) (system : Booted) (ticks : ℕ) (all re
 all_made upsets system ticks all rest first none goes =
     goes ∙ ap (λ (names : List PartFile). scripts_before first (scripts_for upsets system ticks names)) none ∙ ap Ok (append-nil first)
 
--- A run with scripts.
-
--- a run that may have this many ticks has its outcome, with its upsets
-pub within_is : (file : List ℕ) (options : List RunOption) (contents : List (List ℕ)) (system : System) (inputs : List (List ℕ)) (asked : ℕ) (read : Result (List UpsetLine) Denial)
-    → asked ≡ ticks_asked (span_in options) system.conf → asked ≤ TICKS → upsets_for system.conf asked options contents ≡ read
-    → ran_within file options contents system inputs ≡ ran_struck asked options system inputs read
-unfolding ran_within
-within_is file options contents system inputs asked read is few are =
-    let test : nat_lt TICKS asked ≡ false = grind (arith, nat_tests, few) in
-    let by_test : ran_for file asked options contents system inputs ≡ ran_struck asked options system inputs read =
-    ap (λ (t : Bool). if t then command_refused file (ticks_text asked) else ran_struck asked options system inputs (upsets_for system.conf asked options contents)) test
-    ∙ ap (ran_struck asked options system inputs) are in
-    ap (λ (n : ℕ). ran_for file n options contents system inputs) (sym is) ∙ by_test
-
 -- Files that are written.
 
 -- the next one of those that are left
 pub next_left : {X : Type 0} (f : X → Output) (xs : List X) (n : ℕ) (d x : X) → n < length xs → x ≡ get_or xs n d → map f (drop n xs) ≡ f x ∷ map f (drop (n + 1) xs)
 next_left f xs n d x below is = at_drop_more (map f) xs n d below ∙ ap (λ y. f y ∷ map f (drop (n + 1) xs)) (sym is)
 
--- the next script was written, and the others were or were not
-pub script_saved : (lost : Option (List ℕ)) (rest others : List Output) (output : Output) (before mid after : Outside) → rest ≡ output ∷ others → mid ≡ wrote (Some output) before
+-- the next file was written, and the others were or were not
+pub file_saved : (lost : Option (List ℕ)) (rest others : List Output) (output : Output) (before mid after : Outside) → rest ≡ output ∷ others → mid ≡ wrote (Some output) before
     → SavesAll lost others mid after → SavesAll lost rest before after
-script_saved lost rest others output before mid after is one saves =
+file_saved lost rest others output before mid after is one saves =
     subst (λ (outputs : List Output). SavesAll lost outputs before after) (sym is)
     (saves_after lost output others before after (subst (λ (x : Outside). SavesAll lost others x after) one saves))
 
 -- it was not
-pub script_lost : (rest others : List Output) (output : Output) (before after : Outside) → rest ≡ output ∷ others → Rose before.write_faults after.write_faults → OthersStay before.files output.file after.files
+pub file_lost : (rest others : List Output) (output : Output) (before after : Outside) → rest ≡ output ∷ others → Rose before.write_faults after.write_faults → OthersStay before.files output.file after.files
     → after ≡ with_files after.files after.write_faults (after_store_call before) → SavesAll (Some output.file) rest before after
-script_lost rest others output before after is rose stay outside =
+file_lost rest others output before after is rose stay outside =
     subst (λ (outputs : List Output). SavesAll (Some output.file) outputs before after) (sym is)
     (record { first = []; output = output; rest = others; split = refl; named = refl; cause = rose; others = stay; outside = outside })
 
 -- there was none left
-pub no_script_left : (rest : List Output) (before : Outside) → rest ≡ [] → SavesAll None rest before before
-no_script_left rest before none = subst (λ (outputs : List Output). SavesAll None outputs before before) (sym none) refl
+pub no_file_left : (rest : List Output) (before : Outside) → rest ≡ [] → SavesAll None rest before before
+no_file_left rest before none = subst (λ (outputs : List Output). SavesAll None outputs before before) (sym none) refl
 
 -- files after files that all were
 pub saves_both : (lost : Option (List ℕ)) (first later : List Output) (before mid after : Outside) → SavesAll None first before mid → SavesAll lost later mid after → SavesAll lost (first ++ later) before after

@@ -1,12 +1,9 @@
 -- What a command makes of the board of UARTs, by how it ends.
 use Rattle.std.specs.Prelude.{◌≡◌, ℕ, ◌<◌, ◌≤◌, List, length, take, Option, Some, None, IsNone, IsSome}
-use Rattle.machine_model.specs.Machine.{start}
 use Rattle.machine_model.specs.View.{view_of}
 use Rattle.uart_board.specs.Heard.{IsHeard}
 use Rattle.uart_board.specs.Views.{BoardView, without_marks, mark_at}
-use Rattle.upset_model.specs.Places.{schedule_of}
-use Rattle.upset_model.specs.Reports.{upset_console, upset_report}
-use Rattle.xm_machine.specs.Struck.{struck_report_to}
+use Rattle.continuation_laws.specs.Onward.{console_from, report_from, report_from_to}
 use Rattle.xm_outside.specs.Growth.{GrewByPrefix}
 use Rattle.xm_report.specs.Report.{ReportLine, texts}
 use Rattle.recording_model.specs.Replayed.{cue_lines, replay_lines}
@@ -26,17 +23,17 @@ pub record IsLowestMark (place : ℕ) (board : BoardView) : Type 0 where
 
 -- how many ticks a run has
 abbrev pub ticks_of_run : Running → ℕ
-ticks_of_run (Together system upsets ticks) = ticks
+ticks_of_run (Together g upsets ticks) = ticks
 ticks_of_run (Apart system p upsets cues) = length cues
 
 -- the console bytes of this many ticks of a run that each UART gets
 abbrev pub said_in_run : Running → ℕ → ℕ → List ℕ
-said_in_run (Together system upsets ticks) done = upset_console (schedule_of upsets) (start system) done
+said_in_run (Together g upsets ticks) done = console_from upsets g done
 said_in_run (Apart system p upsets cues) done = replay_said upsets (booted_alone system p) (take done cues)
 
 -- the whole report of a run
 abbrev pub lines_in : Running → List ReportLine
-lines_in (Together system upsets ticks) = upset_report upsets system ticks
+lines_in (Together g upsets ticks) = report_from upsets g ticks
 lines_in (Apart system p upsets cues) = replay_lines upsets (view_of system p) cues
 
 -- from a board without marks on, each UART got the console bytes of this many ticks of the run
@@ -56,9 +53,9 @@ pub record IsRunMarked (place : ℕ) (run : Running) (before after : BoardView) 
 -- the sink of the report, which took this many bytes of it, took all lines of the ticks before this one, and not all that it has with those of this
 -- one and of the upsets before the next, unless these are all ticks of the run: then lines of the end may be all that is missing
 abbrev pub IsCutAt : Running → ℕ → ℕ → Type 0
-IsCutAt (Together system upsets ticks) done count =
-    ((earlier : ℕ) → earlier < done → length (texts (struck_report_to upsets (start system) ticks earlier)) ≤ count)
-    × (done < ticks → count < length (texts (struck_report_to upsets (start system) ticks done)))
+IsCutAt (Together g upsets ticks) done count =
+    ((earlier : ℕ) → earlier < done → length (texts (report_from_to upsets g ticks earlier)) ≤ count)
+    × (done < ticks → count < length (texts (report_from_to upsets g ticks done)))
 IsCutAt (Apart system p upsets cues) done count =
     ((earlier : ℕ) → earlier < done → length (texts (cue_lines upsets (view_of system p) (take earlier cues))) ≤ count)
     × (done < length cues → count < length (texts (cue_lines upsets (view_of system p) (take done cues))))

@@ -1,12 +1,13 @@
 pub mod AccountLemmas
+pub mod Beginnings
 pub mod BoardLemmas
 pub mod ContentLemmas
 pub mod CoreLemmas
 pub mod Cores
 pub mod EndsAfterLemmas
 pub mod InputLemmas
+pub mod Made
 pub mod NumbersTerms
 pub mod ReadyRuns
 pub mod Recordings
-pub mod Scripts
 pub mod StruckRuns

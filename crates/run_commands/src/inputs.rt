@@ -60,7 +60,7 @@ fn named_beyond(parts: u8, option: RunOption<'_>) -> Option<PartFile<'_>>
 {
     match option {
         RunOption::Length(_) => None,
-        RunOption::Upsets(_) => None,
+        RunOption::ForRun(_, _) => None,
         RunOption::ForPart(_, named) => {
             if named.part >= parts {
                 Some(named)

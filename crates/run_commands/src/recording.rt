@@ -2,6 +2,7 @@
 
 ghost use Rattle.std.specs.List.{AllByRecursion};
 ghost use Rattle.std.specs.Prelude.{◌≡◌, ℕ, ◌+◌, ◌<◌, ◌≤◌, ◌++◌, [], All, IfOk, List, OnOk, false, length, map};
+ghost use Rattle.continuation_laws.specs.Onward.{after_ticks, coming};
 ghost use Rattle.cue_scripts.specs.Kept.{HasCueRanges};
 ghost use Rattle.cue_scripts.specs.Spelling.{script_text};
 ghost use Rattle.cue_scripts.specs.Written.{IsScriptFile, IsWritten};
@@ -9,7 +10,7 @@ ghost use Rattle.machine_model.specs.Cue.{Cue as ModelCue, script};
 ghost use Rattle.machine_model.specs.Machine.{Machine as ModelMachine, run, start};
 ghost use Rattle.upset_files.specs.Fits.{AllFit};
 ghost use Rattle.upset_model.specs.Coming.{AreOrdered};
-ghost use Rattle.upset_model.specs.Places.{schedule_of};
+ghost use Rattle.upset_model.specs.Places.{upsets_of};
 ghost use Rattle.upset_model.specs.Upsets.{Schedule};
 ghost use Rattle.recording_model.specs.Receiving.{HasNumbers};
 ghost use Rattle.run_commands.specs.lemmas.Recordings.{IsRecorded, ReceivesMore};
@@ -54,11 +55,11 @@ pub fn script_of(
     ensures numbers { IfOk result
         (λ _. AllByRecursion HasNumbers (script (start (with_inputs system inputs)) p ticks)) }
 {
+    let mut machine = Machine::boot(alloc, system, inputs)?;
     let mut recording = Recording::new(alloc, p);
     record(
         alloc,
-        system,
-        inputs,
+        &mut machine,
         ticks,
         &[],
         slice::from_mut(&mut recording),
@@ -128,31 +129,30 @@ impl Recording {
     }
 }
 
-/// Records what partitions receive in a run of `ticks` ticks while these upsets strike. A machine of its own does the run, and its lines
-/// and console bytes go nowhere.
+/// Records what partitions receive in `ticks` ticks of a machine while these upsets strike, whose ticks are those since the boot. Its lines and
+/// console bytes go nowhere.
 pub(crate) fn record(
     alloc: Global,
-    system: System,
-    inputs: Inputs,
+    machine: &mut Machine,
     ticks: u64,
     upsets: &[UpsetLine],
     recordings: &mut [Recording],
 ) -> Result<(), Memory>
-    requires inputs { length inputs ≡ length system.conf.parts }
-    requires most { ticks ≤ TICKS }
-    requires fit { AllFit system.conf ticks 0 upsets.now }
-    requires inside { All (λ recording. recording.p < length system.conf.parts) recordings.old }
+    requires most { machine.old.state.ticks + ticks ≤ TICKS }
+    requires fit { AllFit machine.old.state.system.conf (machine.old.state.ticks + ticks) machine.old.state.ticks
+        upsets.now }
+    requires inside { All (λ recording. recording.p < length machine.old.state.system.conf.parts) recordings.old }
     requires empty { All (λ recording. IsWritten [] recording.writer) recordings.old }
+    ensures state { OnOk result (machine.new.state ≡ after_ticks upsets.now machine.old.state ticks) }
     ensures partitions { map (λ recording. recording.p) recordings.new ≡ map (λ recording. recording.p) recordings.old }
     ensures recorded { OnOk result
-        (All (IsRecorded (schedule_of upsets.now) (start (with_inputs system inputs)) ticks) recordings.new) }
+        (All (IsRecorded (upsets_of (coming upsets.now machine.old.state)) machine.old.state ticks) recordings.new) }
 {
     proof! {
-        keeps_numbers();
         places_are_spelled();
+        let _sys = machine.sys();
     }
-    let mut machine = Machine::boot(alloc, system, inputs)?;
-    record_run(alloc, &mut machine, ticks, upsets, recordings)
+    record_run(alloc, machine, ticks, upsets, recordings)
 }
 
 /// Records what partitions receive in `ticks` ticks of a machine while these upsets strike. A span ends before the next upset.
@@ -163,16 +163,18 @@ fn record_run(
     upsets: &[UpsetLine],
     recordings: &mut [Recording],
 ) -> Result<(), Memory>
-    requires fresh { machine.old.state.ticks ≡ 0 }
-    requires most { ticks ≤ TICKS }
+    requires most { machine.old.state.ticks + ticks ≤ TICKS }
     requires strike { All (MayStrike machine.old.state) upsets.now }
-    requires ordered { AreOrdered 0 upsets.now }
+    requires ordered { AreOrdered machine.old.state.ticks upsets.now }
     requires inside { All (λ recording. recording.p < length machine.old.state.parts) recordings.old }
     requires empty { All (λ recording. IsWritten [] recording.writer) recordings.old }
+    ensures state { OnOk result (machine.new.state ≡ after_ticks upsets.now machine.old.state ticks) }
     ensures partitions { map (λ recording. recording.p) recordings.new ≡ map (λ recording. recording.p) recordings.old }
-    ensures recorded { OnOk result (All (IsRecorded (schedule_of upsets.now) machine.old.state ticks) recordings.new) }
+    ensures recorded { OnOk result
+        (All (IsRecorded (upsets_of (coming upsets.now machine.old.state)) machine.old.state ticks) recordings.new) }
 {
     proof! { keeps_numbers(); }
+    let begun = machine.done();
     let mut board = Board::new();
     let mut coming = Coming::new(upsets);
     let mut done = 0;
@@ -180,10 +182,10 @@ fn record_run(
         if machine.halted() {
             return Ok(());
         }
-        let struck = coming.due(done);
+        let struck = coming.due(begun + done);
         machine.strike(struck);
-        let end = coming.next(ticks);
-        let span = next_span(machine, end - done, &mut board);
+        let end = coming.next(begun + ticks);
+        let span = next_span(machine, end - begun - done, &mut board);
         record_span(alloc, machine, span, recordings)?;
         done += u64::from(span);
     }

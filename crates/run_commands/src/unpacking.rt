@@ -1,25 +1,25 @@
 //! A container is unpacked, and its system is run.
 
-ghost use Rattle.std.specs.Prelude.{◌≡◌, ◌≤◌, ◌∷◌, ℕ, List, None, Ok, Some, drop, length, map};
+ghost use Rattle.std.specs.Prelude.{◌≡◌, ◌+◌, ◌≤◌, ◌∷◌, None, Ok, Some, drop, length, map, true};
 ghost use Rattle.xm_base.specs.declared.limits.TheConstants.{TICKS};
 ghost use Rattle.xm_container.specs.Reading.{unpacked};
-ghost use Rattle.system_state.specs.State.{with_inputs};
 ghost use Rattle.run_commands.specs.Accounts.{HasAccount};
 ghost use Rattle.run_commands.specs.Boards.{LeavesBoard};
+ghost use Rattle.run_commands.specs.lemmas.Beginnings.{IsBeginning, machine_of};
 ghost use Rattle.run_commands.specs.lemmas.Cores.{AreForPartitions};
-ghost use Rattle.run_commands.specs.Numbers.{AllReceiveNumbers, HasScripts, ReceivesIn, ReceivesOf};
-ghost use Rattle.run_commands.specs.lemmas.NumbersTerms.{ReceivesShort};
-ghost use Rattle.run_commands.specs.lemmas.Scripts.{made_output};
+ghost use Rattle.run_commands.specs.Numbers.{HasScripts, ReceivesIn, ReceivesOf, StoresIn, StoresOf};
+ghost use Rattle.run_commands.specs.lemmas.NumbersTerms.{ReceivesShort, StoresShort};
+ghost use Rattle.run_commands.specs.lemmas.Made.{made_output};
+ghost use Rattle.run_commands.specs.lemmas.ReadyRuns.{ReadyNumbers, ReadyStores};
 ghost use Rattle.file_commands.specs.Inputs.{inputs_for};
-ghost use Rattle.file_commands.specs.Outcome.{content, first_long, outcome_of, outcome_of_run, ran_with, run_inputs, run_outcome, ticks_asked, upsets_for};
+ghost use Rattle.file_commands.specs.Outcome.{content, first_long, outcome_of, outcome_of_run, ran_with, run_inputs, run_outcome};
 ghost use Rattle.file_commands.specs.EndingValues.{vector_bytes, ending_of};
 ghost use Rattle.file_commands.specs.lemmas.WorkTerms.{HasOutcome};
 ghost use Rattle.file_commands.specs.Work.{outside};
 ghost use Rattle.command_line.specs.Grammar.{count_of};
 ghost use Rattle.command_line.specs.Seen.{seen_files, seen_options};
-ghost use Rattle.command_line.specs.Words.{Run, scripts_in, span_in};
+ghost use Rattle.command_line.specs.Words.{Run, begins_once, span_in};
 ghost use Rattle.upset_files.specs.Fits.{AllFit};
-ghost use Rattle.upset_model.specs.declared.upset_line.UpsetLine.{UpsetLine};
 
 use crate::readiness::{ReadyRun, ready_run};
 use crate::running::run_system;
@@ -31,7 +31,7 @@ use uart_board::{Board, ViewBoard};
 use xm_container::{System, unpack};
 use xm_outside::{Sink, Store};
 
-/// Reads a container, the inputs of a run and its upsets, and runs it.
+/// Reads a container, the inputs of a run, its upsets and the saved machine that it goes on from, and runs it.
 pub fn run_container<'a, S: Store, O: Sink>(
     alloc: Global,
     container: &'a str,
@@ -41,7 +41,10 @@ pub fn run_container<'a, S: Store, O: Sink>(
     board: &mut Board,
 ) -> Ending<'a>
     // Called for at most the limit of ticks or of major frames.
-    requires { count_of (span_in (seen_options options)) ≤ TICKS }
+    requires most { count_of (span_in (seen_options options)) ≤ TICKS }
+    // Called with options that begin a run in one way: where they name a saved machine, they name neither input words
+    // nor scripts.
+    requires begun { begins_once (seen_options options) ≡ true }
     // A container is run with the files that its options name: it results in what is defined of the contents, or the
     // call ends where it could not; what the board of UARTs holds is by the same ending and contents.
     ensures accounted { HasAccount (ending_of result) (Some (Run container.now (seen_options options.entry)))
@@ -53,8 +56,18 @@ pub fn run_container<'a, S: Store, O: Sink>(
     // A run that made its scripts: what its partitions received is bytes and words, where it has numbers of them.
     ensures numbers { HasScripts (ending_of result)
         → ReceivesOf container.now (seen_options options.entry) (S.files files.old) }
+    // A run that made its files: the numbers of the machine that it saved are in their ranges.
+    ensures stored { HasScripts (ending_of result)
+        → StoresOf container.now (seen_options options.entry) (S.files files.old) }
 {
-    match read_files(alloc, container, options.inputs(), options.upsets(), files) {
+    match read_files(
+        alloc,
+        container,
+        options.inputs(),
+        options.upsets(),
+        options.from(),
+        files,
+    ) {
         Ok(contents) => run_files(alloc, container, options, &contents, files, out, board),
         Err(ending) => ending,
     }
@@ -70,7 +83,8 @@ fn run_files<'a, S: Store, O: Sink>(
     out: &mut O,
     board: &mut Board,
 ) -> Ending<'a>
-    requires { count_of (span_in (seen_options options)) ≤ TICKS }
+    requires most { count_of (span_in (seen_options options)) ≤ TICKS }
+    requires begun { begins_once (seen_options options) ≡ true }
     ensures outcome { HasOutcome (ending_of result)
         (outcome_of (Run container.now (seen_options options.entry)) (map vector_bytes contents.now))
         (outside (S.files files.old) (S.read_faults files.old) (S.write_faults files.old) (S.calls files.old)
@@ -83,8 +97,16 @@ fn run_files<'a, S: Store, O: Sink>(
         (⟦<Board as ViewBoard>⟧.board_view board.old) (⟦<Board as ViewBoard>⟧.board_view board.new) }
     ensures numbers { HasScripts (ending_of result)
         → ReceivesShort container.now (seen_options options.entry) (map vector_bytes contents.now) }
+    ensures stored { HasScripts (ending_of result)
+        → StoresShort container.now (seen_options options.entry) (map vector_bytes contents.now) }
 {
-    match first_long(container, options.inputs(), options.upsets(), contents) {
+    match first_long(
+        container,
+        options.inputs(),
+        options.upsets(),
+        options.from(),
+        contents,
+    ) {
         Some(file) => Ending::Refused {
             file,
             why: Refusal::TooLong,
@@ -104,6 +126,7 @@ fn run_packed<'a, S: Store, O: Sink>(
     board: &mut Board,
 ) -> Ending<'a>
     requires most { count_of (span_in (seen_options options)) ≤ TICKS }
+    requires begun { begins_once (seen_options options) ≡ true }
     requires short { first_long (container.now ∷ run_inputs (seen_options options)) (map vector_bytes contents.now)
         ≡ None }
     ensures outcome { HasOutcome (ending_of result)
@@ -120,6 +143,8 @@ fn run_packed<'a, S: Store, O: Sink>(
         (⟦<Board as ViewBoard>⟧.board_view board.old) (⟦<Board as ViewBoard>⟧.board_view board.new) }
     ensures numbers { HasScripts (ending_of result)
         → ReceivesIn (seen_options options.entry) (map vector_bytes contents.now) }
+    ensures stored { HasScripts (ending_of result)
+        → StoresIn (seen_options options.entry) (map vector_bytes contents.now) }
 {
     let (bytes, _) = split_contents(contents);
     match unpack(alloc, bytes) {
@@ -142,29 +167,28 @@ fn run_unpacked<'a, S: Store, O: Sink>(
     board: &mut Board,
 ) -> Ending<'a>
     requires most { count_of (span_in (seen_options options)) ≤ TICKS }
+    requires begun { begins_once (seen_options options) ≡ true }
     requires short { first_long (run_inputs (seen_options options)) (drop 1 (map vector_bytes contents.now)) ≡ None }
     requires same { unpacked (content 0 (map vector_bytes contents.now)) ≡ Ok system }
     ensures outcome { HasOutcome (ending_of result)
-        (ran_with container.now (seen_options options.entry) (drop 1 (map vector_bytes contents.now)) system
+        (ran_with container.now (seen_options options.entry) (content 0 (map vector_bytes contents.now))
+        (drop 1 (map vector_bytes contents.now)) system
         (inputs_for (length system.conf.parts) (seen_options options.entry) (drop 1 (map vector_bytes contents.now))))
         (outside (S.files files.old) (S.read_faults files.old) (S.write_faults files.old) (S.calls files.old)
         (O.got out.old) (O.faults out.old))
         (outside (S.files files.new) (S.read_faults files.new) (S.write_faults files.new) (S.calls files.new)
         (O.got out.new) (O.faults out.new)) }
     ensures board { LeavesBoard (ending_of result)
-        (ran_with container.now (seen_options options.entry) (drop 1 (map vector_bytes contents.now)) system
+        (ran_with container.now (seen_options options.entry) (content 0 (map vector_bytes contents.now))
+        (drop 1 (map vector_bytes contents.now)) system
         (inputs_for (length system.conf.parts) (seen_options options.entry)
         (drop 1 (map vector_bytes contents.now)))).run
         (O.got out.old) (O.got out.new)
         (⟦<Board as ViewBoard>⟧.board_view board.old) (⟦<Board as ViewBoard>⟧.board_view board.new) }
-    ensures numbers { HasScripts (ending_of result) → (inputs : List (List ℕ)) (upsets : List UpsetLine)
-        → inputs_for (length system.conf.parts) (seen_options options.entry) (drop 1 (map vector_bytes contents.now))
-        ≡ Ok inputs
-        → upsets_for system.conf (ticks_asked (span_in (seen_options options.entry)) system.conf)
-        (seen_options options.entry) (drop 1 (map vector_bytes contents.now))
-        ≡ Ok upsets
-        → AllReceiveNumbers upsets (with_inputs system inputs) (ticks_asked (span_in (seen_options options.entry)) system.conf)
-        (scripts_in (seen_options options.entry)) }
+    ensures numbers { HasScripts (ending_of result)
+        → ReadyNumbers (seen_options options.entry) (map vector_bytes contents.now) system }
+    ensures stored { HasScripts (ending_of result)
+        → ReadyStores (seen_options options.entry) (map vector_bytes contents.now) system }
 {
     match ready_run(alloc, container, options, contents, &system) {
         Ok(ready) => run_ready(alloc, ready, options.cores(), system, files, out, board),
@@ -172,7 +196,7 @@ fn run_unpacked<'a, S: Store, O: Sink>(
     }
 }
 
-// Runs a system with what its run is given, and gives it back.
+// Runs a system with what its run is given.
 fn run_ready<'a, S: Store, O: Sink>(
     alloc: Global,
     ready: ReadyRun<'a>,
@@ -182,30 +206,31 @@ fn run_ready<'a, S: Store, O: Sink>(
     out: &mut O,
     board: &mut Board,
 ) -> Ending<'a>
-    requires most { ready.ticks ≤ TICKS }
-    requires given { length ready.inputs ≡ length system.conf.parts }
-    requires fit { AllFit system.conf ready.ticks 0 ready.upsets.items }
+    requires begins { IsBeginning system ready.beginning }
+    requires most { (machine_of system ready.beginning).ticks + ready.ticks ≤ TICKS }
+    requires fit { AllFit system.conf ((machine_of system ready.beginning).ticks + ready.ticks)
+        (machine_of system ready.beginning).ticks ready.upsets.items }
     requires inside { AreForPartitions (length system.conf.parts) (seen_files cores) }
     ensures outcome { HasOutcome (ending_of result)
         (outcome_of_run ready.entry.upsets.items ready.entry.ticks (seen_files cores.entry)
-        (map made_output ready.entry.scripts.items) system ready.entry.inputs)
+        (map made_output ready.entry.made.items) (machine_of system ready.entry.beginning))
         (outside (S.files files.old) (S.read_faults files.old) (S.write_faults files.old) (S.calls files.old)
         (O.got out.old) (O.faults out.old))
         (outside (S.files files.new) (S.read_faults files.new) (S.write_faults files.new) (S.calls files.new)
         (O.got out.new) (O.faults out.new)) }
     ensures board { LeavesBoard (ending_of result)
         (outcome_of_run ready.entry.upsets.items ready.entry.ticks (seen_files cores.entry)
-        (map made_output ready.entry.scripts.items) system ready.entry.inputs).run
+        (map made_output ready.entry.made.items) (machine_of system ready.entry.beginning)).run
         (O.got out.old) (O.got out.new)
         (⟦<Board as ViewBoard>⟧.board_view board.old) (⟦<Board as ViewBoard>⟧.board_view board.new) }
 {
     let ReadyRun {
         ticks,
-        inputs,
+        beginning,
         upsets,
-        scripts,
+        made,
     } = ready;
     run_system(
-        alloc, ticks, &upsets, cores, &scripts, system, inputs, files, out, board,
+        alloc, ticks, &upsets, cores, &made, system, beginning, files, out, board,
     )
 }

@@ -5,17 +5,14 @@ use Rattle.std.specs.List.{cons_option}
 use Rattle.xm_outside.specs.Causes.{Rose}
 use Rattle.xm_outside.specs.Files.{OthersStay}
 use Rattle.core_files.specs.Length.{core_length_of}
-use Rattle.loaded_system.specs.System.{System}
-use Rattle.xm_conf.specs.Configuration.{Conf}
-use Rattle.upset_files.specs.Fits.{AllFit}
-use Rattle.upset_model.specs.declared.upset_line.UpsetLine.{UpsetLine}
-use Rattle.machine_model.specs.Facts.{BootsComplete, RunsKeepNumbers}
-use Rattle.machine_model.specs.Machine.{Machine, start}
+use Rattle.machine_model.specs.Facts.{RunsKeepNumbers}
+use Rattle.machine_model.specs.Machine.{Machine}
 use Rattle.upset_model.specs.Upsets.{Schedule, upset_run}
 use Rattle.run_commands.specs.lemmas.StruckRuns.{struck_numbered}
 use Rattle.machine_model.specs.View.{System as Booted, view_of}
-use Rattle.system_state.specs.State.{with_inputs}
-use Rattle.command_line.specs.Words.{PartFile, RunOption, Length, Upsets, ForPart, asked, cores_in, files_in, inputs_in, kind_place, scripts_in}
+use Rattle.system_state.specs.State.{SysState}
+use Rattle.tick_steps.specs.Machine.{IsMachine}
+use Rattle.command_line.specs.Words.{PartFile, RunOption, Length, ForRun, ForPart, asked, cores_in, files_in, inputs_in, kind_place, scripts_in}
 use Rattle.command_line.specs.declared.run_options.FileKind.{FileKind}
 use Rattle.command_line.specs.declared.run_options.FileKind.TheVariants.{Core, Input, Script}
 use Rattle.run_commands.specs.lemmas.Cores.{AreForPartitions, FitInto}
@@ -29,7 +26,7 @@ use Rattle.file_commands.specs.Work.{Outside, SavesAll, after_store_call, with_f
 options_inside : (parts : ℕ) (kind : FileKind) (options : List RunOption) → first_beyond parts options ≡ None → AreForPartitions parts (files_in kind options)
 options_inside parts kind [] none = tt
 options_inside parts kind (Length span ∷ options) none = options_inside parts kind options none
-options_inside parts kind (Upsets file ∷ options) none = options_inside parts kind options none
+options_inside parts kind (ForRun other file ∷ options) none = options_inside parts kind options none
 options_inside parts kind (ForPart other named ∷ options) none = at (nat_le parts named.part) refl none (λ e. options_inside parts kind options e)
   where
     one : named.part < parts → AreForPartitions parts (files_in kind options) → (t : Bool) → AreForPartitions parts (cons_option (asked t named) (files_in kind options))
@@ -55,23 +52,9 @@ pub always_ok : {T E P : Type 0} (r : Result T E) → P → OnOk r P
 always_ok (Ok value) holds = holds
 always_ok (Err fault) holds = tt
 
--- a machine that boots has the partitions of its configuration
-booted_parts : BootsComplete → (system : System) (inputs : List (List ℕ)) → length (start (with_inputs system inputs)).parts ≡ length system.conf.parts
-unfolding start
-booted_parts law system inputs = (law (with_inputs system inputs)).parts
-
-pub booted_inside : (system : System) (inputs : List (List ℕ)) (cores : List PartFile) (g : Machine) → BootsComplete → g ≡ start (with_inputs system inputs) → AreForPartitions (length system.conf.parts) cores → AreForPartitions (length g.parts) cores
-booted_inside system inputs cores g law is inside =
-    subst (λ (n : ℕ). AreForPartitions n cores) (sym (ap (λ (m : Machine). length m.parts) is ∙ booted_parts law system inputs)) inside
-
--- and upsets that fit its configuration
-booted_system : (system : System) (inputs : List (List ℕ)) → (start (with_inputs system inputs)).system.conf ≡ system.conf
-unfolding start
-booted_system system inputs = refl
-
-pub booted_fit : (system : System) (inputs : List (List ℕ)) (g : Machine) (ticks : ℕ) (upsets : List UpsetLine) → g ≡ start (with_inputs system inputs) → AllFit system.conf ticks 0 upsets → AllFit g.system.conf ticks 0 upsets
-booted_fit system inputs g ticks upsets is fit =
-    subst (λ (conf : Conf). AllFit conf ticks 0 upsets) (sym (ap (λ (m : Machine). m.system.conf) is ∙ booted_system system inputs)) fit
+-- a whole machine has the partitions of its configuration
+pub machine_inside : (sys : SysState) (g : Machine) (files : List PartFile) → IsMachine sys → sys.machine ≡ g → AreForPartitions (length g.system.conf.parts) files → AreForPartitions (length g.parts) files
+machine_inside sys g files is same inside = subst (λ (n : ℕ). AreForPartitions n files) (sym (ap (λ (m : Machine). length m.parts) (sym same) ∙ is.complete.parts ∙ ap (λ (m : Machine). length m.system.conf.parts) same)) inside
 
 -- the partitions of files stay when upsets strike in a run
 pub run_inside : RunsKeepNumbers → (s : Schedule) (old new : Machine) (count : ℕ) (cores : List PartFile) → new ≡ upset_run s old count → AreForPartitions (length old.parts) cores → AreForPartitions (length new.parts) cores

@@ -3,7 +3,7 @@ use Rattle.std.proofs.Common.{◌≡◌, ◌≢◌, ◌↔◌, ℕ, ◌%◌, Boo
 use Rattle.std.proofs.lemmas.Bool.Decides.{nat_tests}
 use Rattle.std.specs.Prelude.{nat_eq, slice_set}
 use Rattle.xm_base.specs.declared.limits.TheConstants.{FILE_BYTES}
-use Rattle.command_line.specs.Words.{PartFile, RunOption, inputs_in, upsets_in}
+use Rattle.command_line.specs.Words.{PartFile, RunOption, from_in, inputs_in, upsets_in}
 use Rattle.system_state.specs.Inputs.{words_in}
 use Rattle.file_commands.specs.Ending.{input_text}
 use Rattle.file_commands.specs.Inputs.{inputs_with}
@@ -31,12 +31,19 @@ front_short (file ∷ files) later (bytes ∷ contents) none = at (nat_lt FILE_B
     at true e rest = absurd (cc)
     at false e rest = rest e
 
+-- so none of the inputs of a run is too long
+pub inputs_short : (options : List RunOption) (contents : List (List ℕ)) → first_long (run_inputs options) contents ≡ None → first_long (file_names (inputs_in options)) contents ≡ None
+inputs_short options contents none =
+    front_short (file_names (inputs_in options)) (name_if_any (upsets_in options)) contents
+    (front_short (file_names (inputs_in options) ++ name_if_any (upsets_in options)) (name_if_any (from_in options)) contents none)
+
 -- the first file of a run that is too long, where its files are known by other words
-pub long_of_run : (options : List RunOption) (found : Option (List ℕ)) (container : List ℕ) (inputs : List PartFile) (upsets : Option (List ℕ)) (contents : List (List ℕ)) → inputs ≡ inputs_in options → upsets ≡ upsets_in options
-    → found ≡ first_long (container ∷ file_names inputs ++ name_if_any upsets) contents → found ≡ first_long (container ∷ run_inputs options) contents
-long_of_run options found container inputs upsets contents same struck is =
-    is ∙ ap (λ (files : List PartFile). first_long (container ∷ file_names files ++ name_if_any upsets) contents) same
-    ∙ ap (λ (file : Option (List ℕ)). first_long (container ∷ file_names (inputs_in options) ++ name_if_any file) contents) struck
+pub long_of_run : (options : List RunOption) (found : Option (List ℕ)) (container : List ℕ) (inputs : List PartFile) (upsets from : Option (List ℕ)) (contents : List (List ℕ)) → inputs ≡ inputs_in options → upsets ≡ upsets_in options
+    → from ≡ from_in options → found ≡ first_long (container ∷ file_names inputs ++ name_if_any upsets ++ name_if_any from) contents → found ≡ first_long (container ∷ run_inputs options) contents
+long_of_run options found container inputs upsets from contents same struck begun is =
+    is ∙ ap (λ (files : List PartFile). first_long (container ∷ file_names files ++ name_if_any upsets ++ name_if_any from) contents) same
+    ∙ ap (λ (file : Option (List ℕ)). first_long (container ∷ file_names (inputs_in options) ++ name_if_any file ++ name_if_any from) contents) struck
+    ∙ ap (λ (file : Option (List ℕ)). first_long (container ∷ file_names (inputs_in options) ++ name_if_any (upsets_in options) ++ name_if_any file) contents) begun
 
 -- without contents no more inputs are read
 pub no_more_inputs : (inputs : List (List ℕ)) (files : List PartFile) (contents : List (List ℕ)) → contents ≡ [] → inputs_with inputs files contents ≡ Ok inputs

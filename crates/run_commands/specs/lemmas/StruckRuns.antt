@@ -8,7 +8,7 @@ use Rattle.machine_model.specs.Machine.{Machine, run, step}
 use Rattle.machine_model.specs.lemmas.ListLemmas.{each_counted}
 use Rattle.tick_steps.specs.lemmas.KeptLemmas.{ticks_most}
 use Rattle.upset_model.specs.Upsets.{Schedule, Upset, later, ready, ready_unless, struck_if, upset, upset_run, upset_script, upsets}
-use Rattle.upset_model.specs.lemmas.Segments.{first_run, first_script, from, from_at, ready_none, ready_system, ready_ticks, upset_run_add, upset_script_add, upset_script_halted}
+use Rattle.upset_model.specs.lemmas.Segments.{first_run, first_script, from, from_at, ready_none, ready_system, ready_ticks, upset_run_add, upset_run_halted, upset_script_add, upset_script_halted}
 
 -- Upsets.
 
@@ -63,6 +63,12 @@ struck_ends done asked s g p within halts =
     ∙ ap (λ rest. upset_script s g p done ++ rest) (sym (upset_script_halted (asked - done) (from done s) (upset_run s g done) p halts))
     ∙ sym (upset_script_add done (asked - done) s g p)
     ∙ ap (upset_script s g p) all
+
+-- and the machine stays as it is
+pub struck_rests : (done asked : ℕ) (s : Schedule) (g : Machine) → done ≤ asked → (upset_run s g done).halted ≡ true → upset_run s g done ≡ upset_run s g asked
+struck_rests done asked s g within halts =
+    let all : done + (asked - done) ≡ asked = omega (arith, within) in
+    sym (upset_run_halted (asked - done) (from done s) (upset_run s g done) halts) ∙ sym (upset_run_add done (asked - done) s g) ∙ ap (upset_run s g) all
 
 -- Segments.
 

@@ -1,10 +1,12 @@
-use Rattle.std.proofs.Common.{◌≡◌, ℕ, ◌⊎◌, ◌<◌, length, refl, sym, ◌∙◌, ap, subst}
+use Rattle.std.proofs.Common.{◌≡◌, ℕ, ◌⊎◌, ◌<◌, arith, length, refl, sym, ◌∙◌, ap, subst}
 use Rattle.xm_base.specs.declared.limits.TheConstants.{IMAGE_BYTES}
 use Rattle.command_line.specs.Words.{Bare}
 use Rattle.file_commands.specs.Ending.{length_text}
 use Rattle.file_commands.specs.Outcome.{Outcome, command_refused}
 use Rattle.file_commands.specs.lemmas.CommandLemmas.{one-long, refused_outcome}
+use Rattle.run_commands.proofs.BeginLemmas.{boot_ticks}
 use Rattle.run_commands.proofs.WorkLemmas.{outcome-length, outcome-image}
+use Rattle.system_state.specs.State.{with_inputs}
 use Rattle.run_commands.proofs.running.run_bytes.Goals as goal
 
 pub returns-then-bytes-gt-FILE_BYTES-clause-outcome : goal.returns-then-bytes-gt-FILE_BYTES-clause-outcome
@@ -13,7 +15,7 @@ returns-then-bytes-gt-FILE_BYTES-clause-outcome g c =
 
 pub returns-in-Ok-new-clause-outcome : goal.returns-in-Ok-new-clause-outcome
 returns-in-Ok-new-clause-outcome g c =
-    let comes = rw (c.in-Ok.ensures.value.1, c.in-Ok-new.ensures.value, c.none-cores.ensures.value, c.deref.ensures.value, c.new-scripts.ensures.items) at c.run_system.ensures.outcome in
+    let comes = rw (c.in-Ok.ensures.value.1, c.in-Ok-new.ensures.value, c.none-cores.ensures.value, c.deref.ensures.value, c.new-made.ensures.items) at c.run_system.ensures.outcome in
     rw (outcome-image c.args.image.now c.args.ticks c.args.bytes.now c.in-Ok.ensures.value.0) comes
 
 pub returns-in-Err-Length-clause-outcome : goal.returns-in-Err-Length-clause-outcome
@@ -27,5 +29,8 @@ returns-in-Err-Length-clause-outcome g c =
 
 pub returns-in-Ok-new-clause-board : goal.returns-in-Ok-new-clause-board
 returns-in-Ok-new-clause-board g c =
-    let left = rw (c.in-Ok.ensures.value.1, c.in-Ok-new.ensures.value, c.none-cores.ensures.value, c.deref.ensures.value, c.new-scripts.ensures.items) at c.run_system.ensures.board in
+    let left = rw (c.in-Ok.ensures.value.1, c.in-Ok-new.ensures.value, c.none-cores.ensures.value, c.deref.ensures.value, c.new-made.ensures.items) at c.run_system.ensures.board in
     rw (outcome-image c.args.image.now c.args.ticks c.args.bytes.now c.in-Ok.ensures.value.0) left
+
+pub run_system-requires-clause-most : goal.run_system-requires-clause-most
+run_system-requires-clause-most g c = omega (arith, c.requires, boot_ticks (with_inputs c.in-Ok.system c.in-Ok-new.inputs))

@@ -6,7 +6,7 @@ use Rattle.file_commands.specs.EndingValues.{ending_of}
 use Rattle.machine_model.specs.Machine.{start}
 use Rattle.upset_model.specs.Places.{schedule_of}
 use Rattle.run_commands.specs.lemmas.Recordings.{IsRecorded}
-use Rattle.run_commands.specs.lemmas.Scripts.{made_output}
+use Rattle.run_commands.specs.lemmas.Made.{made_output}
 use Rattle.run_commands.proofs.ScriptLemmas.{all_made, first_recorded, next_denied, next_made, next_recording, no_recording, recorded_parts, scripts_begun}
 use Rattle.run_commands.proofs.scripts.finish_all.Goals as goal
 

@@ -8,7 +8,7 @@ use Rattle.upset_model.specs.Places.{schedule_of}
 use Rattle.upset_model.specs.declared.upset_line.UpsetLine.{UpsetLine}
 use Rattle.machine_model.specs.View.{System}
 use Rattle.run_commands.specs.lemmas.Recordings.{IsRecorded, parts_of}
-use Rattle.run_commands.specs.lemmas.Scripts.{made_output}
+use Rattle.run_commands.specs.lemmas.Made.{made_output}
 use Rattle.run_commands.proofs.ScriptLemmas.{recorded_parts, scripts_before}
 use Rattle.run_commands.proofs.scripts.finish_all.Given as goal
 
