@@ -11,8 +11,10 @@ use Rattle.xm_base.specs.Options.{on}
 use Rattle.xm_base.specs.declared.limits.TheConstants.{FILE_BYTES, IMAGE_BYTES, TICKS}
 use Rattle.xm_outside.specs.Causes.{counted}
 use Rattle.xm_outside.specs.Files.{Files, OthersStay, stored}
+use Rattle.continuation_laws.specs.Onward.{after_ticks}
+use Rattle.machine_model.specs.Machine.{Machine, start}
 use Rattle.upset_model.specs.declared.upset_line.UpsetLine.{UpsetLine}
-use Rattle.command_line.specs.Words.{Command, PartFile, RunOption, Bare, Parse, Upgrade, BuildImage, ReadImage, Pack, ListContainer, CheckContainer, MakePlan, CheckPlan, ListGroups, ListSteerers, Generate, Run, Replay, ReplayFile, cores_in, replay_core, scripts_in, span_in}
+use Rattle.command_line.specs.Words.{Command, PartFile, RunOption, Bare, Parse, Upgrade, BuildImage, ReadImage, Pack, ListContainer, CheckContainer, MakePlan, CheckPlan, ListGroups, ListSteerers, Generate, Run, Replay, ReplayFile, cores_in, replay_core, save_in, scripts_in, span_in}
 use Rattle.xm_container.specs.Reading.{unpacked}
 use Rattle.fault_messages.specs.declared.fault.BoxFault.{BoxFault}
 use Rattle.xm_commands.specs.Answer.{files_saved}
@@ -25,7 +27,7 @@ use Rattle.file_commands.specs.Inputs.{no_inputs}
 use Rattle.file_commands.specs.Packing.{container_of}
 use Rattle.builders.specs.Ready.{Replay as Readied, Unready, replay_of}
 use Rattle.file_commands.specs.Denial.{Denial}
-use Rattle.file_commands.specs.Outcome.{Outcome, Output, bare_outcome, content, converted, first_long, outcome_of_file, outcome_of_print, packed_to, played, outcome_of_run, ran_for, ran_scripted, ran_struck, ran_with, ran_within, command_refused, refused_by, replay_input_bytes, replay_outcome_by, replay_outcome, replay_upset_bytes, run_by, run_outcome, inputs_of, outcome_of, scripts_for, ticks_asked, unless_long, upsets_for, outcome_of_contents}
+use Rattle.file_commands.specs.Outcome.{Outcome, Output, bare_outcome, beginning_of, content, converted, first_long, made_both, outcome_of_file, outcome_of_print, packed_to, played, outcome_of_run, ran_for, ran_from, ran_making, ran_struck, ran_with, ran_within, command_refused, refused_by, replay_input_bytes, replay_outcome_by, replay_outcome, replay_upset_bytes, run_by, run_outcome, inputs_of, outcome_of, save_for, scripts_for, ticks_asked, unless_long, upsets_for, outcome_of_contents}
 use Rattle.xm_commands.specs.Top.{AreContents}
 use Rattle.file_commands.specs.Work.{counted_by, Outside, ReadsFiles, wrote}
 use Rattle.file_commands.specs.lemmas.CommandLemmas.{outcome-long}
@@ -96,59 +98,69 @@ packed-denied : (file : List ℕ) (packed : Result (List ℕ) Denial) (denial : 
 packed-denied file (Ok bytes) denial e = absurd (cc)
 packed-denied file (Err refusal) denial e = same_refusal refusal denial e
 
--- a run of a system is not refused
-ran-denied : (upsets : List UpsetLine) (ticks : ℕ) (cores : List PartFile) (scripts : List Output) (system : System) (inputs : List (List ℕ)) (denial : Denial) → (outcome_of_run upsets ticks cores scripts system inputs).denial ≡ Some denial → ⊥
+-- a run of a machine is not refused
+ran-denied : (upsets : List UpsetLine) (ticks : ℕ) (cores : List PartFile) (made : List Output) (g : Machine) (denial : Denial) → (outcome_of_run upsets ticks cores made g).denial ≡ Some denial → ⊥
 unfolding outcome_of_run
-ran-denied upsets ticks cores scripts system inputs denial e = cc
+ran-denied upsets ticks cores made g denial e = cc
 
 -- a run of an image is refused so, or not at all
 bare-denied : (file : List ℕ) (ticks : ℕ) (image : List ℕ) (denial : Denial) → (bare_outcome file ticks image).denial ≡ Some denial → bare_outcome file ticks image ≡ refused_by denial
 unfolding bare_outcome
 bare-denied file ticks image denial e = at ((length image == 0) || nat_lt IMAGE_BYTES (length image)) e
   where
-    at : (t : Bool) → (if t then command_refused file (length_text (length image)) else outcome_of_run [] ticks [] [] (bare_system image) (no_inputs 1)).denial ≡ Some denial → (if t then command_refused file (length_text (length image)) else outcome_of_run [] ticks [] [] (bare_system image) (no_inputs 1)) ≡ refused_by denial
-    at true e = same_refusal _ denial e
-    at false e = absurd (ran-denied [] ticks [] [] (bare_system image) (no_inputs 1) denial e)
+    booted : Machine
+    booted = start (with_inputs (bare_system image) (no_inputs 1))
 
--- and so is a run whose scripts may be too long
-scripted-denied : (upsets : List UpsetLine) (ticks : ℕ) (cores : List PartFile) (system : System) (inputs : List (List ℕ)) (scripts : Result (List Output) Denial) (denial : Denial)
-    → (ran_scripted upsets ticks cores system inputs scripts).denial ≡ Some denial → ran_scripted upsets ticks cores system inputs scripts ≡ refused_by denial
-scripted-denied upsets ticks cores system inputs (Ok scripts) denial e = absurd (ran-denied upsets ticks cores scripts system inputs denial e)
-scripted-denied upsets ticks cores system inputs (Err refusal) denial e = same_refusal refusal denial e
+    at : (t : Bool) → (if t then command_refused file (length_text (length image)) else outcome_of_run [] ticks [] [] booted).denial ≡ Some denial → (if t then command_refused file (length_text (length image)) else outcome_of_run [] ticks [] [] booted) ≡ refused_by denial
+    at true e = same_refusal _ denial e
+    at false e = absurd (ran-denied [] ticks [] [] booted denial e)
+
+-- and so is a run whose files may be too long
+making-denied : (upsets : List UpsetLine) (ticks : ℕ) (cores : List PartFile) (g : Machine) (made : Result (List Output) Denial) (denial : Denial)
+    → (ran_making upsets ticks cores g made).denial ≡ Some denial → ran_making upsets ticks cores g made ≡ refused_by denial
+making-denied upsets ticks cores g (Ok made) denial e = absurd (ran-denied upsets ticks cores made g denial e)
+making-denied upsets ticks cores g (Err refusal) denial e = same_refusal refusal denial e
 
 -- and a run whose upsets may be refused
-struck-denied : (ticks : ℕ) (options : List RunOption) (system : System) (inputs : List (List ℕ)) (given : Result (List UpsetLine) Denial) (denial : Denial)
-    → (ran_struck ticks options system inputs given).denial ≡ Some denial → ran_struck ticks options system inputs given ≡ refused_by denial
-struck-denied ticks options system inputs (Ok upsets) denial e = scripted-denied upsets ticks (cores_in options) system inputs (scripts_for upsets (with_inputs system inputs) ticks (scripts_in options)) denial e
-struck-denied ticks options system inputs (Err refusal) denial e = same_refusal refusal denial e
+struck-denied : (ticks : ℕ) (options : List RunOption) (box : List ℕ) (g : Machine) (given : Result (List UpsetLine) Denial) (denial : Denial)
+    → (ran_struck ticks options box g given).denial ≡ Some denial → ran_struck ticks options box g given ≡ refused_by denial
+struck-denied ticks options box g (Ok upsets) denial e =
+    making-denied upsets ticks (cores_in options) g (made_both (scripts_for upsets g.system ticks (scripts_in options)) (save_for (save_in options) box (after_ticks upsets g ticks))) denial e
+struck-denied ticks options box g (Err refusal) denial e = same_refusal refusal denial e
 
 -- and a run that may be too long
-within-denied : (file : List ℕ) (options : List RunOption) (contents : List (List ℕ)) (system : System) (inputs : List (List ℕ)) (denial : Denial)
-    → (ran_within file options contents system inputs).denial ≡ Some denial → ran_within file options contents system inputs ≡ refused_by denial
+within-denied : (file : List ℕ) (options : List RunOption) (box : List ℕ) (contents : List (List ℕ)) (g : Machine) (denial : Denial)
+    → (ran_within file options box contents g).denial ≡ Some denial → ran_within file options box contents g ≡ refused_by denial
 unfolding ran_within
-within-denied file options contents system inputs denial e = at (ticks_asked (span_in options) system.conf) e
+within-denied file options box contents g denial e = at (ticks_asked (span_in options) g.system.conf) e
   where
-    by : (asked : ℕ) (t : Bool) (given : Result (List UpsetLine) Denial) → (if t then command_refused file (ticks_text asked) else ran_struck asked options system inputs given).denial ≡ Some denial
-        → (if t then command_refused file (ticks_text asked) else ran_struck asked options system inputs given) ≡ refused_by denial
+    by : (asked : ℕ) (t : Bool) (given : Result (List UpsetLine) Denial) → (if t then command_refused file (ticks_text (g.ticks + asked)) else ran_struck asked options box g given).denial ≡ Some denial
+        → (if t then command_refused file (ticks_text (g.ticks + asked)) else ran_struck asked options box g given) ≡ refused_by denial
     by asked true given e = same_refusal _ denial e
-    by asked false given e = struck-denied asked options system inputs given denial e
+    by asked false given e = struck-denied asked options box g given denial e
 
-    at : (asked : ℕ) → (ran_for file asked options contents system inputs).denial ≡ Some denial → ran_for file asked options contents system inputs ≡ refused_by denial
-    at asked e = by asked (nat_lt TICKS asked) (upsets_for system.conf asked options contents) e
+    at : (asked : ℕ) → (ran_for file asked options box contents g).denial ≡ Some denial → ran_for file asked options box contents g ≡ refused_by denial
+    at asked e = by asked (nat_lt TICKS (g.ticks + asked)) (upsets_for g.system.conf g.ticks asked options contents) e
+
+-- and a run whose beginning may be refused
+from-denied : (file : List ℕ) (options : List RunOption) (box : List ℕ) (contents : List (List ℕ)) (begins : Result Machine Denial) (denial : Denial)
+    → (ran_from file options box contents begins).denial ≡ Some denial → ran_from file options box contents begins ≡ refused_by denial
+from-denied file options box contents (Ok g) denial e = within-denied file options box contents g denial e
+from-denied file options box contents (Err refusal) denial e = same_refusal refusal denial e
 
 -- and a run whose inputs may be refused
-with-denied : (file : List ℕ) (options : List RunOption) (contents : List (List ℕ)) (system : System) (read : Result (List (List ℕ)) Denial) (denial : Denial)
-    → (ran_with file options contents system read).denial ≡ Some denial → ran_with file options contents system read ≡ refused_by denial
-with-denied file options contents system (Ok inputs) denial e = within-denied file options contents system inputs denial e
-with-denied file options contents system (Err refusal) denial e = same_refusal refusal denial e
+with-denied : (file : List ℕ) (options : List RunOption) (box : List ℕ) (contents : List (List ℕ)) (system : System) (read : Result (List (List ℕ)) Denial) (denial : Denial)
+    → (ran_with file options box contents system read).denial ≡ Some denial → ran_with file options box contents system read ≡ refused_by denial
+with-denied file options box contents system (Ok inputs) denial e = from-denied file options box contents (beginning_of options box contents system inputs) denial e
+with-denied file options box contents system (Err refusal) denial e = same_refusal refusal denial e
 
 -- and a run of a container
 run-denied : (file : List ℕ) (options : List RunOption) (bytes : List ℕ) (contents : List (List ℕ)) (denial : Denial) → (run_outcome file options bytes contents).denial ≡ Some denial → run_outcome file options bytes contents ≡ refused_by denial
 unfolding run_outcome
 run-denied file options bytes contents denial e = at (unpacked bytes) e
   where
-    at : (read : Result System BoxFault) → (run_by file options contents read).denial ≡ Some denial → run_by file options contents read ≡ refused_by denial
-    at (Ok system) e = with-denied file options contents system _ denial e
+    at : (read : Result System BoxFault) → (run_by file options bytes contents read).denial ≡ Some denial → run_by file options bytes contents read ≡ refused_by denial
+    at (Ok system) e = with-denied file options bytes contents system _ denial e
     at (Err fault) e = same_refusal _ denial e
 
 -- and a replay

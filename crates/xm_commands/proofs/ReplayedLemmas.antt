@@ -78,7 +78,7 @@ shows_own upsets system ticks part replay core before read_from after lines file
 }
 
 -- contents that were read of known files are these
-same_contents : (files : Files) (held : Option Files) (command : Command) (contents others : List (List ℕ)) → held ≡ Some files → read_all files (inputs_of command) ≡ Ok contents → AreContents held command others → others ≡ contents
+pub same_contents : (files : Files) (held : Option Files) (command : Command) (contents others : List (List ℕ)) → held ≡ Some files → read_all files (inputs_of command) ≡ Ok contents → AreContents held command others → others ≡ contents
 same_contents files held command contents others known all are =
     let read : read_all files (inputs_of command) ≡ Ok others = subst (λ (o : Option Files). AreContents o command others) known are in
     let both : Ok others ≡ Ok contents = sym read ∙ all in

@@ -1,18 +1,17 @@
 -- What a run and the replay after it answer.
-use Rattle.std.proofs.Common.{◌≡◌, ◌≢◌, ℕ, zero, suc, ◌+◌, ◌%◌, ◌<◌, ◌≤◌, ◌==◌, Bool, true, false, nat_eq, nat_lt, if◌then◌else◌, List, [], ◌∷◌, ◌++◌, length, map, drop, Option, Some, None, Result, Ok, Err, refl, sym, ap, ◌∙◌, subst, arith}
+use Rattle.std.proofs.Common.{if◌then◌else◌, ◌≡◌, ◌≢◌, ℕ, zero, suc, ◌+◌, ◌%◌, ◌<◌, ◌≤◌, ◌==◌, Bool, true, false, nat_eq, nat_lt, List, [], ◌∷◌, ◌++◌, length, map, drop, Option, Some, None, Result, Ok, Err, refl, sym, ap, ◌∙◌, subst, arith, length-append}
 use Rattle.std.specs.Prelude.{slice_index_or, slice_set}
-use Rattle.std.specs.FinMap.{get, insert}
+use Rattle.std.specs.FinMap.{get}
 use Rattle.std.proofs.lemmas.Bool.{eqb-true}
 use Rattle.std.proofs.lemmas.Bool.Decides.{nat_tests}
-use Rattle.std.proofs.lemmas.List.{append_assoc, get_or-set_other, get_or-set_same, length-replicate, length-set, map-append}
-use Rattle.xm_base.specs.declared.limits.TheConstants.{FILE_BYTES, TICKS}
+use Rattle.std.proofs.lemmas.List.{append-nil, append_assoc, get_or-set_other, get_or-set_same, length-replicate, length-set, map-append}
+use Rattle.xm_base.specs.declared.limits.TheConstants.{FILE_BYTES}
 use Rattle.xm_outside.specs.Files.{Files}
 use Rattle.xm_report.specs.Report.{texts}
 use Rattle.replay_setup.specs.OfRun.{IsOfRun, RunIsReplayed}
-use Rattle.fault_messages.specs.declared.fault.BoxFault.{BoxFault}
-use Rattle.loaded_system.specs.System.{System as Loaded}
-use Rattle.machine_model.specs.Machine.{Machine}
-use Rattle.upset_model.specs.Reports.{after_run, upset_report}
+use Rattle.continuation_laws.specs.Onward.{BootsAreBeginnings}
+use Rattle.upset_files.specs.Reading.{upsets_from}
+use Rattle.upset_model.specs.Reports.{after_run}
 use Rattle.upset_model.specs.declared.upset_line.UpsetLine.{UpsetLine}
 use Rattle.machine_model.specs.View.{System, view_of}
 use Rattle.recording_model.specs.Replayed.{replay_lines}
@@ -20,137 +19,28 @@ use Rattle.builders.specs.Ready.{Replay as Readied, replay_of}
 use Rattle.system_state.specs.Inputs.{words_in}
 use Rattle.system_state.specs.State.{with_inputs}
 use Rattle.xm_container.specs.Reading.{unpacked}
-use Rattle.command_line.specs.Words.{Command, PartFile, ReplayFile, RunOption, Run, Replay, command_of, cores_in, inputs_in, replay_core, replay_input, replay_upsets, scripts_in, span_in, upsets_in}
-use Rattle.file_commands.specs.lemmas.CommandLemmas.{outcome-long, outcome-short}
+use Rattle.command_line.specs.Words.{PartFile, ReplayFile, RunOption, Run, Replay, command_of, cores_in, from_in, inputs_in, replay_core, replay_input, replay_upsets, save_in, scripts_in, span_in, upsets_in}
+use Rattle.command_line.specs.Grammar.{CommandsAreSpelled}
 use Rattle.file_commands.specs.Denial.{Denial}
-use Rattle.file_commands.specs.Ending.{input_text, status_of, ticks_text}
+use Rattle.file_commands.specs.Ending.{input_text}
 use Rattle.file_commands.specs.Inputs.{first_beyond, inputs_for, inputs_with, no_inputs, unless_beyond}
 use Rattle.file_commands.specs.lemmas.LaterLemmas.{output_names}
 use Rattle.file_commands.specs.lemmas.UpsetLemmas.{upsets_are_read}
-use Rattle.file_commands.specs.Outcome.{Output, Outcome, bytes_if_any, command_refused, content, core_output, core_outputs, first_long, inputs_of, name_if_any, outcome_of, outcome_of_run, played, ran_scripted, ran_struck, replay_input_bytes, replay_inputs, replay_output, replay_upset_bytes, ran_with, ran_within, refused_by, run_by, run_inputs, run_outcome, script_bytes, script_denial, script_before, script_output, scripts_for, ticks_asked, unless_denied, upsets_for}
+use Rattle.file_commands.specs.Outcome.{Output, Outcome, bytes_if_any, content, core_outputs, first_long, name_if_any, played, replay_input_bytes, replay_inputs, replay_output, replay_upset_bytes, run_inputs, script_bytes, script_denial, script_before, script_output, scripts_for, ticks_asked, unless_denied}
 use Rattle.file_commands.specs.Packing.{denial, file_names}
-use Rattle.file_commands.specs.declared.status.Status.TheVariants.{Done, ReadFault}
+use Rattle.file_commands.specs.declared.status.Status.TheVariants.{Done}
 use Rattle.run_commands.specs.Contents.{read_all, read_before}
 use Rattle.run_commands.specs.lemmas.CoreLemmas.{scripts_inside}
 use Rattle.run_commands.specs.lemmas.Cores.{AreForPartitions}
 use Rattle.run_commands.specs.lemmas.InputLemmas.{rest_short}
-use Rattle.xm_commands.specs.Answer.{Answer, answer, answer_to_read, command_answer, ending_by, files_saved, outcome_answer, saved_all}
+use Rattle.xm_commands.specs.Answer.{Answer, answer, outcome_answer, saved_all}
 use Rattle.xm_commands.specs.RunThenAlone.{AnswersAsRun, BelongsTo, HoldsBytes, IsUntouched, RunsThenAlone, input_of, input_or}
 use Rattle.xm_commands.specs.Top.{IsNoneOf, writes_of}
-use Rattle.xm_commands.proofs.OutsideLemmas.{stored-others, stored-same}
+use Rattle.xm_commands.proofs.MadeLemmas.{scripts_are}
 use Rattle.xm_commands.proofs.ReplayLemmas.{content_next, head_short}
 use Rattle.xm_commands.proofs.ReplayedLemmas.{begun_outcome, own_cores}
-use Rattle.xm_commands.proofs.SeparationLemmas.{scripts_are}
-
--- Files that were written.
-
--- one that is none of them is as it was
-saved_keeps : (outputs : List Output) (files : Files) (other : List ℕ) → IsNoneOf (output_names outputs) other → get (saved_all outputs files) other ≡ get files other
-saved_keeps [] files other none = refl
-saved_keeps (output ∷ outputs) files other none = saved_keeps outputs (insert files output.file output.bytes) other none.1 ∙ stored-others files output.file output.bytes other none.0
-
--- one of them, which none after it is
-saved_has : (earlier : List Output) (output : Output) (later : List Output) (files : Files) → IsNoneOf (output_names later) output.file → get (saved_all (earlier ++ output ∷ later) files) output.file ≡ Some output.bytes
-saved_has [] output later files none = saved_keeps later (insert files output.file output.bytes) output.file none ∙ stored-same files output.file output.bytes
-saved_has (one ∷ earlier) output later files none = saved_has earlier output later (insert files one.file one.bytes) none
-
--- the names of files that are made for partitions are those that are given
-made_names : (make : PartFile → Output) → ((named : PartFile) → (make named).file ≡ named.file) → (files : List PartFile) (other : List ℕ) → IsNoneOf (file_names files) other → IsNoneOf (output_names (map make files)) other
-made_names make same [] other none = tt
-made_names make same (named ∷ files) other none = (subst (λ (file : List ℕ). other ≢ file) (sym (same named)) none.0, made_names make same files other none.1)
-
--- what is none of two lists' names is none of either's, and the other way round
-none_both : (names more : List (List ℕ)) (other : List ℕ) → IsNoneOf names other → IsNoneOf more other → IsNoneOf (names ++ more) other
-none_both [] more other none rest = rest
-none_both (name ∷ names) more other none rest = (none.0, none_both names more other none.1 rest)
-
-none_apart : (names more : List (List ℕ)) (other : List ℕ) → IsNoneOf (names ++ more) other → IsNoneOf names other × IsNoneOf more other
-none_apart [] more other none = (tt, none)
-none_apart (name ∷ names) more other none = (let rest = none_apart names more other none.1 in ((none.0, rest.0), rest.1))
-
--- A run that was not refused.
-
--- its files are short, its container is unpacked, its inputs are given, its ticks are within the limit, its upsets are read, and its scripts are made
-record WasRan (container : List ℕ) (options : List RunOption) (contents : List (List ℕ)) : Type 0 where
-  short : first_long (container ∷ run_inputs options) contents ≡ None
-  system : Loaded
-  unpacks : unpacked (content 0 contents) ≡ Ok system
-  inputs : List (List ℕ)
-  given : inputs_for (length system.conf.parts) options (drop 1 contents) ≡ Ok inputs
-  most : ticks_asked (span_in options) system.conf ≤ TICKS
-  upsets : List UpsetLine
-  strikes : upsets_for system.conf (ticks_asked (span_in options) system.conf) options (drop 1 contents) ≡ Ok upsets
-  outputs : List Output
-  made : scripts_for upsets (with_inputs system inputs) (ticks_asked (span_in options) system.conf) (scripts_in options) ≡ Ok outputs
-  is : outcome_of (Run container options) contents ≡ outcome_of_run upsets (ticks_asked (span_in options) system.conf) (cores_in options) outputs system inputs
-
--- an outcome that is granted is no refusal
-granted_never : (outcome : Outcome) (denial : Denial) → outcome.denial ≡ None → outcome ≡ refused_by denial → ⊥
-granted_never outcome denial granted same = (let wrong : None ≡ Some denial = sym granted ∙ ap (λ (o : Outcome). o.denial) same in cc)
-
-module _ (container : List ℕ) (options : List RunOption) (contents : List (List ℕ)) (granted : (outcome_of (Run container options) contents).denial ≡ None) (short : first_long (container ∷ run_inputs options) contents ≡ None) where
-  -- its outcome is no refusal
-  never : (denial : Denial) → outcome_of (Run container options) contents ≡ refused_by denial → ⊥
-  never denial same = granted_never (outcome_of (Run container options) contents) denial granted same
-
-  by_scripts : (system : Loaded) → unpacked (content 0 contents) ≡ Ok system
-      → (inputs : List (List ℕ)) → inputs_for (length system.conf.parts) options (drop 1 contents) ≡ Ok inputs → ticks_asked (span_in options) system.conf ≤ TICKS
-      → (upsets : List UpsetLine) → upsets_for system.conf (ticks_asked (span_in options) system.conf) options (drop 1 contents) ≡ Ok upsets
-      → (made : Result (List Output) Denial) → scripts_for upsets (with_inputs system inputs) (ticks_asked (span_in options) system.conf) (scripts_in options) ≡ made
-      → outcome_of (Run container options) contents ≡ ran_scripted upsets (ticks_asked (span_in options) system.conf) (cores_in options) system inputs made → WasRan container options contents
-  by_scripts system unpacks inputs given most upsets strikes (Ok outputs) made same = record {
-    short = short;
-    system = system;
-    unpacks = unpacks;
-    inputs = inputs;
-    given = given;
-    most = most;
-    upsets = upsets;
-    strikes = strikes;
-    outputs = outputs;
-    made = made;
-    is = same;
-  }
-  by_scripts system unpacks inputs given most upsets strikes (Err refusal) made same = absurd (never refusal same)
-
-  by_upsets : (system : Loaded) → unpacked (content 0 contents) ≡ Ok system
-      → (inputs : List (List ℕ)) → inputs_for (length system.conf.parts) options (drop 1 contents) ≡ Ok inputs → ticks_asked (span_in options) system.conf ≤ TICKS
-      → (read : Result (List UpsetLine) Denial) → upsets_for system.conf (ticks_asked (span_in options) system.conf) options (drop 1 contents) ≡ read
-      → outcome_of (Run container options) contents ≡ ran_struck (ticks_asked (span_in options) system.conf) options system inputs read → WasRan container options contents
-  by_upsets system unpacks inputs given most (Ok upsets) strikes same =
-      by_scripts system unpacks inputs given most upsets strikes (scripts_for upsets (with_inputs system inputs) (ticks_asked (span_in options) system.conf) (scripts_in options)) refl same
-  by_upsets system unpacks inputs given most (Err refusal) strikes same = absurd (never refusal same)
-
-  by_ticks : (system : Loaded) → unpacked (content 0 contents) ≡ Ok system
-      → (inputs : List (List ℕ)) → inputs_for (length system.conf.parts) options (drop 1 contents) ≡ Ok inputs
-      → (t : Bool) → nat_lt TICKS (ticks_asked (span_in options) system.conf) ≡ t
-      → outcome_of (Run container options) contents
-      ≡ (if t then command_refused container (ticks_text (ticks_asked (span_in options) system.conf))
-      else ran_struck (ticks_asked (span_in options) system.conf) options system inputs (upsets_for system.conf (ticks_asked (span_in options) system.conf) options (drop 1 contents))) → WasRan container options contents
-  by_ticks system unpacks inputs given true over same = absurd (never _ same)
-  by_ticks system unpacks inputs given false within same =
-      by_upsets system unpacks inputs given (grind (arith, nat_tests)) (upsets_for system.conf (ticks_asked (span_in options) system.conf) options (drop 1 contents)) refl same
-
-  by_inputs : (system : Loaded) → unpacked (content 0 contents) ≡ Ok system
-      → (read : Result (List (List ℕ)) Denial) → inputs_for (length system.conf.parts) options (drop 1 contents) ≡ read
-      → outcome_of (Run container options) contents ≡ ran_with container options (drop 1 contents) system read → WasRan container options contents
-  unfolding ran_within
-  by_inputs system unpacks (Ok inputs) given same = by_ticks system unpacks inputs given (nat_lt TICKS (ticks_asked (span_in options) system.conf)) refl same
-  by_inputs system unpacks (Err refusal) given same = absurd (never refusal same)
-
-  by_container : (read : Result Loaded BoxFault) → unpacked (content 0 contents) ≡ read
-      → outcome_of (Run container options) contents ≡ run_by container options (drop 1 contents) read → WasRan container options contents
-  by_container (Ok system) unpacks same = by_inputs system unpacks (inputs_for (length system.conf.parts) options (drop 1 contents)) refl same
-  by_container (Err fault) unpacks same = absurd (never _ same)
-
--- a run that is granted was done so
-was_ran : (container : List ℕ) (options : List RunOption) (contents : List (List ℕ)) → (outcome_of (Run container options) contents).denial ≡ None → WasRan container options contents
-unfolding run_outcome
-was_ran container options contents granted = at (first_long (container ∷ run_inputs options) contents) refl
-  where
-    at : (long : Option (List ℕ)) → first_long (container ∷ run_inputs options) contents ≡ long → WasRan container options contents
-    at None short = by_container container options contents granted short (unpacked (content 0 contents)) refl (outcome-short (Run container options) contents short)
-    at (Some file) long = absurd (granted_never (outcome_of (Run container options) contents) _ granted (outcome-long (Run container options) contents file long))
+use Rattle.xm_commands.proofs.RunAnswerLemmas.{HasRun, IsReadFirst, RanBooted, answer_by, has_run, made_names, none_apart, none_both, none_saved, read_first, saved_has}
+use Rattle.xm_commands.proofs.ScriptLemmas.{run_unscripted}
 
 -- a script that was made is short enough for a file
 script_short : (upsets : List UpsetLine) (system : System) (ticks : ℕ) (earlier : List PartFile) (named : PartFile) (later : List PartFile) (outputs : List Output) → scripts_for upsets system ticks (earlier ++ named ∷ later) ≡ Ok outputs
@@ -279,55 +169,6 @@ inside_one : (parts : ℕ) (earlier : List PartFile) (named : PartFile) (later :
 inside_one parts [] named later inside = inside.0
 inside_one parts (one ∷ earlier) named later inside = inside_one parts earlier named later inside.1
 
--- a run's first file, and the others
-record IsReadFirst (files : Files) (file : List ℕ) (names contents : List (List ℕ)) : Type 0 where
-  bytes : List ℕ
-  others : List (List ℕ)
-  there : get files file ≡ Some bytes
-  read : read_all files names ≡ Ok others
-  all : contents ≡ bytes ∷ others
-
-read_first : (files : Files) (file : List ℕ) (names contents : List (List ℕ)) → read_all files (file ∷ names) ≡ Ok contents → IsReadFirst files file names contents
-read_first files file names contents read = at (get files file) refl (read_all files names) refl read
-  where
-    at : (o : Option (List ℕ)) → get files file ≡ o → (r : Result (List (List ℕ)) (List ℕ)) → read_all files names ≡ r → read_before file o r ≡ Ok contents → IsReadFirst files file names contents
-    at None there r reads e = absurd (cc)
-    at (Some bytes) there (Err absent) reads e = absurd (cc)
-    at (Some bytes) there (Ok others) reads e = (let all : bytes ∷ others ≡ contents = cc in record { bytes = bytes; others = others; there = there; read = reads; all = sym all })
-
--- What is answered.
-
--- the answer to words of a command
-answer_read : (words : List (List ℕ)) (command : Command) (files : Files) → command_of words ≡ Some command → answer words files ≡ answer_to_read command (read_all files (inputs_of command)) files
-unfolding answer
-answer_read words command files is = ap (λ (c : Option Command). command_answer c files) is
-
--- the answer to a command whose files were read
-answer_by : (words : List (List ℕ)) (command : Command) (files : Files) (contents : List (List ℕ)) → command_of words ≡ Some command → read_all files (inputs_of command) ≡ Ok contents
-    → answer words files ≡ outcome_answer (outcome_of command contents) files
-answer_by words command files contents is read = answer_read words command files is ∙ ap (λ (r : Result (List (List ℕ)) (List ℕ)). answer_to_read command r files) read
-
--- one that is done is not refused
-done_granted : (denial : Option Denial) → status_of (ending_by denial) ≡ Done → denial ≡ None
-done_granted None done = refl
-done_granted (Some denial) done = absurd (cc)
-
--- the outcome of a run that was not refused
-ran_report : (upsets : List UpsetLine) (ticks : ℕ) (cores : List PartFile) (outputs : List Output) (system : Loaded) (inputs : List (List ℕ))
-    → (outcome_of_run upsets ticks cores outputs system inputs).report ≡ texts (upset_report upsets (with_inputs system inputs) ticks)
-unfolding outcome_of_run
-ran_report upsets ticks cores outputs system inputs = refl
-
-ran_files : (upsets : List UpsetLine) (ticks : ℕ) (cores : List PartFile) (outputs : List Output) (system : Loaded) (inputs : List (List ℕ)) (files : Files)
-    → saved_all (outcome_of_run upsets ticks cores outputs system inputs).later (files_saved (outcome_of_run upsets ticks cores outputs system inputs).output files)
-    ≡ saved_all (core_outputs (after_run upsets (with_inputs system inputs) ticks) cores ++ outputs) files
-unfolding outcome_of_run
-ran_files upsets ticks cores outputs system inputs files = refl
-
-core_names : (g : Machine) (cores : List PartFile) (other : List ℕ) → IsNoneOf (file_names cores) other → IsNoneOf (output_names (core_outputs g cores)) other
-unfolding core_outputs
-core_names g cores other none = made_names (core_output g) (λ named. refl) cores other none
-
 -- The replay after a run.
 
 -- a first file that is not too long
@@ -406,8 +247,14 @@ no_words (suc parts) zero = refl
 no_words (suc parts) (suc part) = no_words parts part
 
 module _ (law : RunIsReplayed) (words others : List (List ℕ)) (files : Files) (container : List ℕ) (options : List RunOption) (part : ℕ) (script_name : List ℕ) (further : List ReplayFile)
-    (is_run : command_of words ≡ Some (Run container options)) (is_replay : command_of others ≡ Some (Replay container part script_name further)) (belongs : BelongsTo container options part script_name further)
-    (holds : HoldsBytes files container) (contents : List (List ℕ)) (reads : read_all files (container ∷ run_inputs options) ≡ Ok contents) (ran : WasRan container options contents) where
+    (is_replay : command_of others ≡ Some (Replay container part script_name further)) (belongs : BelongsTo container options part script_name further)
+    (holds : HoldsBytes files container) (begun : from_in options ≡ None) (run : HasRun (answer words files) files container options) where
+  abbrev contents : List (List ℕ)
+  contents = run.contents
+
+  abbrev ran : RanBooted container options contents
+  ran = run.ran
+
   abbrev system : System
   system = with_inputs ran.system ran.inputs
 
@@ -417,44 +264,46 @@ module _ (law : RunIsReplayed) (words others : List (List ℕ)) (files : Files) 
   abbrev named : PartFile
   named = record { part = part; file = script_name }
 
-  -- the outputs of the run
-  outputs_are : ran.outputs ≡ map (script_output ran.upsets system ticks) belongs.earlier ++ script_output ran.upsets system ticks named ∷ map (script_output ran.upsets system ticks) belongs.later
-  outputs_are = scripts_are ran.upsets system ticks (scripts_in options) ran.outputs ran.made ∙ ap (map (script_output ran.upsets system ticks)) belongs.named ∙ map-append (script_output ran.upsets system ticks) belongs.earlier (named ∷ belongs.later)
-
-  -- the answer of the run
-  ran_answer : answer words files ≡ outcome_answer (outcome_of_run ran.upsets ticks (cores_in options) ran.outputs ran.system ran.inputs) files
-  ran_answer = answer_by words (Run container options) files contents is_run reads ∙ ap (λ (o : Outcome). outcome_answer o files) ran.is
+  abbrev cores : List Output
+  cores = core_outputs (after_run ran.upsets system ticks) (cores_in options)
 
   abbrev after : Files
   after = (answer words files).files
 
-  after_is : after ≡ saved_all (core_outputs (after_run ran.upsets system ticks) (cores_in options) ++ ran.outputs) files
-  after_is = ap (λ (a : Answer). a.files) ran_answer ∙ ran_files ran.upsets ticks (cores_in options) ran.outputs ran.system ran.inputs files
+  -- the scripts of the run
+  scripts_so : ran.scripts ≡ map (script_output ran.upsets system ticks) belongs.earlier ++ script_output ran.upsets system ticks named ∷ map (script_output ran.upsets system ticks) belongs.later
+  scripts_so = scripts_are ran.upsets system ticks (scripts_in options) ran.scripts ran.made ∙ ap (map (script_output ran.upsets system ticks)) belongs.named ∙ map-append (script_output ran.upsets system ticks) belongs.earlier (named ∷ belongs.later)
 
-  -- a file that the run does not write
-  kept : (other : List ℕ) → IsNoneOf (writes_of (Run container options)) other → get after other ≡ get files other
-  kept other none =
-      let apart = none_apart (file_names (cores_in options)) (file_names (scripts_in options)) other none in
-      let scripts : IsNoneOf (output_names ran.outputs) other =
-      subst (λ (os : List Output). IsNoneOf (output_names os) other) (sym (scripts_are ran.upsets system ticks (scripts_in options) ran.outputs ran.made)) (made_names (script_output ran.upsets system ticks) (λ n. refl) (scripts_in options) other apart.1) in
-      let cores = core_names (after_run ran.upsets system ticks) (cores_in options) other apart.0 in
-      let all : IsNoneOf (output_names (core_outputs (after_run ran.upsets system ticks) (cores_in options) ++ ran.outputs)) other =
-      subst (λ (names : List (List ℕ)). IsNoneOf names other) (sym (map-append (λ (o : Output). o.file) (core_outputs (after_run ran.upsets system ticks) (cores_in options)) ran.outputs))
-      (none_both (output_names (core_outputs (after_run ran.upsets system ticks) (cores_in options))) (output_names ran.outputs) other cores scripts) in
-      ap (λ (f : Files). get f other) after_is ∙ saved_keeps (core_outputs (after_run ran.upsets system ticks) (cores_in options) ++ ran.outputs) files other all
+  -- what is written before the script and after it
+  abbrev before_it : List Output
+  before_it = cores ++ map (script_output ran.upsets system ticks) belongs.earlier
+
+  abbrev after_it : List Output
+  after_it = map (script_output ran.upsets system ticks) belongs.later ++ ran.saves
+
+  written_so : cores ++ (ran.scripts ++ ran.saves) ≡ before_it ++ script_output ran.upsets system ticks named ∷ after_it
+  written_so =
+      ap (λ (os : List Output). cores ++ (os ++ ran.saves)) scripts_so
+      ∙ ap (λ (os : List Output). cores ++ os)
+      (append_assoc (map (script_output ran.upsets system ticks) belongs.earlier) (script_output ran.upsets system ticks named ∷ map (script_output ran.upsets system ticks) belongs.later) ran.saves)
+      ∙ sym (append_assoc cores (map (script_output ran.upsets system ticks) belongs.earlier) (script_output ran.upsets system ticks named ∷ after_it))
+
+  none_after : IsNoneOf (output_names after_it) script_name
+  none_after =
+      let apart = none_apart (file_names belongs.later) (name_if_any (save_in options)) script_name belongs.last in
+      subst (λ (names : List (List ℕ)). IsNoneOf names script_name) (sym (map-append (λ (o : Output). o.file) (map (script_output ran.upsets system ticks) belongs.later) ran.saves))
+      (none_both (output_names (map (script_output ran.upsets system ticks) belongs.later)) (output_names ran.saves) script_name
+      (made_names (script_output ran.upsets system ticks) (λ n. refl) belongs.later script_name apart.0) (none_saved container options contents ran script_name apart.1))
 
   -- the script that the run wrote
   script_there : get after script_name ≡ Some (script_bytes ran.upsets system ticks part)
   script_there =
-      ap (λ (f : Files). get f script_name) (after_is ∙ ap (λ (os : List Output). saved_all os files)
-      (ap (λ (os : List Output). core_outputs (after_run ran.upsets system ticks) (cores_in options) ++ os) outputs_are
-      ∙ sym (append_assoc (core_outputs (after_run ran.upsets system ticks) (cores_in options)) (map (script_output ran.upsets system ticks) belongs.earlier) (script_output ran.upsets system ticks named ∷ map (script_output ran.upsets system ticks) belongs.later))))
-      ∙ saved_has (core_outputs (after_run ran.upsets system ticks) (cores_in options) ++ map (script_output ran.upsets system ticks) belongs.earlier) (script_output ran.upsets system ticks named) (map (script_output ran.upsets system ticks) belongs.later) files
-      (made_names (script_output ran.upsets system ticks) (λ n. refl) belongs.later script_name belongs.last)
+      ap (λ (f : Files). get f script_name) (run.written ∙ ap (λ (os : List Output). saved_all os files) written_so)
+      ∙ saved_has before_it (script_output ran.upsets system ticks named) after_it files none_after
 
   -- the container's content, and those of the other files
   box : IsReadFirst files container (run_inputs options) contents
-  box = read_first files container (run_inputs options) contents reads
+  box = read_first files container (run_inputs options) contents run.read
 
   parts : (first_beyond (length ran.system.conf.parts) options ≡ None) × (inputs_with (no_inputs (length ran.system.conf.parts)) (inputs_in options) (drop 1 contents) ≡ Ok ran.inputs)
   parts = given_parts (length ran.system.conf.parts) options (drop 1 contents) ran.inputs ran.given
@@ -465,12 +314,19 @@ module _ (law : RunIsReplayed) (words others : List (List ℕ)) (files : Files) 
       inside_one (length ran.system.conf.parts) belongs.earlier named belongs.later
       (subst (AreForPartitions (length ran.system.conf.parts)) belongs.named (scripts_inside (length ran.system.conf.parts) options parts.0))
 
-  -- the contents of the files beside the container
-  read_rest : read_all files (run_inputs options) ≡ Ok (drop 1 contents)
-  read_rest = box.read ∙ ap Ok (sym (ap (drop 1) box.all))
+  -- the files that it reads beside its container
+  abbrev rest_names : List (List ℕ)
+  rest_names = file_names (inputs_in options) ++ name_if_any (upsets_in options)
 
-  short_rest : first_long (run_inputs options) (drop 1 contents) ≡ None
-  short_rest = rest_short container (run_inputs options) contents ran.short
+  rest_is : run_inputs options ≡ rest_names
+  rest_is = ap (λ (o : Option (List ℕ)). rest_names ++ name_if_any o) begun ∙ append-nil rest_names
+
+  -- their contents
+  read_rest : read_all files rest_names ≡ Ok (drop 1 contents)
+  read_rest = subst (λ (names : List (List ℕ)). read_all files names ≡ Ok (drop 1 contents)) rest_is (box.read ∙ ap Ok (sym (ap (drop 1) box.all)))
+
+  short_rest : first_long rest_names (drop 1 contents) ≡ None
+  short_rest = subst (λ (names : List (List ℕ)). first_long names (drop 1 contents) ≡ None) rest_is (rest_short container (run_inputs options) contents ran.short)
 
   -- its input words
   given_words : GivenBy files (replay_input further) [] (slice_index_or ran.inputs part [])
@@ -486,7 +342,7 @@ module _ (law : RunIsReplayed) (words others : List (List ℕ)) (files : Files) 
 
   -- its file after the run
   input_kept : HasFile after (replay_input further) input.bytes
-  input_kept = has_kept files after (replay_input further) input.bytes (λ file is. kept file (subst (IsUntouched (writes_of (Run container options))) is belongs.given)) input.file
+  input_kept = has_kept files after (replay_input further) input.bytes (λ file is. run.kept file (subst (IsUntouched (writes_of (Run container options))) is belongs.given)) input.file
 
   -- the bytes of the upsets
   abbrev struck : List ℕ
@@ -495,7 +351,7 @@ module _ (law : RunIsReplayed) (words others : List (List ℕ)) (files : Files) 
   -- their file after the run
   struck_kept : HasFile after (replay_upsets further) struck
   struck_kept =
-      has_kept files after (replay_upsets further) struck (λ file is. kept file (subst (IsUntouched (writes_of (Run container options))) is belongs.kept))
+      has_kept files after (replay_upsets further) struck (λ file is. run.kept file (subst (IsUntouched (writes_of (Run container options))) is belongs.kept))
       (subst (λ (named : Option (List ℕ)). HasFile files named struck) (sym belongs.struck) (struck_there files (inputs_in options) (upsets_in options) (drop 1 contents) read_rest short_rest))
 
   -- what the replay reads
@@ -506,11 +362,11 @@ module _ (law : RunIsReplayed) (words others : List (List ℕ)) (files : Files) 
   after_contents = box.bytes ∷ script_bytes ran.upsets system ticks part ∷ both.contents
 
   read_after : read_all after (container ∷ script_name ∷ replay_inputs further) ≡ Ok after_contents
-  read_after = (let there = kept container belongs.unwritten ∙ box.there in rw (there, script_there, both.read) refl)
+  read_after = (let there = run.kept container belongs.unwritten ∙ box.there in rw (there, script_there, both.read) refl)
 
   short_after : first_long (container ∷ script_name ∷ replay_inputs further) after_contents ≡ None
   short_after =
-      let few = script_short ran.upsets system ticks belongs.earlier named belongs.later ran.outputs (ap (scripts_for ran.upsets system ticks) (sym belongs.named) ∙ ran.made) in
+      let few = script_short ran.upsets system ticks belongs.earlier named belongs.later ran.scripts (ap (scripts_for ran.upsets system ticks) (sym belongs.named) ∙ ran.made) in
       let script_test : nat_lt FILE_BYTES (length (script_bytes ran.upsets system ticks part)) ≡ false = grind (arith, nat_tests) in
       let box_test = first_short container (run_inputs options) box.bytes box.others (subst (λ (c : List (List ℕ)). first_long (container ∷ run_inputs options) c ≡ None) box.all ran.short) in
       rw (box_test, script_test) both.short
@@ -523,7 +379,8 @@ module _ (law : RunIsReplayed) (words others : List (List ℕ)) (files : Files) 
     words = input.whole;
     given = input.given;
     most = ran.most;
-    strikes = upsets_are_read options ran.system.conf ticks (drop 1 contents) ran.upsets ran.strikes;
+    strikes = (let all : 0 + ticks ≡ ticks = omega arith in
+        subst (λ (n : ℕ). upsets_from ran.system.conf 0 n struck ≡ Ok ran.upsets) all (upsets_are_read options ran.system.conf 0 ticks (drop 1 contents) ran.upsets ran.strikes));
     received = refl;
   }
 
@@ -540,21 +397,26 @@ module _ (law : RunIsReplayed) (words others : List (List ℕ)) (files : Files) 
         system = system;
         upsets = ran.upsets;
         ticks = ticks;
-        printed = ap (λ (a : Answer). a.out) ran_answer ∙ ran_report ran.upsets ticks (cores_in options) ran.outputs ran.system ran.inputs;
+        printed = run.printed;
         done = ap (λ (a : Answer). a.status) replay_answer ∙ played_done (replay_core further) shows.replay after;
         lines = ap (λ (a : Answer). a.out) replay_answer ∙ played_out (replay_core further) shows.replay after ∙ ap texts shows.lines;
         core_file = ap (λ (a : Answer). a.files) replay_answer ∙ played_files (replay_core further) shows.replay after
             ∙ ap (λ (os : List Output). saved_all os after) (own_cores ran.upsets system ticks part shows.replay (replay_core further) shows.core);
       }
 
-pub run_then_alone : RunIsReplayed → RunsThenAlone
-run_then_alone law words others files container options part script_name further is_run is_replay done belongs holds = at (read_all files (container ∷ run_inputs options)) refl
+-- a run that makes a script begins with the boot of its system
+scripts_boot : CommandsAreSpelled → (words : List (List ℕ)) (container : List ℕ) (options : List RunOption) (earlier later : List PartFile) (named : PartFile) → command_of words ≡ Some (Run container options) → scripts_in options ≡ earlier ++ named ∷ later
+    → from_in options ≡ None
+scripts_boot grammar words container options earlier later named is scripts = at (from_in options) refl
   where
-    at : (r : Result (List (List ℕ)) (List ℕ)) → read_all files (container ∷ run_inputs options) ≡ r → AnswersAsRun (answer words files) (answer others (answer words files).files) part (replay_core further)
-    at (Ok contents) read =
-        let granted = done_granted (outcome_of (Run container options) contents).denial (sym (ap (λ (a : Answer). a.status) (answer_by words (Run container options) files contents is_run read)) ∙ done) in
-        answers_so law words others files container options part script_name further is_run is_replay belongs holds contents read (was_ran container options contents granted)
-    at (Err absent) read =
-        let unread = answer_read words (Run container options) files is_run ∙ ap (λ (r : Result (List (List ℕ)) (List ℕ)). answer_to_read (Run container options) r files) read in
-        let wrong : ReadFault ≡ Done = sym (ap (λ (a : Answer). a.status) unread) ∙ done in
-        absurd (cc)
+    at : (o : Option (List ℕ)) → from_in options ≡ o → o ≡ None
+    at None from = refl
+    at (Some file) from =
+        let none : [] ≡ earlier ++ named ∷ later = sym (run_unscripted grammar words container options is file from) ∙ scripts in
+        let count : 0 ≡ length earlier + length (named ∷ later) = ap length none ∙ length-append earlier (named ∷ later) in
+        absurd (omega (arith, count))
+
+pub run_then_alone : RunIsReplayed → BootsAreBeginnings → CommandsAreSpelled → RunsThenAlone
+run_then_alone law boots grammar words others files container options part script_name further is_run is_replay done belongs holds =
+    let begun = scripts_boot grammar words container options belongs.earlier belongs.later (record { part = part; file = script_name }) is_run belongs.named in
+    answers_so law words others files container options part script_name further is_replay belongs holds begun (has_run boots words files container options is_run done begun)

@@ -1,10 +1,9 @@
 -- What a run shows of each partition, out of the laws of own lines and of core files.
-use Rattle.std.proofs.Common.{◌≡◌, ℕ, ◌+◌, ◌-◌, ◌<◌, ◌≤◌, inl, inr, ⊎_elim, Bool, true, false, nat_lt, ◌==◌, ◌||◌, if◌then◌else◌, List, [], ◌∷◌, ◌++◌, length, map, drop, take, Option, Some, None, Result, Ok, Err, refl, sym, ap, ◌∙◌, subst, arith, length-append}
+use Rattle.std.proofs.Common.{if◌then◌else◌, ◌≡◌, ℕ, ◌+◌, ◌-◌, ◌<◌, ◌≤◌, inl, inr, ⊎_elim, Bool, true, false, nat_lt, ◌==◌, ◌||◌, List, [], ◌∷◌, ◌++◌, length, map, drop, take, Option, Some, None, Result, Ok, Err, refl, sym, ap, ◌∙◌, subst, arith, length-append}
 use Rattle.std.specs.Prelude.{IsSome, slice_get}
 use Rattle.std.proofs.Math.Seq.{take-append-add}
 use Rattle.std.proofs.lemmas.Bool.{cases_lt}
-use Rattle.std.proofs.lemmas.List.{take-append-le}
-use Rattle.std.proofs.lemmas.List.Elements.{filter-append}
+use Rattle.std.proofs.lemmas.List.{append_assoc, take-append-le}
 use Rattle.std.proofs.lemmas.Option.{get_or_from_slice_get}
 use Rattle.xm_base.specs.Options.{on}
 use Rattle.xm_base.specs.declared.limits.TheConstants.{IMAGE_BYTES, TICKS}
@@ -14,26 +13,31 @@ use Rattle.xm_outside.specs.lemmas.GrowthLemmas.{grown-nothing, grown_grown}
 use Rattle.xm_report.specs.Report.{ReportLine, text_of, texts}
 use Rattle.loaded_system.specs.Bare.{bare_system}
 use Rattle.loaded_system.specs.System.{System as Loaded}
+use Rattle.xm_conf.specs.Configuration.{Conf}
+use Rattle.continuation_laws.specs.Onward.{BootsAreBeginnings, after_ticks}
+use Rattle.saved_machines.specs.Saved.{SavedMachine}
+use Rattle.saved_machines.specs.SavedFormat.{saved_format}
+use Rattle.saved_machines.specs.Saving.{loaded_of, machine_saved, stored_digest}
+use Rattle.saved_machines.specs.declared.fault.SavedFault.{SavedFault}
 use Rattle.xm_container.specs.Reading.{unpacked}
 use Rattle.fault_messages.specs.declared.fault.BoxFault.{BoxFault}
 use Rattle.machine_model.specs.CoreFile.{core_file}
 use Rattle.machine_model.specs.Laws.{core_file_of}
-use Rattle.machine_model.specs.Lists.{is_number}
-use Rattle.machine_model.specs.Lines.{own, tag_of}
-use Rattle.machine_model.specs.Machine.{Machine, booted_part}
+use Rattle.machine_model.specs.Lines.{own}
+use Rattle.machine_model.specs.Machine.{Machine, booted_part, start}
 use Rattle.machine_model.specs.Partition.{PartitionState}
 use Rattle.machine_model.specs.View.{System, view_of}
-use Rattle.upset_model.specs.Reports.{after_run, upset_report}
+use Rattle.upset_model.specs.Reports.{after_run}
 use Rattle.upset_model.specs.declared.upset_line.UpsetLine.{UpsetLine}
 use Rattle.upset_laws.specs.ReportLaws.{OwnReports, SameUpsetCoreFile}
 use Rattle.system_state.specs.State.{part_at, with_inputs}
-use Rattle.command_line.specs.Words.{Command, PartFile, RunOption, Bare, Parse, Upgrade, BuildImage, ReadImage, Pack, ListContainer, CheckContainer, MakePlan, CheckPlan, ListGroups, ListSteerers, Generate, Run, Replay, cores_in, inputs_in, span_in, scripts_in}
+use Rattle.command_line.specs.Words.{Command, PartFile, RunOption, Bare, Parse, Upgrade, BuildImage, ReadImage, Pack, ListContainer, CheckContainer, MakePlan, CheckPlan, ListGroups, ListSteerers, Generate, Run, Replay, cores_in, from_in, inputs_in, save_in, span_in, scripts_in, upsets_in}
 use Rattle.run_commands.specs.lemmas.Cores.{AreForPartitions}
 use Rattle.file_commands.specs.Denial.{Denial}
 use Rattle.file_commands.specs.Ending.{Ending, Done, Usage, ReadFault, Refused, WriteFaultReport, WriteFaultFile, UartFault, NoMemory, length_text, status_of, ticks_text}
 use Rattle.file_commands.specs.Inputs.{first_beyond, inputs_for, inputs_with, no_inputs, unless_beyond}
-use Rattle.file_commands.specs.Outcome.{Output, Outcome, bare_outcome, content, core_output, core_outputs, first_long, inputs_of, outcome_of, outcome_of_run, ran_scripted, ran_struck, ran_with, ran_within, command_refused, refused_by, run_by, run_outcome, script_before, script_denial, script_output, scripts_for, ticks_asked, unless_denied, unless_long, upsets_for, outcome_of_contents}
-use Rattle.xm_commands.specs.Separation.{AreShownAlone, CommandAlone, ContainerAlone, PrintsAlone, Shown, ShowsAlone, ShowsFront, ShowsPart, ShowsSome, alone_output, alone_outputs}
+use Rattle.file_commands.specs.Outcome.{Output, Outcome, bare_outcome, beginning_named, beginning_of, content, core_output, core_outputs, first_long, inputs_of, machine_or, made_both, name_if_any, outcome_of, outcome_of_run, ran_from, ran_making, ran_struck, ran_with, ran_within, command_refused, refused_by, run_by, run_outcome, save_for, script_output, scripts_for, ticks_asked, unless_long, upsets_for, outcome_of_contents}
+use Rattle.xm_commands.specs.Separation.{AreShownAlone, CommandAlone, ContainerAlone, OnwardAlone, PrintsAlone, RunAlone, Showing, Shown, ShowsAlone, ShowsFront, ShowsPart, ShowsSome, alone_output, booted_run, onward_output, onward_run, save_outputs}
 use Rattle.xm_commands.specs.Top.{AreContents, IsCompleteStatus, IsNotWritten}
 use Rattle.file_commands.specs.Work.{Does, Outside, IsCarriedOut, IsUnsaved, IsUnwritten, ReadsFiles, Works, called_for, did, reported_all, wrote, wrote_all}
 use Rattle.file_commands.specs.declared.status.Status.TheVariants.{WriteFault}
@@ -43,7 +47,11 @@ use Rattle.run_commands.specs.lemmas.NumbersTerms.{CommandReceives, WordsReceive
 use Rattle.run_commands.specs.Numbers.{HasScripts, ReceivesOf}
 use Rattle.run_commands.specs.lemmas.CoreLemmas.{cores_inside}
 use Rattle.file_commands.specs.lemmas.OutputLemmas.{called_for-is}
+use Rattle.xm_commands.proofs.MadeLemmas.{made_are}
 use Rattle.xm_commands.proofs.NumberLemmas.{complete_made}
+use Rattle.xm_commands.proofs.OnwardLemmas.{AreOnward, OnwardLaws, are_onward, own_append}
+use Rattle.xm_commands.proofs.OutsideLemmas.{wrote-got}
+use Rattle.xm_commands.proofs.SavedLemmas.{saved_conf, saved_counted}
 use Rattle.xm_commands.proofs.TopLemmas.{IsSomeOf, done_is_finished, lost_first, lost_some, unheard_finished}
 use Rattle.xm_commands.proofs.WrittenLemmas.{did-got, wrote-from, wrote_all-from}
 
@@ -71,28 +79,59 @@ same_cores law upsets system ticks (named ∷ cores) inside =
     ap (λ (o : Output). o ∷ map (core_output (after_run upsets system ticks)) cores) one
     ∙ ap (λ (os : List Output). alone_output upsets system ticks named ∷ os) (same_cores law upsets system ticks cores inside.1)
 
--- and scripts stand after them
-same_later : SameUpsetCoreFile → (upsets : List UpsetLine) (system : System) (ticks : ℕ) (cores scripts : List PartFile) → AreForPartitions (length system.conf.parts) cores
-    → core_outputs (after_run upsets system ticks) cores ++ map (script_output upsets system ticks) scripts ≡ alone_outputs upsets system ticks cores scripts
-same_later law upsets system ticks cores scripts inside = ap (λ (os : List Output). os ++ map (script_output upsets system ticks) scripts) (same_cores law upsets system ticks cores inside)
+-- so are those after a run from a machine on
+same_onward : (upsets : List UpsetLine) (g : Machine) (ticks : ℕ) (cores : List PartFile) → AreOnward upsets g ticks → AreForPartitions (length g.system.conf.parts) cores → core_outputs (after_ticks upsets g ticks) cores ≡ map (onward_output upsets g ticks) cores
+unfolding core_outputs
+same_onward upsets g ticks [] onward inside = refl
+same_onward upsets g ticks (named ∷ cores) onward inside =
+    let one : core_output (after_ticks upsets g ticks) named ≡ onward_output upsets g ticks named =
+    ap (λ (bytes : List ℕ). record { file = named.file; bytes = bytes }) (onward.core_file named.part inside.0) in
+    ap (λ (o : Output). o ∷ map (core_output (after_ticks upsets g ticks)) cores) one
+    ∙ ap (λ (os : List Output). onward_output upsets g ticks named ∷ os) (same_onward upsets g ticks cores onward inside.1)
 
--- the outcome of a run whose scripts are not too long
-abbrev ran_to : List UpsetLine → ℕ → List PartFile → List PartFile → Loaded → List (List ℕ) → Outcome
-ran_to upsets ticks cores scripts system inputs = outcome_of_run upsets ticks cores (map (script_output upsets (with_inputs system inputs) ticks) scripts) system inputs
+-- The outcome of a run.
 
--- where none is refused they are what the partitions received
-pub scripts_are : (upsets : List UpsetLine) (system : System) (ticks : ℕ) (names : List PartFile) (outputs : List Output) → scripts_for upsets system ticks names ≡ Ok outputs → outputs ≡ map (script_output upsets system ticks) names
-scripts_are upsets system ticks [] outputs made = (let none : [] ≡ outputs = cc in sym none)
-scripts_are upsets system ticks (named ∷ names) outputs made = at (script_denial upsets system ticks named) (scripts_for upsets system ticks names) refl (scripts_are upsets system ticks names) made
-  where
-    at : (refusal : Option Denial) (later : Result (List Output) Denial) → scripts_for upsets system ticks names ≡ later
-        → ((others : List Output) → scripts_for upsets system ticks names ≡ Ok others → others ≡ map (script_output upsets system ticks) names)
-        → unless_denied refusal (script_before (script_output upsets system ticks named) later) ≡ Ok outputs → outputs ≡ map (script_output upsets system ticks) (named ∷ names)
-    at (Some refusal) later are rest e = absurd (cc)
-    at None (Err refusal) are rest e = absurd (cc)
-    at None (Ok others) are rest e =
-        let all : script_output upsets system ticks named ∷ others ≡ outputs = cc in
-        sym all ∙ ap (λ (os : List Output). script_output upsets system ticks named ∷ os) (rest others are)
+-- it shows what is to be shown of the run: its report is the run's, no file comes before it, and the files after it are the run's; and each partition's own
+-- lines are those of that partition alone
+record IsShowing (run : Showing) (outcome : Outcome) : Type 0 where
+  report : outcome.report ≡ texts run.report
+  output : outcome.output ≡ None
+  later : outcome.later ≡ run.outputs
+  own : (p : ℕ) → p < run.parts → own p run.report ≡ run.alone p
+
+-- the laws by which a run shows each partition as it is alone
+pub record ShowsAloneLaws : Type 0 where
+  pub boots : BootsAreBeginnings
+  pub lines : OwnReports
+  pub core : SameUpsetCoreFile
+  pub onward : OnwardLaws
+
+-- a run from the boot on
+booted_shows : BootsAreBeginnings → OwnReports → SameUpsetCoreFile → (upsets : List UpsetLine) (system : System) (ticks : ℕ) (cores scripts : List PartFile) (saves : List Output) → AreForPartitions (length system.conf.parts) cores
+    → IsShowing (booted_run upsets system ticks cores scripts saves) (outcome_of_run upsets ticks cores (map (script_output upsets system ticks) scripts ++ saves) (start system))
+unfolding outcome_of_run
+booted_shows boots lines_law core_law upsets system ticks cores scripts saves inside =
+    let alike = boots upsets system ticks in
+    let made : List Output = map (script_output upsets system ticks) scripts ++ saves in
+    record {
+      report = ap texts alike.report;
+      output = refl;
+      later = ap (λ (g : Machine). core_outputs g cores ++ made) alike.after
+          ∙ ap (λ (os : List Output). os ++ made) (same_cores core_law upsets system ticks cores inside)
+          ∙ sym (append_assoc (map (alone_output upsets system ticks) cores) (map (script_output upsets system ticks) scripts) saves);
+      own = λ p there. lines_law upsets system p ticks there;
+    }
+
+-- a run from a machine on
+onward_shows : (upsets : List UpsetLine) (g : Machine) (ticks : ℕ) (cores : List PartFile) (saves : List Output) → AreOnward upsets g ticks → AreForPartitions (length g.system.conf.parts) cores
+    → IsShowing (onward_run upsets g ticks cores saves) (outcome_of_run upsets ticks cores saves g)
+unfolding outcome_of_run
+onward_shows upsets g ticks cores saves onward inside = record {
+  report = refl;
+  output = refl;
+  later = ap (λ (os : List Output). os ++ saves) (same_onward upsets g ticks cores onward inside);
+  own = onward.lines;
+}
 
 -- What was done, by the outcome of a command.
 
@@ -117,10 +156,6 @@ never_some before after denial is =
     absurd (omega (arith, count))
 
 -- The report that was cut.
-
-own_append : (p : ℕ) (xs ys : List ReportLine) → own p (xs ++ ys) ≡ own p xs ++ own p ys
-unfolding own
-own_append p xs ys = filter-append (λ line. is_number (tag_of line) p) xs ys
 
 -- of all lines the first went out, and a prefix of the next one
 record AreCutIn (all : List ReportLine) (had got : Option (List ℕ)) : Type 0 where
@@ -173,51 +208,45 @@ are_cut (line ∷ others) had got p = ⊎_elim here (later (are_cut others (grow
 -- A run.
 
 -- whose whole report went out
-prints_run : OwnReports → (upsets : List UpsetLine) (system : System) (ticks : ℕ) (before after : Outside) → after.got ≡ grown before.got (texts (upset_report upsets system ticks)) → PrintsAlone upsets system ticks before after
-prints_run law upsets system ticks before after got = record { lines = upset_report upsets system ticks; whole = refl; report = got; own = λ p there. law upsets system p ticks there }
+prints_run : (run : Showing) (before after : Outside) → ((p : ℕ) → p < run.parts → own p run.report ≡ run.alone p) → after.got ≡ grown before.got (texts run.report) → PrintsAlone run before after
+prints_run run before after law got = record { lines = run.report; whole = refl; report = got; own = law }
 
--- the outcome of a run
-shows_run : OwnReports → SameUpsetCoreFile → (upsets : List UpsetLine) (system : Loaded) (inputs : List (List ℕ)) (ticks : ℕ) (cores scripts : List PartFile) (before read_from after : Outside) → AreForPartitions (length system.conf.parts) cores
-    → read_from.files ≡ before.files → read_from.got ≡ before.got → IsAllOf read_from after (ran_to upsets ticks cores scripts system inputs) → ShowsAlone upsets (with_inputs system inputs) ticks cores scripts before after
-unfolding outcome_of_run
-shows_run lines_law core_law upsets system inputs ticks cores scripts before read_from after inside files got is = record {
-  printed = prints_run lines_law upsets (with_inputs system inputs) ticks before after
-      (ap (λ (x : Outside). x.got) is.1 ∙ did-got (ran_to upsets ticks cores scripts system inputs) read_from ∙ ap (λ (g : Option (List ℕ)). grown g (texts (upset_report upsets (with_inputs system inputs) ticks))) got);
+-- its outcome
+shows_run : (run : Showing) (outcome : Outcome) (before read_from after : Outside) → IsShowing run outcome → read_from.files ≡ before.files → read_from.got ≡ before.got → IsAllOf read_from after outcome → ShowsAlone run before after
+shows_run run outcome before read_from after shows files got is = record {
+  printed = prints_run run before after shows.own
+      (ap (λ (x : Outside). x.got) is.1 ∙ did-got outcome read_from ∙ ap (grown read_from.got) shows.report ∙ ap (λ (g : Option (List ℕ)). grown g (texts run.report)) got);
   written = ap (λ (x : Outside). x.files) is.1
-      ∙ ap (λ (os : List Output). (wrote_all os (reported_all (ran_to upsets ticks cores scripts system inputs) read_from)).files) (same_later core_law upsets (with_inputs system inputs) ticks cores scripts inside)
-      ∙ wrote_all-from (alone_outputs upsets (with_inputs system inputs) ticks cores scripts) (reported_all (ran_to upsets ticks cores scripts system inputs) read_from) before files;
+      ∙ ap (λ (os : List Output). (wrote_all os (reported_all outcome read_from)).files) shows.later
+      ∙ wrote_all-from run.outputs (reported_all outcome read_from) before (ap (λ (o : Option Output). (wrote o read_from).files) shows.output ∙ files);
 }
 
 -- where its report was cut
-shows_front : OwnReports → (upsets : List UpsetLine) (system : Loaded) (inputs : List (List ℕ)) (ticks : ℕ) (cores scripts : List PartFile) (before after : Outside)
-    → IsFrontOf before after (ran_to upsets ticks cores scripts system inputs) → ShowsFront upsets (with_inputs system inputs) ticks cores scripts before after
-unfolding outcome_of_run
-shows_front law upsets system inputs ticks cores scripts before after is =
-    let cut = are_cut (upset_report upsets (with_inputs system inputs) ticks) before.got after.got is.0 in
+shows_front : (run : Showing) (outcome : Outcome) (before after : Outside) → IsShowing run outcome → IsFrontOf before after outcome → ShowsFront run before after
+shows_front run outcome before after shows is =
+    let cut = are_cut run.report before.got after.got (subst (λ (bytes : List ℕ). GrewByPrefix before.got bytes after.got) shows.report is.0) in
     record {
       lines = cut.lines;
       next = cut.next;
       rest = cut.rest;
       split = cut.split;
       front = cut.front;
-      own = λ p there. sym (own_append p cut.lines (cut.next ∷ cut.rest)) ∙ ap (own p) cut.split ∙ law upsets (with_inputs system inputs) p ticks there;
-      files = is.1;
+      own = λ p there. sym (own_append p cut.lines (cut.next ∷ cut.rest)) ∙ ap (own p) cut.split ∙ shows.own p there;
+      files = is.1 ∙ ap (λ (o : Option Output). (wrote o before).files) shows.output;
     }
 
--- where a core file or a script was not written
-shows_some : OwnReports → SameUpsetCoreFile → (upsets : List UpsetLine) (system : Loaded) (inputs : List (List ℕ)) (ticks : ℕ) (cores scripts : List PartFile) (before after : Outside) → AreForPartitions (length system.conf.parts) cores
-    → IsSomeOf before after (ran_to upsets ticks cores scripts system inputs) → ShowsSome upsets (with_inputs system inputs) ticks cores scripts before after
-unfolding outcome_of_run
-shows_some lines_law core_law upsets system inputs ticks cores scripts before after inside is =
-    let booted = with_inputs system inputs in
-    let reported = reported_all (ran_to upsets ticks cores scripts system inputs) before in
+-- where one of its files was not written
+shows_some : (run : Showing) (outcome : Outcome) (before after : Outside) → IsShowing run outcome → IsSomeOf before after outcome → ShowsSome run before after
+shows_some run outcome before after shows is =
+    let unwritten : (reported_all outcome before).files ≡ before.files = ap (λ (o : Option Output). (wrote o before).files) shows.output in
     record {
-      printed = prints_run lines_law upsets booted ticks before after is.report;
+      printed = prints_run run before after shows.own
+          (is.report ∙ ap (λ (g : Option (List ℕ)). grown g outcome.report) (wrote-got outcome.output before) ∙ ap (grown before.got) shows.report);
       first = is.first;
       lost = is.output;
       rest = is.rest;
-      split = sym is.split ∙ same_later core_law upsets booted ticks cores scripts inside;
-      others = subst (λ (fs : Option Files). OthersStay fs is.output.file after.files) (wrote_all-from is.first reported before refl) is.others;
+      split = sym is.split ∙ shows.later;
+      others = subst (λ (fs : Option Files). OthersStay fs is.output.file after.files) (wrote_all-from is.first (reported_all outcome before) before unwritten) is.others;
     }
 
 -- Commands that are not refused, by what was done.
@@ -240,47 +269,52 @@ whole_contents (Some files) command contents read short =
     subst (λ (all : List (List ℕ)). read_all files (inputs_of command) ≡ Ok all) (sym (is.whole (sym is.long ∙ short))) is.read
 
 -- an image that was run
-bare_by : {R : Type 0} (Did : Outcome → Type 0) (file : List ℕ) (ticks : ℕ) (image : List ℕ) → ((denial : Denial) → Did (refused_by denial) → ⊥) → (Did (outcome_of_run [] ticks [] [] (bare_system image) (no_inputs 1)) → R) → Did (bare_outcome file ticks image) → R
+bare_by : {R : Type 0} (Did : Outcome → Type 0) (file : List ℕ) (ticks : ℕ) (image : List ℕ) → ((denial : Denial) → Did (refused_by denial) → ⊥) → (Did (outcome_of_run [] ticks [] [] (start (with_inputs (bare_system image) (no_inputs 1)))) → R) → Did (bare_outcome file ticks image) → R
 unfolding bare_outcome
 bare_by {R} Did file ticks image never ran_so is = at ((length image == 0) || nat_lt IMAGE_BYTES (length image)) is
   where
-    at : (t : Bool) → Did (if t then command_refused file (length_text (length image)) else outcome_of_run [] ticks [] [] (bare_system image) (no_inputs 1)) → R
+    at : (t : Bool) → Did (if t then command_refused file (length_text (length image)) else outcome_of_run [] ticks [] [] (start (with_inputs (bare_system image) (no_inputs 1)))) → R
     at true done = absurd (never _ done)
     at false done = ran_so done
 
--- a run none of whose scripts is too long
-scripted_by : {R : Type 0} (Did : Outcome → Type 0) (upsets : List UpsetLine) (ticks : ℕ) (cores scripts : List PartFile) (system : Loaded) (inputs : List (List ℕ)) → ((denial : Denial) → Did (refused_by denial) → ⊥)
-    → (Did (ran_to upsets ticks cores scripts system inputs) → R) → Did (ran_scripted upsets ticks cores system inputs (scripts_for upsets (with_inputs system inputs) ticks scripts)) → R
-scripted_by {R} Did upsets ticks cores scripts system inputs never ran_so is = at (scripts_for upsets (with_inputs system inputs) ticks scripts) refl is
+-- what is done with the outcome of a run of this many ticks with upsets, from a machine on, of a container with these bytes: with all files that its options
+-- name
+abbrev RanSo : (Outcome → Type 0) → List UpsetLine → ℕ → List RunOption → List ℕ → System → Machine → Machine → Type 0
+RanSo Did upsets ticks options box system last g =
+    Did (outcome_of_run upsets ticks (cores_in options) (map (script_output upsets system ticks) (scripts_in options) ++ save_outputs box last (save_in options)) g)
+
+-- a run none of whose files is refused
+made_by : {R : Type 0} (Did : Outcome → Type 0) (upsets : List UpsetLine) (ticks : ℕ) (options : List RunOption) (box : List ℕ) (g : Machine) → ((denial : Denial) → Did (refused_by denial) → ⊥)
+    → (RanSo Did upsets ticks options box g.system (after_ticks upsets g ticks) g → R) → Did (ran_struck ticks options box g (Ok upsets)) → R
+made_by {R} Did upsets ticks options box g never ran_so is = at (made_both (scripts_for upsets g.system ticks (scripts_in options)) (save_for (save_in options) box (after_ticks upsets g ticks))) refl is
   where
-    at : (made : Result (List Output) Denial) → scripts_for upsets (with_inputs system inputs) ticks scripts ≡ made → Did (ran_scripted upsets ticks cores system inputs made) → R
-    at (Ok outputs) are done = ran_so (subst (λ (os : List Output). Did (outcome_of_run upsets ticks cores os system inputs)) (scripts_are upsets (with_inputs system inputs) ticks scripts outputs are) done)
+    at : (made : Result (List Output) Denial) → made_both (scripts_for upsets g.system ticks (scripts_in options)) (save_for (save_in options) box (after_ticks upsets g ticks)) ≡ made
+        → Did (ran_making upsets ticks (cores_in options) g made) → R
+    at (Ok outputs) are done =
+        ran_so (subst (λ (os : List Output). Did (outcome_of_run upsets ticks (cores_in options) os g)) (made_are upsets g.system ticks (scripts_in options) (save_in options) box (after_ticks upsets g ticks) outputs are) done)
     at (Err refusal) are done = absurd (never _ done)
 
--- the upsets of a run with options
-abbrev upsets_given : List RunOption → List (List ℕ) → Loaded → Result (List UpsetLine) Denial
-upsets_given options contents system = upsets_for system.conf (ticks_asked (span_in options) system.conf) options contents
-
 -- a run that is not too long, and whose upsets are not refused
-within_by : {R : Type 0} (Did : Outcome → Type 0) (file : List ℕ) (options : List RunOption) (contents : List (List ℕ)) (system : Loaded) (inputs : List (List ℕ)) → ((denial : Denial) → Did (refused_by denial) → ⊥)
-    → ((upsets : List UpsetLine) → upsets_given options contents system ≡ Ok upsets → Did (ran_to upsets (ticks_asked (span_in options) system.conf) (cores_in options) (scripts_in options) system inputs) → R)
-    → Did (ran_within file options contents system inputs) → R
+within_by : {R : Type 0} (Did : Outcome → Type 0) (file : List ℕ) (options : List RunOption) (box : List ℕ) (contents : List (List ℕ)) (g : Machine) → ((denial : Denial) → Did (refused_by denial) → ⊥)
+    → ((upsets : List UpsetLine) → upsets_for g.system.conf g.ticks (ticks_asked (span_in options) g.system.conf) options contents ≡ Ok upsets
+    → RanSo Did upsets (ticks_asked (span_in options) g.system.conf) options box g.system (after_ticks upsets g (ticks_asked (span_in options) g.system.conf)) g → R)
+    → Did (ran_within file options box contents g) → R
 unfolding ran_within
-within_by {R} Did file options contents system inputs never ran_so is = at (nat_lt TICKS asked) is
+within_by {R} Did file options box contents g never ran_so is = at (nat_lt TICKS (g.ticks + asked)) is
   where
     asked : ℕ
-    asked = ticks_asked (span_in options) system.conf
+    asked = ticks_asked (span_in options) g.system.conf
 
-    struck : (given : Result (List UpsetLine) Denial) → upsets_given options contents system ≡ given → Did (ran_struck asked options system inputs given) → R
-    struck (Ok upsets) given done = scripted_by Did upsets asked (cores_in options) (scripts_in options) system inputs never (ran_so upsets given) done
+    struck : (given : Result (List UpsetLine) Denial) → upsets_for g.system.conf g.ticks asked options contents ≡ given → Did (ran_struck asked options box g given) → R
+    struck (Ok upsets) given done = made_by Did upsets asked options box g never (ran_so upsets given) done
     struck (Err refusal) given done = absurd (never _ done)
 
-    at : (t : Bool) → Did (if t then command_refused file (ticks_text asked) else ran_struck asked options system inputs (upsets_for system.conf asked options contents)) → R
+    at : (t : Bool) → Did (if t then command_refused file (ticks_text (g.ticks + asked)) else ran_struck asked options box g (upsets_for g.system.conf g.ticks asked options contents)) → R
     at true done = absurd (never _ done)
-    at false done = struck (upsets_given options contents system) refl done
+    at false done = struck (upsets_for g.system.conf g.ticks asked options contents) refl done
 
 -- where input words are given, no option's partition is beyond those that there are
-given_inside : (parts : ℕ) (options : List RunOption) (contents inputs : List (List ℕ)) → inputs_for parts options contents ≡ Ok inputs → AreForPartitions parts (cores_in options)
+pub given_inside : (parts : ℕ) (options : List RunOption) (contents inputs : List (List ℕ)) → inputs_for parts options contents ≡ Ok inputs → AreForPartitions parts (cores_in options)
 unfolding inputs_for
 given_inside parts options contents inputs given = at (first_beyond parts options) refl given
   where
@@ -290,102 +324,223 @@ given_inside parts options contents inputs given = at (first_beyond parts option
 
 -- what was done with a run shows this
 abbrev RunShows : (Outcome → Type 0) → Shown → Outside → Outside → Type 0
-RunShows Did Shows before after =
-    (upsets : List UpsetLine) (system : Loaded) (inputs : List (List ℕ)) (ticks : ℕ) (cores scripts : List PartFile) → AreForPartitions (length system.conf.parts) cores → Did (ran_to upsets ticks cores scripts system inputs)
-    → Shows upsets (with_inputs system inputs) ticks cores scripts before after
+RunShows Did Shows before after = (run : Showing) (outcome : Outcome) → IsShowing run outcome → Did outcome → Shows run before after
 
--- a container that was run
-container_by : (Did : Outcome → Type 0) (Shows : Shown) (container : List ℕ) (options : List RunOption) (contents : List (List ℕ)) (before after : Outside)
-    → AreContents before.files (Run container options) contents → ReceivesOf container options before.files → ((denial : Denial) → Did (refused_by denial) → ⊥) → RunShows Did Shows before after
-    → Did (run_outcome container options (content 0 contents) (drop 1 contents)) → ContainerAlone Shows contents container options before after
-unfolding run_outcome
-container_by Did Shows container options contents before after are receives never shows is = at (unpacked (content 0 contents)) refl is
-  where
-    given : (system : Loaded) → unpacked (content 0 contents) ≡ Ok system → (read : Result (List (List ℕ)) Denial) → inputs_for (length system.conf.parts) options (drop 1 contents) ≡ read
-        → Did (ran_with container options (drop 1 contents) system read) → ContainerAlone Shows contents container options before after
-    given system unpacks (Ok inputs) reads done =
-        let shown : (upsets : List UpsetLine) → upsets_given options (drop 1 contents) system ≡ Ok upsets
-        → Did (ran_to upsets (ticks_asked (span_in options) system.conf) (cores_in options) (scripts_in options) system inputs) → ContainerAlone Shows contents container options before after =
-        λ upsets striking run. record {
-          are = are;
-          system = system;
-          unpacks = unpacks;
-          inputs = inputs;
-          given = reads;
-          upsets = upsets;
-          striking = striking;
-          numbers = λ files known.
-              receives files known contents (subst (λ (o : Option Files). AreContents o (Run container options) contents) known are) system inputs upsets unpacks reads striking;
-          shows = shows upsets system inputs (ticks_asked (span_in options) system.conf) (cores_in options) (scripts_in options) (given_inside (length system.conf.parts) options (drop 1 contents) inputs reads) run;
-        } in
-        within_by Did container options (drop 1 contents) system inputs never shown done
-    given system unpacks (Err refusal) reads done = absurd (never _ done)
+-- a run from a saved machine has no scripts
+abbrev pub HasNoScripts : Command → Type 0
+HasNoScripts (Bare image ticks) = Unit {0}
+HasNoScripts (Parse description output) = Unit {0}
+HasNoScripts (Upgrade configuration output) = Unit {0}
+HasNoScripts (BuildImage program output) = Unit {0}
+HasNoScripts (ReadImage image) = Unit {0}
+HasNoScripts (Pack configuration output images) = Unit {0}
+HasNoScripts (ListContainer container) = Unit {0}
+HasNoScripts (CheckContainer container) = Unit {0}
+HasNoScripts (MakePlan description) = Unit {0}
+HasNoScripts (CheckPlan description) = Unit {0}
+HasNoScripts (ListGroups description) = Unit {0}
+HasNoScripts (ListSteerers description) = Unit {0}
+HasNoScripts (Generate number) = Unit {0}
+HasNoScripts (Run container options) = (file : List ℕ) → from_in options ≡ Some file → scripts_in options ≡ []
+HasNoScripts (Replay container part script options) = Unit {0}
 
-    at : (read : Result Loaded BoxFault) → unpacked (content 0 contents) ≡ read → Did (run_by container options (drop 1 contents) read) → ContainerAlone Shows contents container options before after
-    at (Ok system) unpacks done = given system unpacks (inputs_for (length system.conf.parts) options (drop 1 contents)) refl done
-    at (Err fault) unpacks done = absurd (never _ done)
+-- a machine that boots
+booted_system : (system : System) → (start system).system ≡ system
+unfolding start
+booted_system system = refl
+
+booted_strikes : (system : System) (options : List RunOption) (contents : List (List ℕ)) (upsets : List UpsetLine)
+    → upsets_for (start system).system.conf (start system).ticks (ticks_asked (span_in options) (start system).system.conf) options contents ≡ Ok upsets
+    → upsets_for system.conf 0 (ticks_asked (span_in options) system.conf) options contents ≡ Ok upsets
+unfolding start
+booted_strikes system options contents upsets is = is
+
+-- what the partitions of its scripts receive, and the machine that it saves, are those of the run from the boot on
+booted_ran : BootsAreBeginnings → (Did : Outcome → Type 0) (upsets : List UpsetLine) (options : List RunOption) (box : List ℕ) (system : System)
+    → RanSo Did upsets (ticks_asked (span_in options) (start system).system.conf) options box (start system).system (after_ticks upsets (start system) (ticks_asked (span_in options) (start system).system.conf)) (start system)
+    → RanSo Did upsets (ticks_asked (span_in options) system.conf) options box system (after_run upsets system (ticks_asked (span_in options) system.conf)) (start system)
+booted_ran boots Did upsets options box system done =
+    let ticks : ℕ = ticks_asked (span_in options) system.conf in
+    subst (λ (last : Machine). RanSo Did upsets ticks options box system last (start system)) (boots upsets system ticks).after
+    (subst (λ (s : System). RanSo Did upsets (ticks_asked (span_in options) s.conf) options box s (after_ticks upsets (start system) (ticks_asked (span_in options) s.conf)) (start system)) (booted_system system) done)
+
+module _ (laws : ShowsAloneLaws) (Did : Outcome → Type 0) (Shows : Shown) (container : List ℕ) (options : List RunOption) (contents : List (List ℕ)) (before after : Outside)
+    (are : AreContents before.files (Run container options) contents) (receives : ReceivesOf container options before.files) (unscripted : HasNoScripts (Run container options))
+    (never : (denial : Denial) → Did (refused_by denial) → ⊥) (shows : RunShows Did Shows before after) where
+  -- a run from the boot on
+  booted_by : (system : Loaded) → unpacked (content 0 contents) ≡ Ok system → (inputs : List (List ℕ)) → inputs_for (length system.conf.parts) options (drop 1 contents) ≡ Ok inputs
+      → Did (ran_within container options (content 0 contents) (drop 1 contents) (start (with_inputs system inputs))) → ContainerAlone Shows contents container options before after
+  booted_by system unpacks inputs reads done =
+      within_by Did container options (content 0 contents) (drop 1 contents) (start (with_inputs system inputs)) never shown done
+    where
+      booted : System
+      booted = with_inputs system inputs
+
+      ticks : ℕ
+      ticks = ticks_asked (span_in options) system.conf
+
+      shown : (upsets : List UpsetLine) → upsets_for (start booted).system.conf (start booted).ticks (ticks_asked (span_in options) (start booted).system.conf) options (drop 1 contents) ≡ Ok upsets
+          → RanSo Did upsets (ticks_asked (span_in options) (start booted).system.conf) options (content 0 contents) (start booted).system (after_ticks upsets (start booted) (ticks_asked (span_in options) (start booted).system.conf)) (start booted)
+          → ContainerAlone Shows contents container options before after
+      shown upsets strikes run =
+          let striking = booted_strikes booted options (drop 1 contents) upsets strikes in
+          let saves : List Output = save_outputs (content 0 contents) (after_run upsets booted ticks) (save_in options) in
+          record {
+            are = are;
+            system = system;
+            unpacks = unpacks;
+            inputs = inputs;
+            given = reads;
+            upsets = upsets;
+            striking = striking;
+            numbers = λ files known.
+                receives files known contents (subst (λ (o : Option Files). AreContents o (Run container options) contents) known are) system inputs upsets unpacks reads striking;
+            shows = shows (booted_run upsets booted ticks (cores_in options) (scripts_in options) saves) _
+                (booted_shows laws.boots laws.lines laws.core upsets booted ticks (cores_in options) (scripts_in options) saves (given_inside (length system.conf.parts) options (drop 1 contents) inputs reads))
+                (booted_ran laws.boots Did upsets options (content 0 contents) booted run);
+          }
+
+  -- a run from the machine of a file on
+  onward_by : (file : List ℕ) → from_in options ≡ Some file → (system : Loaded) → unpacked (content 0 contents) ≡ Ok system
+      → (inputs : List (List ℕ)) → inputs_for (length system.conf.parts) options (drop 1 contents) ≡ Ok inputs
+      → (machine : Machine) → beginning_of options (content 0 contents) (drop 1 contents) system [] ≡ Ok machine → machine.system.conf ≡ system.conf → length machine.parts ≡ length machine.system.conf.parts
+      → Did (ran_within container options (content 0 contents) (drop 1 contents) machine) → OnwardAlone Shows contents container options before after
+  onward_by file named system unpacks inputs reads machine begins same counted done =
+      within_by Did container options (content 0 contents) (drop 1 contents) machine never shown done
+    where
+      ticks : ℕ
+      ticks = ticks_asked (span_in options) system.conf
+
+      shown : (upsets : List UpsetLine) → upsets_for machine.system.conf machine.ticks (ticks_asked (span_in options) machine.system.conf) options (drop 1 contents) ≡ Ok upsets
+          → RanSo Did upsets (ticks_asked (span_in options) machine.system.conf) options (content 0 contents) machine.system (after_ticks upsets machine (ticks_asked (span_in options) machine.system.conf)) machine
+          → OnwardAlone Shows contents container options before after
+      shown upsets strikes run =
+          let saves : List Output = save_outputs (content 0 contents) (after_ticks upsets machine ticks) (save_in options) in
+          let inside : AreForPartitions (length machine.system.conf.parts) (cores_in options) =
+          subst (λ (conf : Conf). AreForPartitions (length conf.parts) (cores_in options)) (sym same) (given_inside (length system.conf.parts) options (drop 1 contents) inputs reads) in
+          let ran : RanSo Did upsets ticks options (content 0 contents) machine.system (after_ticks upsets machine ticks) machine =
+          subst (λ (conf : Conf). RanSo Did upsets (ticks_asked (span_in options) conf) options (content 0 contents) machine.system (after_ticks upsets machine (ticks_asked (span_in options) conf)) machine) same run in
+          record {
+            are = are;
+            system = system;
+            unpacks = unpacks;
+            machine = machine;
+            begins = begins;
+            upsets = upsets;
+            striking = subst (λ (conf : Conf). upsets_for conf machine.ticks (ticks_asked (span_in options) conf) options (drop 1 contents) ≡ Ok upsets) same strikes;
+            shows = shows (onward_run upsets machine ticks (cores_in options) saves) _
+                (onward_shows upsets machine ticks (cores_in options) saves (are_onward laws.onward upsets machine ticks counted) inside)
+                (subst (λ (scripts : List PartFile). Did (outcome_of_run upsets ticks (cores_in options) (map (script_output upsets machine.system ticks) scripts ++ saves) machine)) (unscripted file named) ran);
+          }
+
+  -- by what it begins with
+  begun_by : (system : Loaded) → unpacked (content 0 contents) ≡ Ok system → (inputs : List (List ℕ)) → inputs_for (length system.conf.parts) options (drop 1 contents) ≡ Ok inputs
+      → Did (ran_from container options (content 0 contents) (drop 1 contents) (beginning_of options (content 0 contents) (drop 1 contents) system inputs)) → RunAlone (from_in options) Shows contents container options before after
+  unfolding beginning_of
+  begun_by system unpacks inputs reads is = at (from_in options) refl is
+    where
+      place : ℕ
+      place = length (inputs_in options) + length (name_if_any (upsets_in options))
+
+      saved_by : (file : List ℕ) → from_in options ≡ Some file
+          → (read : Result SavedMachine SavedFault) → (saved_format system.conf (loaded_of (with_inputs system [])) (stored_digest (content 0 contents))).read (content place (drop 1 contents)) ≡ read
+          → Did (ran_from container options (content 0 contents) (drop 1 contents) (machine_or file system read)) → OnwardAlone Shows contents container options before after
+      saved_by file named (Ok saved) read done =
+          let begins : beginning_named (from_in options) (content 0 contents) system [] (content place (drop 1 contents)) ≡ Ok (machine_saved (with_inputs system []) saved) =
+          ap (λ (o : Option (List ℕ)). beginning_named o (content 0 contents) system [] (content place (drop 1 contents))) named ∙ ap (machine_or file system) read in
+          onward_by file named system unpacks inputs reads (machine_saved (with_inputs system []) saved) begins (saved_conf (with_inputs system []) saved)
+          (saved_counted (with_inputs system []) (stored_digest (content 0 contents)) (content place (drop 1 contents)) saved read) done
+      saved_by file named (Err fault) read done = absurd (never _ done)
+
+      at : (named : Option (List ℕ)) → from_in options ≡ named
+          → Did (ran_from container options (content 0 contents) (drop 1 contents) (beginning_named named (content 0 contents) system inputs (content place (drop 1 contents)))) → RunAlone named Shows contents container options before after
+      at None named done = booted_by system unpacks inputs reads done
+      at (Some file) named done = saved_by file named ((saved_format system.conf (loaded_of (with_inputs system [])) (stored_digest (content 0 contents))).read (content place (drop 1 contents))) refl done
+
+  -- a container that was run
+  container_by : Did (run_outcome container options (content 0 contents) (drop 1 contents)) → RunAlone (from_in options) Shows contents container options before after
+  unfolding run_outcome
+  container_by is = at (unpacked (content 0 contents)) refl is
+    where
+      given : (system : Loaded) → unpacked (content 0 contents) ≡ Ok system → (read : Result (List (List ℕ)) Denial) → inputs_for (length system.conf.parts) options (drop 1 contents) ≡ read
+          → Did (ran_with container options (content 0 contents) (drop 1 contents) system read) → RunAlone (from_in options) Shows contents container options before after
+      given system unpacks (Ok inputs) reads done = begun_by system unpacks inputs reads done
+      given system unpacks (Err refusal) reads done = absurd (never _ done)
+
+      at : (read : Result Loaded BoxFault) → unpacked (content 0 contents) ≡ read → Did (run_by container options (content 0 contents) (drop 1 contents) read) → RunAlone (from_in options) Shows contents container options before after
+      at (Ok system) unpacks done = given system unpacks (inputs_for (length system.conf.parts) options (drop 1 contents)) refl done
+      at (Err fault) unpacks done = absurd (never _ done)
 
 -- what a command shows
-command_by : (Did : Outcome → Type 0) (Shows : Shown) (command : Command) (contents : List (List ℕ)) (before after : Outside)
-    → AreContents before.files command contents → CommandReceives command before.files → ((denial : Denial) → Did (refused_by denial) → ⊥) → RunShows Did Shows before after → Did (outcome_of_contents command contents) → CommandAlone Shows contents command before after
-command_by Did Shows (Bare image ticks) contents before after are receives never shows is = record {
-  are = are;
-  shows = bare_by Did image ticks (content 0 contents) never (shows [] (bare_system (content 0 contents)) (no_inputs 1) ticks [] [] tt) is;
-}
-command_by Did Shows (Parse description output) contents before after are receives never shows is = tt
-command_by Did Shows (Upgrade configuration output) contents before after are receives never shows is = tt
-command_by Did Shows (BuildImage program output) contents before after are receives never shows is = tt
-command_by Did Shows (ReadImage image) contents before after are receives never shows is = tt
-command_by Did Shows (Pack configuration output images) contents before after are receives never shows is = tt
-command_by Did Shows (ListContainer container) contents before after are receives never shows is = tt
-command_by Did Shows (CheckContainer container) contents before after are receives never shows is = tt
-command_by Did Shows (MakePlan description) contents before after are receives never shows is = tt
-command_by Did Shows (CheckPlan description) contents before after are receives never shows is = tt
-command_by Did Shows (ListGroups description) contents before after are receives never shows is = tt
-command_by Did Shows (ListSteerers description) contents before after are receives never shows is = tt
-command_by Did Shows (Generate number) contents before after are receives never shows is = tt
-command_by Did Shows (Replay container part script options) contents before after are receives never shows is = tt
-command_by Did Shows (Run container options) contents before after are receives never shows is = container_by Did Shows container options contents before after are receives never shows is
-
-outcome_by : (Did : Outcome → Type 0) (Shows : Shown) (command : Command) (contents : List (List ℕ)) (before after : Outside)
-    → ReadsFiles before.files (inputs_of command) contents → CommandReceives command before.files → ((denial : Denial) → Did (refused_by denial) → ⊥) → RunShows Did Shows before after → Did (outcome_of command contents)
+command_by : ShowsAloneLaws → (Did : Outcome → Type 0) (Shows : Shown) (command : Command) (contents : List (List ℕ)) (before after : Outside)
+    → AreContents before.files command contents → CommandReceives command before.files → HasNoScripts command → ((denial : Denial) → Did (refused_by denial) → ⊥) → RunShows Did Shows before after → Did (outcome_of_contents command contents)
     → CommandAlone Shows contents command before after
-outcome_by Did Shows command contents before after read receives never shows is =
-    worked_by Did command contents never (λ short. command_by Did Shows command contents before after (whole_contents before.files command contents read short) receives never shows) is
+command_by laws Did Shows (Bare image ticks) contents before after are receives unscripted never shows is =
+    let booted : System = with_inputs (bare_system (content 0 contents)) (no_inputs 1) in
+    record {
+      are = are;
+      shows = bare_by Did image ticks (content 0 contents) never (shows (booted_run [] booted ticks [] [] []) _ (booted_shows laws.boots laws.lines laws.core [] booted ticks [] [] [] tt)) is;
+    }
+command_by laws Did Shows (Parse description output) contents before after are receives unscripted never shows is = tt
+command_by laws Did Shows (Upgrade configuration output) contents before after are receives unscripted never shows is = tt
+command_by laws Did Shows (BuildImage program output) contents before after are receives unscripted never shows is = tt
+command_by laws Did Shows (ReadImage image) contents before after are receives unscripted never shows is = tt
+command_by laws Did Shows (Pack configuration output images) contents before after are receives unscripted never shows is = tt
+command_by laws Did Shows (ListContainer container) contents before after are receives unscripted never shows is = tt
+command_by laws Did Shows (CheckContainer container) contents before after are receives unscripted never shows is = tt
+command_by laws Did Shows (MakePlan description) contents before after are receives unscripted never shows is = tt
+command_by laws Did Shows (CheckPlan description) contents before after are receives unscripted never shows is = tt
+command_by laws Did Shows (ListGroups description) contents before after are receives unscripted never shows is = tt
+command_by laws Did Shows (ListSteerers description) contents before after are receives unscripted never shows is = tt
+command_by laws Did Shows (Generate number) contents before after are receives unscripted never shows is = tt
+command_by laws Did Shows (Replay container part script options) contents before after are receives unscripted never shows is = tt
+command_by laws Did Shows (Run container options) contents before after are receives unscripted never shows is =
+    container_by laws Did Shows container options contents before after are receives unscripted never shows is
+
+outcome_by : ShowsAloneLaws → (Did : Outcome → Type 0) (Shows : Shown) (command : Command) (contents : List (List ℕ)) (before after : Outside)
+    → ReadsFiles before.files (inputs_of command) contents → CommandReceives command before.files → HasNoScripts command → ((denial : Denial) → Did (refused_by denial) → ⊥) → RunShows Did Shows before after → Did (outcome_of command contents)
+    → CommandAlone Shows contents command before after
+outcome_by laws Did Shows command contents before after read receives unscripted never shows is =
+    worked_by Did command contents never (λ short. command_by laws Did Shows command contents before after (whole_contents before.files command contents read short) receives unscripted never shows) is
 
 -- Where the command was carried out.
 
-carried_alone : OwnReports → SameUpsetCoreFile → (command : Command) (contents : List (List ℕ)) (before after : Outside) → CommandReceives command before.files → IsCarriedOut None contents command before after → CommandAlone ShowsAlone contents command before after
-carried_alone lines_law core_law command contents before after receives w =
+carried_alone : ShowsAloneLaws → (command : Command) (contents : List (List ℕ)) (before after : Outside) → CommandReceives command before.files → HasNoScripts command → IsCarriedOut None contents command before after → CommandAlone ShowsAlone contents command before after
+carried_alone laws command contents before after receives unscripted w =
     let read_from = called_for (inputs_of command) before in
     let files : read_from.files ≡ before.files = ap (λ (x : Outside). x.files) (called_for-is (inputs_of command) before) in
     let got : read_from.got ≡ before.got = ap (λ (x : Outside). x.got) (called_for-is (inputs_of command) before) in
-    outcome_by (IsAllOf read_from after) ShowsAlone command contents before after w.read receives (never_all read_from after)
-    (λ upsets system inputs ticks cores scripts inside done. shows_run lines_law core_law upsets system inputs ticks cores scripts before read_from after inside files got done)
+    outcome_by laws (IsAllOf read_from after) ShowsAlone command contents before after w.read receives unscripted (never_all read_from after)
+    (λ run outcome is done. shows_run run outcome before read_from after is files got done)
     (w.denied, w.outside)
 
-pub are_alone : OwnReports → SameUpsetCoreFile → (e : Ending) (contents : List (List ℕ)) (command : Option Command) (before after : Outside) → (HasScripts e → WordsReceive command before.files) → Works e contents command before after
+-- what holds of a command, where there is one
+abbrev pub OfCommand : (Command → Type 0) → Option Command → Type 0
+OfCommand Holds None = Unit {0}
+OfCommand Holds (Some command) = Holds command
+
+pub are_alone : ShowsAloneLaws → (e : Ending) (contents : List (List ℕ)) (command : Option Command) (before after : Outside) → (HasScripts e → WordsReceive command before.files) → OfCommand HasNoScripts command → Works e contents command before after
     → IsCompleteStatus (status_of e) → AreShownAlone ShowsAlone contents command before after
-are_alone lines_law core_law e contents None before after receives w complete = tt
-are_alone lines_law core_law e contents (Some command) before after receives w complete =
+are_alone laws e contents None before after receives unscripted w complete = tt
+are_alone laws e contents (Some command) before after receives unscripted w complete =
     let carried : IsCarriedOut None contents command before after =
     ⊎_elim (λ done. subst (λ (e : Ending). Does e contents command before after) (done_is_finished e done) w) (λ fault. unheard_finished e contents command before after fault w) complete in
-    carried_alone lines_law core_law command contents before after (receives (complete_made e complete)) carried
+    carried_alone laws command contents before after (receives (complete_made e complete)) unscripted carried
 
 -- Where its report or one of its files was not written.
 
-front_alone : OwnReports → (command : Command) (contents : List (List ℕ)) (before after : Outside) → CommandReceives command before.files → IsUnwritten contents command before after → CommandAlone ShowsPart contents command before after
-front_alone law command contents before after receives w =
+front_alone : ShowsAloneLaws → (command : Command) (contents : List (List ℕ)) (before after : Outside) → CommandReceives command before.files → HasNoScripts command → IsUnwritten contents command before after → CommandAlone ShowsPart contents command before after
+front_alone laws command contents before after receives unscripted w =
     let files : (called_for (inputs_of command) before).files ≡ before.files = ap (λ (x : Outside). x.files) (called_for-is (inputs_of command) before) in
-    outcome_by (IsFrontOf before after) ShowsPart command contents before after w.read receives (never_front before after)
-    (λ upsets system inputs ticks cores scripts inside done. inl (shows_front law upsets system inputs ticks cores scripts before after done))
+    outcome_by laws (IsFrontOf before after) ShowsPart command contents before after w.read receives unscripted (never_front before after)
+    (λ run outcome is done. inl (shows_front run outcome before after is done))
     (w.front, ap (λ (x : Outside). x.files) w.outside ∙ wrote-from (outcome_of command contents).output (called_for (inputs_of command) before) before files)
 
-some_alone : OwnReports → SameUpsetCoreFile → (command : Command) (contents : List (List ℕ)) (before after : Outside) → CommandReceives command before.files → ReadsFiles before.files (inputs_of command) contents
+some_alone : ShowsAloneLaws → (command : Command) (contents : List (List ℕ)) (before after : Outside) → CommandReceives command before.files → HasNoScripts command → ReadsFiles before.files (inputs_of command) contents
     → IsSomeOf before after (outcome_of command contents) → CommandAlone ShowsPart contents command before after
-some_alone lines_law core_law command contents before after receives read some =
-    outcome_by (IsSomeOf before after) ShowsPart command contents before after read receives (never_some before after)
-    (λ upsets system inputs ticks cores scripts inside done. inr (shows_some lines_law core_law upsets system inputs ticks cores scripts before after inside done)) some
+some_alone laws command contents before after receives unscripted read some =
+    outcome_by laws (IsSomeOf before after) ShowsPart command contents before after read receives unscripted (never_some before after)
+    (λ run outcome is done. inr (shows_some run outcome before after is done)) some
 
 -- a command that writes a file before its report runs nothing
 lost_alone : (command : Command) (contents : List (List ℕ)) (before after : Outside) → IsNotWritten command before after → CommandAlone ShowsPart contents command before after
@@ -405,21 +560,21 @@ lost_alone (Generate number) contents before after w = tt
 lost_alone (Replay container part script options) contents before after w = tt
 lost_alone (Run container options) contents before after w = absurd (let some : IsSome {T = List ℕ} None = w.output in cc)
 
-unsaved_alone : OwnReports → SameUpsetCoreFile → (file : List ℕ) (command : Command) (contents : List (List ℕ)) (before after : Outside) → CommandReceives command before.files → IsUnsaved file contents command before after
+unsaved_alone : ShowsAloneLaws → (file : List ℕ) (command : Command) (contents : List (List ℕ)) (before after : Outside) → CommandReceives command before.files → HasNoScripts command → IsUnsaved file contents command before after
     → CommandAlone ShowsPart contents command before after
-unsaved_alone lines_law core_law file command contents before after receives w = ⊎_elim
+unsaved_alone laws file command contents before after receives unscripted w = ⊎_elim
     (λ first. lost_alone command contents before after (lost_first command contents file before after first))
-    (λ later. some_alone lines_law core_law command contents before after receives w.read (lost_some command (outcome_of command contents) file before after later))
+    (λ later. some_alone laws command contents before after receives unscripted w.read (lost_some command (outcome_of command contents) file before after later))
     w.lost
 
-pub are_part : OwnReports → SameUpsetCoreFile → (e : Ending) (contents : List (List ℕ)) (command : Option Command) (before after : Outside) → (HasScripts e → WordsReceive command before.files) → Works e contents command before after
+pub are_part : ShowsAloneLaws → (e : Ending) (contents : List (List ℕ)) (command : Option Command) (before after : Outside) → (HasScripts e → WordsReceive command before.files) → OfCommand HasNoScripts command → Works e contents command before after
     → status_of e ≡ WriteFault → AreShownAlone ShowsPart contents command before after
-are_part lines_law core_law e contents None before after receives w fault = tt
-are_part lines_law core_law Done contents (Some command) before after receives w fault = absurd (cc)
-are_part lines_law core_law Usage contents (Some command) before after receives w fault = absurd w
-are_part lines_law core_law (ReadFault file) contents (Some command) before after receives w fault = absurd (cc)
-are_part lines_law core_law (Refused file text) contents (Some command) before after receives w fault = absurd (cc)
-are_part lines_law core_law WriteFaultReport contents (Some command) before after receives w fault = front_alone lines_law command contents before after (receives tt) w
-are_part lines_law core_law (WriteFaultFile file) contents (Some command) before after receives w fault = unsaved_alone lines_law core_law file command contents before after (receives tt) w
-are_part lines_law core_law (UartFault place) contents (Some command) before after receives w fault = absurd (cc)
-are_part lines_law core_law NoMemory contents (Some command) before after receives w fault = absurd (cc)
+are_part laws e contents None before after receives unscripted w fault = tt
+are_part laws Done contents (Some command) before after receives unscripted w fault = absurd (cc)
+are_part laws Usage contents (Some command) before after receives unscripted w fault = absurd w
+are_part laws (ReadFault file) contents (Some command) before after receives unscripted w fault = absurd (cc)
+are_part laws (Refused file text) contents (Some command) before after receives unscripted w fault = absurd (cc)
+are_part laws WriteFaultReport contents (Some command) before after receives unscripted w fault = front_alone laws command contents before after (receives tt) unscripted w
+are_part laws (WriteFaultFile file) contents (Some command) before after receives unscripted w fault = unsaved_alone laws file command contents before after (receives tt) unscripted w
+are_part laws (UartFault place) contents (Some command) before after receives unscripted w fault = absurd (cc)
+are_part laws NoMemory contents (Some command) before after receives unscripted w fault = absurd (cc)

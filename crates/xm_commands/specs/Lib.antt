@@ -2,10 +2,12 @@ pub mod Answer
 pub mod Arguments
 pub mod Called
 pub mod Complete
+pub mod Continued
 pub mod Ended
 pub mod Page
 pub mod Played
 pub mod RunThenAlone
+pub mod RunThenOnward
 pub mod Separation
 pub mod Top
 pub mod World

@@ -5,6 +5,7 @@ use Rattle.file_commands.specs.Ending.{Ending, complaint, status_of}
 use Rattle.file_commands.specs.Work.{Works}
 use Rattle.run_commands.specs.Boards.{Plays}
 use Rattle.xm_commands.specs.Complete.{Completes}
+use Rattle.xm_commands.specs.Continued.{GoesOnFromSave, StoresNumbers}
 use Rattle.xm_commands.specs.Played.{IsMarked}
 use Rattle.xm_commands.specs.Separation.{AreShownAlone, ReplaysAlone, ShowsAlone, ShowsPart}
 use Rattle.xm_commands.specs.Top.{Answers, HasCauses, IsCompleteStatus, IsQuiet, IsSaid, OtherFilesStay}
@@ -43,6 +44,10 @@ pub record IsAnswer (status : Status) (words : List (List ℕ)) (before after : 
   pub complete : Completes status (command_of words) before after
   -- A replay by the script of a run, with the upsets of that run, is not refused, and shows the partition's part of that run.
   pub replayed : ReplaysAlone status (command_of words) before after
+  -- After a complete run that saves its machine, the numbers of that machine are in their ranges, as `continued` asks.
+  pub stored : IsCompleteStatus status → StoresNumbers (command_of words) before.disk.files
+  -- A run from the saved machine of a run reads it back, and shows what the run in one piece has after those ticks.
+  pub continued : GoesOnFromSave status (command_of words) before after
   -- After UartFault a place of the board is marked.
   pub marked : status ≡ UartFault → IsMarked after.board
   -- After Refused, Usage, ReadFault and NoMemory the board is as before.

@@ -8,7 +8,7 @@ use Rattle.machine_model.specs.Lines.{own}
 use Rattle.machine_model.specs.View.{System}
 use Rattle.upset_model.specs.Reports.{after_run, upset_report}
 use Rattle.upset_model.specs.declared.upset_line.UpsetLine.{UpsetLine}
-use Rattle.command_line.specs.Words.{PartFile, ReplayFile, RunOption, Run, Replay, command_of, inputs_in, replay_core, replay_input, replay_upsets, scripts_in, upsets_in}
+use Rattle.command_line.specs.Words.{PartFile, ReplayFile, RunOption, Run, Replay, command_of, inputs_in, replay_core, replay_input, replay_upsets, save_in, scripts_in, upsets_in}
 use Rattle.file_commands.specs.Outcome.{core_output, name_if_any}
 use Rattle.file_commands.specs.Packing.{file_names}
 use Rattle.xm_commands.specs.Answer.{Answer, answer, saved_all}
@@ -33,21 +33,21 @@ IsUntouched written (Some file) = IsNoneOf written file
 abbrev pub HoldsBytes : Files → List ℕ → Type 0
 HoldsBytes files name = (bytes : List ℕ) → get files name ≡ Some bytes → AreBytes bytes
 
--- a replay belongs to a run: it is of the same container and by a script that the run writes, with the partition's own input file and with the file of the run's upsets,
--- where there is one; and the run writes over none of these files, and no script over this one
+-- a replay belongs to a run: it is of the same container and by a script that the run writes, with the partition's own input file and with the file of the
+-- run's upsets, where there is one; and the run writes over none of these files, and no script and no saved machine over this one
 pub record BelongsTo (container : List ℕ) (options : List RunOption) (part : ℕ) (script : List ℕ) (further : List ReplayFile) : Type 0 where
   pub earlier : List PartFile
   pub later : List PartFile
   pub named : scripts_in options ≡ earlier ++ record { part = part; file = script } ∷ later
-  pub last : IsNoneOf (file_names later) script
+  pub last : IsNoneOf (file_names later ++ name_if_any (save_in options)) script
   pub unwritten : IsNoneOf (writes_of (Run container options)) container
   pub input : replay_input further ≡ input_of part (inputs_in options)
   pub given : IsUntouched (writes_of (Run container options)) (replay_input further)
   pub struck : replay_upsets further ≡ upsets_in options
   pub kept : IsUntouched (writes_of (Run container options)) (replay_upsets further)
 
--- what a run with upsets and the replay after it answer: the report of the run, of which the replay prints the partition's own lines; and the replay writes the core
--- file that the partition has after the run
+-- what a run with upsets and the replay after it answer: the report of the run, of which the replay prints the partition's own lines; and the replay writes
+-- the core file that the partition has after the run
 pub record AnswersAsRun (ran replayed : Answer) (part : ℕ) (core : Option (List ℕ)) : Type 0 where
   pub system : System
   pub upsets : List UpsetLine

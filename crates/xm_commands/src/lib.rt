@@ -17,6 +17,6 @@ mod world;
 pub use arguments::{carry_out, words_after_name};
 pub use edge::{arguments_of, program};
 pub use file_commands::Status;
-pub use law::runs_then_alone;
+pub use law::{runs_then_alone, runs_then_go_on};
 pub use top::{misused, xm_main};
 pub use world::Surroundings;

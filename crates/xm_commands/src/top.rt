@@ -8,13 +8,18 @@ ghost use Rattle.xm_commands.specs.World.{sink_view};
 
 use crate::work::work;
 use crate::world::Surroundings;
-use command_line::Words;
+use command_line::{Words, grammar};
+use continuation_laws::{boots_are_beginnings, runs_go_on};
 use file_commands::{Ending, Status, complain, status_of};
+use machine_model::{keeps_facts, keeps_hardware_clock, keeps_numbers, keeps_plans, keeps_shapes};
 use replay_setup::run_is_replayed;
+use saved_machines::{restores_what_was_saved, savable_machines_have_files};
 use std::alloc::Global;
 use uart_board::Board;
-use upset_laws::reports_upsets;
+use upset_files::upsets_are_spelled;
+use upset_laws::{contains_upsets, flips_bits, reports_upsets};
 use xm_base::proof;
+use xm_conf::broken_unless_fits;
 use xm_outside::{Sink, Store};
 
 /// Does what the words say: the named files are read, what is made of them is written, the report goes to `out`, and
@@ -35,8 +40,22 @@ pub fn xm_main<S: Store, O: Sink, E: Sink>(
     ensures silent { result ≡ Status.Done → err.new ≡ err.old }
 {
     proof! {
+        boots_are_beginnings();
+        broken_unless_fits();
+        contains_upsets();
+        flips_bits();
+        grammar();
+        keeps_facts();
+        keeps_hardware_clock();
+        keeps_numbers();
+        keeps_plans();
+        keeps_shapes();
         reports_upsets();
+        restores_what_was_saved();
         run_is_replayed();
+        runs_go_on();
+        savable_machines_have_files();
+        upsets_are_spelled();
     }
     let ending = work(alloc, words, files, out, board);
     // A fault of `err` changes no status.

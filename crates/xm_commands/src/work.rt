@@ -3,10 +3,10 @@
 ghost use Rattle.std.specs.Prelude.{Some};
 ghost use Rattle.run_commands.specs.Accounts.{HasAccount};
 ghost use Rattle.file_commands.specs.EndingValues.{ending_of};
-ghost use Rattle.xm_commands.specs.lemmas.Ticks.{HasTicks};
+ghost use Rattle.xm_commands.specs.lemmas.Ticks.{BeginsOnce, HasTicks};
 ghost use Rattle.file_commands.specs.Work.{outside};
 ghost use Rattle.run_commands.specs.Numbers.{HasScripts};
-ghost use Rattle.run_commands.specs.lemmas.NumbersTerms.{WordsReceive};
+ghost use Rattle.run_commands.specs.lemmas.NumbersTerms.{WordsReceive, WordsStore};
 ghost use Rattle.command_line.specs.Seen.{command_seen};
 ghost use Rattle.command_line.specs.Words.{command_of};
 
@@ -42,6 +42,7 @@ pub(crate) fn work<'a, S: Store, O: Sink>(
         (O.got out.new) (O.faults out.new))
         (⟦<Board as ViewBoard>⟧.board_view board.old) (⟦<Board as ViewBoard>⟧.board_view board.new) }
     ensures numbers { HasScripts (ending_of result) → WordsReceive (command_of words.now) (S.files files.old) }
+    ensures stored { HasScripts (ending_of result) → WordsStore (command_of words.now) (S.files files.old) }
 {
     proof! { grammar(); }
     match command(words) {
@@ -58,7 +59,8 @@ fn do_command<'a, S: Store, O: Sink>(
     out: &mut O,
     board: &mut Board,
 ) -> Ending<'a>
-    requires { HasTicks command }
+    requires ticks { HasTicks command }
+    requires begun { BeginsOnce command }
     ensures accounted { HasAccount (ending_of result) (command_seen (Some command.entry))
         (outside (S.files files.old) (S.read_faults files.old) (S.write_faults files.old) (S.calls files.old)
         (O.got out.old) (O.faults out.old))
@@ -67,6 +69,8 @@ fn do_command<'a, S: Store, O: Sink>(
         (⟦<Board as ViewBoard>⟧.board_view board.old) (⟦<Board as ViewBoard>⟧.board_view board.new) }
     ensures numbers { HasScripts (ending_of result)
         → WordsReceive (command_seen (Some command.entry)) (S.files files.old) }
+    ensures stored { HasScripts (ending_of result)
+        → WordsStore (command_seen (Some command.entry)) (S.files files.old) }
 {
     match command {
         Bare { image, ticks } => run_file(alloc, image, ticks, files, out, board),

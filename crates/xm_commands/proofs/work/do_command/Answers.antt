@@ -81,3 +81,6 @@ returns-in-Generate-clause-accounted g c =
 
 pub returns-in-Run-clause-numbers : goal.returns-in-Run-clause-numbers
 returns-in-Run-clause-numbers g c = rw c.in-Run.is c.run_container.ensures.numbers
+
+pub returns-in-Run-clause-stored : goal.returns-in-Run-clause-stored
+returns-in-Run-clause-stored g c = rw c.in-Run.is c.run_container.ensures.stored
