@@ -357,9 +357,9 @@ WRONG_WORDS = {
 }
 
 
-def refused_groups():
+def refused_groups(fronts):
     box = "loops.box"
-    yield from Fronts().container_entry(box, two_that_loop(), [f"{box}: both partitions loop"])
+    yield from fronts.container_entry(box, two_that_loop(), [f"{box}: both partitions loop"])
     yield from ["[[group]]", 'name = "files of upsets that are refused"']
     yield f'call = "run {box} --ticks {REFUSED_TICKS} --upset {UPSET_FILE} --core 0={CORE}"'
     yield from [f'file = ["{box}"]', f'of_file = "{UPSET_FILE}"', "case = [", *refused_rows(box), "]", ""]
@@ -508,7 +508,7 @@ def upset_book(title, groups):
     for name, rows in groups.items():
         lines += ["", *(line for case in rows for line in boxes.files(case)), "[[group]]", f'name = "{name}"', "case = ["]
         lines += [*(boxes.row(case, shows) for case, shows in rows.items()), "]"]
-    return "".join(f"{line}\n" for line in [*lines, "", *refused_groups(), "", *Replays(boxes).groups()][:-1])
+    return "".join(f"{line}\n" for line in [*lines, "", *refused_groups(boxes.fronts), "", *Replays(boxes).groups()][:-1])
 
 
 def main():

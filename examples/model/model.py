@@ -1,11 +1,12 @@
 #!/usr/bin/env python3
 """A second simulator of the partitioning hypervisor, written apart from the program, to compare the program with it.
 
-usage: model.py BOX --ticks N [--input P=FILE ..] [--core P=FILE ..] [--upset FILE]
-       model.py BOX --frames N [--input P=FILE ..] [--core P=FILE ..] [--upset FILE]
+usage: model.py BOX --ticks N [--input P=FILE ..] [--core P=FILE ..] [--upset FILE] [--from FILE] [--save FILE]
+       model.py BOX --frames N [--input P=FILE ..] [--core P=FILE ..] [--upset FILE] [--from FILE] [--save FILE]
 
 It reads a container, runs its partitions one tick after the other, and prints the report. What is written to the consoles of
-UART N goes to uartN.out. With --upset bits of the partitions flip before ticks, as `upsets.py` says.
+UART N goes to uartN.out. With --upset bits of the partitions flip before ticks, as `upsets.py` says. With --save the machine after
+the last tick is written, and with --from a run goes on from such a file, as `saved.py` says.
 """
 import re
 import struct
@@ -17,6 +18,7 @@ from processor import (
     ACCESS, COPROCESSOR, DIVISION, FETCH, FLOAT, ILLEGAL, OVERFLOW, PRIVILEGED, TAGGED, UNALIGNED, UNDERFLOW,
     Memory, Processor, StackFault, Trap, UnalignedReturn,
 )
+from saved import MOST_BYTES, read_saved, saved_file
 from upsets import flip, read_upsets
 
 WORD = 0xFFFFFFFF
@@ -695,10 +697,11 @@ class Machine:
     # The report.
 
     def run(self, ticks, resets=()):
-        """Resets are a tick's number, before which they are done, and what reset_between takes."""
-        self.lines = [f"SYSTEM parts={len(self.parts)} plans={len(self.system.plans)} ticks={ticks}"]
+        """This many ticks more. Resets are a tick's number, before which they are done, and what reset_between takes."""
+        end = self.done + ticks
+        self.lines = [f"SYSTEM parts={len(self.parts)} plans={len(self.system.plans)} ticks={end}"]
         waiting = list(resets)
-        while self.done < ticks and not self.halted:
+        while self.done < end and not self.halted:
             while waiting and waiting[0][0] == self.done:
                 self.reset_between(*waiting.pop(0)[1:])
             self.tick()
@@ -781,20 +784,20 @@ def number_of(word, most):
 
 
 def read_words(words):
-    """The container's name, the unit and the number of the length, the files of the two options and that of the upsets."""
+    """The container's name, the unit and the number of the length, the files of the two options and those of the whole run."""
     if not words or not words[0] or words[0].startswith("--") or len(words) % 2 == 0:
         raise Usage
-    length, files, upsets = None, {"--input": {}, "--core": {}}, None
+    length, files, whole = None, {"--input": {}, "--core": {}}, {"--upset": None, "--from": None, "--save": None}
     options = list(zip(words[1::2], words[2::2]))
     for option, word in options:
         if option in ("--ticks", "--frames"):
             if length is not None:
                 raise Usage
             length = option, number_of(word, MOST_TICKS)
-        elif option == "--upset":
-            if upsets is not None or not word or word.startswith("--"):
+        elif option in whole:
+            if whole[option] is not None or not word or word.startswith("--"):
                 raise Usage
-            upsets = word
+            whole[option] = word
         elif option in files:
             number, _, name = word.partition("=")
             number = number_of(number, 31)
@@ -803,10 +806,10 @@ def read_words(words):
             files[option][number] = name
         else:
             raise Usage
-    if length is None:
+    if length is None or whole["--from"] is not None and files["--input"]:
         raise Usage
     order = [word.split("=", 1) for option, word in options if option in files]
-    return words[0], length, {**files, "--upset": upsets}, [(int(number), name) for number, name in order]
+    return words[0], length, {**files, **whole}, [(int(number), name) for number, name in order]
 
 
 def bytes_of(folder, name):
@@ -828,10 +831,11 @@ def write(folder, name, content):
 
 
 def prepared(words, folder):
-    """The machine of a run, how many ticks it is to do, and the core files to write, as partitions and names."""
+    """The machine of a run, how many ticks it is to do, the files that are named, and the digest of the container."""
     box, (unit, count), files, order = read_words(words)
+    content_of_box = bytes_of(folder, box)
     try:
-        system = read_container(bytes_of(folder, box))
+        system = read_container(content_of_box)
     except Fault as fault:
         raise Refusal(f"{box}: {fault}") from None
     for number, name in order:
@@ -843,36 +847,55 @@ def prepared(words, folder):
         if len(content) % 4:
             raise Refusal(f"{name}: input length={len(content)}")
         inputs[number] = words_of(content)
+    digest = content_of_box[-16:]
+    machine = Machine(system, inputs) if files["--from"] is None else machine_in(folder, files["--from"], system, digest)
     ticks = count * system.plans[0].frame if unit == "--frames" else count
-    if ticks > MOST_TICKS:
-        raise Refusal(f"{box}: ticks asked={ticks}")
-    machine = Machine(system, inputs)
+    if machine.done + ticks > MOST_TICKS:
+        raise Refusal(f"{box}: ticks asked={machine.done + ticks}")
     if files["--upset"] is not None:
-        machine.upsets = upsets_in(folder, files["--upset"], system, ticks)
-    return machine, ticks, files["--core"]
+        machine.upsets = upsets_in(folder, files["--upset"], system, machine.done + ticks, machine.done)
+    return machine, ticks, files, digest
 
 
-def upsets_in(folder, name, system, ticks):
+def machine_in(folder, name, system, digest):
     try:
-        return read_upsets(bytes_of(folder, name), system.parts, ticks)
+        return read_saved(bytes_of(folder, name), system, digest, Machine)
     except Fault as fault:
         raise Refusal(f"{name}: {fault}") from None
 
 
+def upsets_in(folder, name, system, end, begun=0):
+    try:
+        return read_upsets(bytes_of(folder, name), system.parts, end, begun)
+    except Fault as fault:
+        raise Refusal(f"{name}: {fault}") from None
+
+
+def made_in(machine, files, digest):
+    """The core files, and the saved machine, by their names."""
+    made = {name: machine.core_file(number) for number, name in files["--core"].items()}
+    if files["--save"] is not None:
+        content = saved_file(machine, digest)
+        if len(content) > MOST_BYTES:
+            raise Refusal(f"{files['--save']}: length found={len(content)}")
+        made[files["--save"]] = content
+    return made
+
+
 def run_words(words, folder=Path(), resets=()):
-    """The report of a run with resets between its ticks, and the core files by their names."""
-    machine, ticks, cores = prepared(words, folder)
+    """The report of a run with resets between its ticks, and the files that are made of it by their names."""
+    machine, ticks, files, digest = prepared(words, folder)
     report = machine.run(ticks, resets)
-    return report, {name: machine.core_file(number) for number, name in cores.items()}
+    return report, made_in(machine, files, digest)
 
 
 def run_in(words, folder):
-    """The report of a run; the core files and the files of the UARTs are written to the folder."""
-    machine, ticks, cores = prepared(words, folder)
+    """The report of a run; the files that are made of it and those of the UARTs are written to the folder."""
+    machine, ticks, files, digest = prepared(words, folder)
     report = machine.run(ticks)
-    files = {name: machine.core_file(number) for number, name in cores.items()}
-    files |= {f"uart{place}.out": content for place, content in enumerate(machine.uarts) if content}
-    for name, content in files.items():
+    made = made_in(machine, files, digest)
+    made |= {f"uart{place}.out": content for place, content in enumerate(machine.uarts) if content}
+    for name, content in made.items():
         write(folder, name, content)
     return report
 

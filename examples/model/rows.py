@@ -367,7 +367,7 @@ def generated_row(frames=20):
     machine.run(16000)
     first = sum(part.exec for part in machine.parts)
     lines = len(machine.lines)
-    machine.run(16000 * frames)
+    machine.run(16000 * (frames - 1))
     later = (sum(part.exec for part in machine.parts) - first) // (frames - 1)
     compare("sum of execution clocks", first + 999 * later, 4937040)
     compare("number of lines", 18 + 8 * 1000, 8018)

@@ -113,7 +113,7 @@ def bits_of(place: str) -> tuple[int, int]:
     return NAMED.get(place) or (BYTE_BITS if BYTE.fullmatch(place) else REGISTER_BITS)
 
 
-def test(upset: Upset, parts: Sequence[Any], before: int, ticks: int) -> None:
+def test(upset: Upset, parts: Sequence[Any], begun: int, before: int | None, ticks: int) -> None:
     """The partition, the place and its bit are there, and the tick is one of the run, not before that of the line above."""
     if upset.part >= len(parts):
         raise Wrong("no-partition")
@@ -122,21 +122,22 @@ def test(upset: Upset, parts: Sequence[Any], before: int, ticks: int) -> None:
     first, end = bits_of(upset.place)
     if not first <= upset.bit < end:
         raise Wrong("no-bit")
-    if upset.tick < before:
+    if before is not None and upset.tick < before:
         raise Wrong("unordered")
-    if upset.tick >= ticks:
+    if not begun <= upset.tick < ticks:
         raise Wrong("unreached")
 
 
-def read_upsets(content: bytes, parts: Sequence[Any], ticks: int) -> list[Upset]:
-    """The upsets of a file, for a run of this number of ticks of a system with these partitions; of a wrong one the first fault."""
+def read_upsets(content: bytes, parts: Sequence[Any], ticks: int, begun: int = 0) -> list[Upset]:
+    """The upsets of a file, for a run of a system with these partitions up to this number of ticks since the boot, of which those
+    before `begun` are done; of a wrong one the first fault."""
     reader, upsets = Reader(content), list[Upset]()
     while not reader.is_done():
         try:
             if len(upsets) == MOST_LINES:
                 raise Wrong("too-many")
             upset = reader.upset()
-            test(upset, parts, upsets[-1].tick if upsets else 0, ticks)
+            test(upset, parts, begun, upsets[-1].tick if upsets else None, ticks)
         except Wrong as wrong:
             raise Fault(f"{wrong} line={len(upsets) + 1}") from None
         upsets.append(upset)

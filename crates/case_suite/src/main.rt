@@ -25,7 +25,7 @@ use verdict::Verdict;
 const WORKED: &str = "worked.toml";
 
 // The files of cases, in the order in which they are done.
-const BOOKS: [&str; 31] = [
+const BOOKS: [&str; 32] = [
     "differing.toml",
     "raw_images.toml",
     "descriptions.toml",
@@ -53,6 +53,7 @@ const BOOKS: [&str; 31] = [
     "systems.toml",
     "spans.toml",
     "upsets.toml",
+    "saves.toml",
     "outside.toml",
     "words.toml",
     "texts.toml",

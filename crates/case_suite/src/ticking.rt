@@ -24,7 +24,7 @@ const NOT_TAKEN: &str = "the report is not taken";
 const MOST_TICKS: u64 = 100_000;
 
 /// Does a run at a pace over these files, with these resets, and writes its report. Answers whether it did: the words may
-/// be those of another command, of a run with upsets, or of too long a run.
+/// be those of another command, of a run with upsets or from a saved machine, or of too long a run.
 pub(crate) fn is_ticked<O: Sink>(
     alloc: Global,
     words: &Words,
@@ -39,7 +39,7 @@ pub(crate) fn is_ticked<O: Sink>(
     }
 }
 
-// Does a command at a pace, where it is a run without upsets that is short enough, and answers whether it is.
+// Does a command at a pace, where it is a run from the boot on without upsets that is short enough, and answers whether it is.
 fn is_command_ticked<O: Sink>(
     alloc: Global,
     command: Command<'_>,
@@ -49,11 +49,16 @@ fn is_command_ticked<O: Sink>(
     out: &mut O,
 ) -> Result<bool> {
     match command {
-        Command::Run { container, options } if options.upsets().is_none() => {
+        Command::Run { container, options } if begins_plainly(options) => {
             boot_and_tick(alloc, container, options, files, resets, pace, out)
         }
         _ => Ok(false),
     }
+}
+
+// Whether a run boots, and no upset strikes in it.
+fn begins_plainly(options: RunOptions<'_>) -> bool {
+    options.upsets().is_none() && options.from().is_none()
 }
 
 // Boots the machine of a container, and does its run at a pace, where it is short enough; answers whether it is.
