@@ -26,10 +26,22 @@ _xm_run_after_option() {
         run:--frames | run:--ticks) ;;
         run:--input | run:--core) _xm_run_part_file ;;
         run:--script) _xm_run_part_file scr ;;
-        run:--upset) _xm_run_files ;;
+        run:--upset | run:--from | run:--save) _xm_run_files ;;
         alone:--input | alone:--core | alone:--upset) _xm_run_files ;;
         *) return 1 ;;
     esac
+}
+
+# The options that may follow: those of partitions, but no input and no script beside `--from`; the others once each.
+_xm_run_run_options() {
+    local option given=" ${words[*]} " options='--core'
+    [[ $given == *' --from '* ]] || options+=' --input --script'
+    [[ $given == *' --frames '* || $given == *' --ticks '* ]] || options+=' --frames --ticks'
+    for option in --upset --save; do
+        [[ $given == *" $option "* ]] || options+=" $option"
+    done
+    [[ $given == *' --from '* || $given == *' --input '* || $given == *' --script '* ]] || options+=' --from'
+    _xm_run_words "$options"
 }
 
 _xm_run_run() {
@@ -37,10 +49,7 @@ _xm_run_run() {
         0) _xm_run_files xmp ;;
         *)
             _xm_run_after_option && return
-            local options='--input --core --script'
-            [[ " ${words[*]} " == *' --frames '* || " ${words[*]} " == *' --ticks '* ]] || options+=' --frames --ticks'
-            [[ " ${words[*]} " == *' --upset '* ]] || options+=' --upset'
-            _xm_run_words "$options"
+            _xm_run_run_options
             ;;
     esac
 }

@@ -30,21 +30,22 @@ _xm_place() {
     esac
 }
 
-# What follows an option.
+# What follows an option of a command.
 _xm_value() {
     case $1 in
         --names | --system) _xm_files '@(xml|xmp)' ;;
         --script) _xm_files scr ;;
         --keep | --scratch) _filedir -d ;;
         --csv | --table | --repeat | --results) _xm_files sqlite ;;
-        --frames | --ticks | --from | --to | --workers | --scheduler) ;;
+        --from) [[ $2 != run ]] || _filedir ;;
+        --frames | --ticks | --to | --workers | --scheduler) ;;
         *) _filedir ;;
     esac
 }
 
 _xm_options() {
     case $1 in
-        run) _xm_words '--frames --ticks --input --core --script --upset --report' ;;
+        run) _xm_words '--frames --ticks --input --core --script --upset --from --save --report' ;;
         expect) _xm_words '--names --junit' ;;
         compare) _xm_words '--names' ;;
         export) _xm_words '--json --csv --vcd --perfetto --system' ;;
@@ -61,7 +62,7 @@ _xm() {
     if ((cword == 1)); then
         _xm_words 'check-description why build run core script flows expect compare export campaign picture view --help'
     elif [[ $prev == --* && $command != export ]] || [[ $prev == --system ]]; then
-        _xm_value "$prev"
+        _xm_value "$prev" "$command"
     elif [[ $cur == --* ]]; then
         _xm_options "$command"
     else

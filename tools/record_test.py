@@ -214,6 +214,13 @@ def test_uart_of_a_command_without_one_is_not_looked_at(place: Place) -> None:
     assert place.files() == [("report", "report.txt", 0, EMPTY)]
 
 
+def test_saved_machines_of_a_run_are_read_and_written(place: Place) -> None:
+    place.put(box="abc", before="abc")
+    place.does("printf abc >after")
+    assert place.tool("--", *"run box --save after --ticks 3 --from before".split()).returncode == 0
+    assert [file[:2] for file in place.files()] == [("container", "box"), ("input", "before"), ("report", "report.txt"), ("saved", "after")]
+
+
 def test_replay_names_its_partition_once(place: Place) -> None:
     place.put(box="abc", cues="abc", words="abc", flips="abc")
     place.does("printf abc >core")

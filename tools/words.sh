@@ -44,7 +44,7 @@ xm_run flows [--steering] XML
     Read and check the system description XML in the same way, and print a line for each partition.
 xm_run gen NUM
     Generate a system from the seed NUM, at most 4294967295, pack it, unpack the container, run the system.
-xm_run run BOX --frames NUM | --ticks TICKS [--input P=FILE ...] [--core P=FILE ...] [--script P=FILE ...] [--upset FILE]
+xm_run run BOX --frames NUM | --ticks TICKS [--input P=FILE ...] [--core P=FILE ...] [--script P=FILE ...] [--upset FILE] [--from FILE] [--save FILE]
     Run the system of the container BOX, and print the report.
 xm_run alone BOX P SCRIPT [--input FILE] [--core FILE] [--upset FILE]
     Replay partition P of the container BOX.

@@ -188,6 +188,19 @@ def test_colours_where_the_output_is_a_terminal(supervisor: Path) -> None:
     assert "[2271] sensor     CON start 0\\n\n" in plain
 
 
+def test_a_run_goes_on_from_a_saved_machine(tmp_path: Path, whole_program: str) -> None:
+    """Without the words of the build: what is left of them is in the saved machine."""
+    toml = f'[inputs]\nfilter = "{SYSTEMS}/filter/readings.bin"'
+    assert built(tmp_path, "filter", {"filter": "filter.elf"}, toml).status == 0
+    reports = []
+    for words in (("--frames", "13"), ("--frames", "5", "--save", "half.xms"), ("--frames", "8", "--from", "half.xms")):
+        assert xm(tmp_path, "run", "out", *words, program=whole_program).status == 0
+        reports.append((tmp_path / "out/report.txt").read_text().splitlines())
+    whole, first, rest = reports
+    assert rest[0] == whole[0]
+    assert [line for line in first[1:] if not line.startswith("END ")] + rest[1:] == whole[1:]
+
+
 def test_words_of_a_run_that_are_wrong(supervisor: Path) -> None:
     for words, reason in [
         (("--frames", "1", "--ticks", "2"), "usage: "), (("--core", "nobody=x"), "nobody is no partition: supervisor, sensor, payload"),

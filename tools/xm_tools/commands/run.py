@@ -1,11 +1,12 @@
 """usage: xm run DIR [--frames NUM | --ticks TICKS] [--input NAME=FILE] [--core NAME=FILE] [--script NAME=FILE] [--upset FILE]
-              [--report FILE]
+              [--from FILE] [--save FILE] [--report FILE]
 
 Runs what `xm build` made in DIR, and prints the report with the names of partitions instead of their numbers. The
 report as the program wrote it is DIR/report.txt, or FILE; consoles are in DIR, too, as uart0.out and so on. NUM is that of the
 .toml file where neither option is given. --input takes other words than the .toml file names; --core and --script write a
-partition's core file and its script; --upset has the bits that flip, with partitions by their numbers. Files of the options are
-those of the current folder. Where the program ends with another status than 0 after the report, as with a console's file that
+partition's core file and its script; --upset has the bits that flip, with partitions by their numbers. --save writes the machine
+after the run, and --from goes on from such a file, with the words that are left in it. Files of the options are those of the
+current folder. Where the program ends with another status than 0 after the report, as with a console's file that
 cannot be written, the report is printed all the same.
 """
 
@@ -21,9 +22,10 @@ from xm_tools.words import Words, words_of
 
 USAGE = (
     "xm run DIR [--frames NUM | --ticks TICKS] [--input NAME=FILE] [--core NAME=FILE] [--script NAME=FILE] [--upset FILE]"
-    " [--report FILE]"
+    " [--from FILE] [--save FILE] [--report FILE]"
 )
 FILES = ("--input", "--core", "--script")
+WHOLE = ("--upset", "--from", "--save")
 OWNER = re.compile(r"^(\[[0-9]+\] |END )P([0-9]+) (.*)$")
 
 
@@ -46,7 +48,7 @@ def number_of(built: Built, name: str) -> int:
 
 
 def file_options(words: Words, built: Built) -> list[str]:
-    """The options with files, by numbers; inputs that were built stand where none is given."""
+    """The options with files, by numbers; inputs that were built stand where none is given, in a run from the boot on."""
     options: list[str] = []
     given = set()
     for option in FILES:
@@ -58,10 +60,11 @@ def file_options(words: Words, built: Built) -> list[str]:
             given.add((option, number))
             options += [option, f"{number}={Path(path).resolve()}"]
     for name, path in built.inputs.items():
-        if ("--input", number_of(built, name)) not in given:
+        if not words.has("--from") and ("--input", number_of(built, name)) not in given:
             options += ["--input", f"{number_of(built, name)}={path}"]
-    if upsets := words.value("--upset"):
-        options += ["--upset", str(Path(upsets).resolve())]
+    for option in WHOLE:
+        if file := words.value(option):
+            options += [option, str(Path(file).resolve())]
     return options
 
 
@@ -75,7 +78,7 @@ def named(line: str, built: Built, width: int) -> tuple[str, int | None]:
 
 
 def run(given: list[str]) -> int:
-    words = words_of(USAGE, given, 1, 1, ("--frames", "--ticks", "--upset", "--report", *FILES))
+    words = words_of(USAGE, given, 1, 1, ("--frames", "--ticks", "--report", *FILES, *WHOLE))
     folder = words.plain[0]
     built = built_of(folder)
     reply = call(["run", built.container, *length_of(words, built), *file_options(words, built)], folder)
