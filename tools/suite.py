@@ -97,8 +97,12 @@ def table_of(name):
 
 
 def put(shelf, table):
+    """Puts the files of a table on a shelf. Each has a name of its own: by one that stands twice, case_suite takes the first."""
     for recipe in table.get("file", []):
-        shelf[recipe["name"]] = made(recipe, shelf)
+        name = recipe["name"]
+        if name in shelf:
+            raise ValueError(f"{name}: stands twice")
+        shelf[name] = made(recipe, shelf)
 
 
 def books():

@@ -45,11 +45,11 @@ TICKS = 4000
 PROGRESS = re.compile("^[0-9]+ of [0-9]+ runs.*\n", re.M)
 # The stand-in: what it does with an upset follows from the place.
 STAND_IN = """#!/bin/sh
-# A stand-in for `xm_run run` over two partitions. MARKS is a folder for what it has done.
+# A stand-in for `xm_run run` over two partitions. MARKS is a folder for what it has done, and for what it is to do.
 [ "$1" = run ] || exit 2
+box=$2
 shift 2
-say() { printf '%s\\n' "$1"; }
-ticks= upset= tick= part= place= bit= cores= scripts=
+ticks= upset= tick= part= place= bit= cores= scripts= from= save= start=0 input=
 while [ $# -gt 0 ]; do
   case $1 in
     --ticks) ticks=$2 ;;
@@ -57,10 +57,32 @@ while [ $# -gt 0 ]; do
     --core) cores="$cores $2" ;;
     --script) scripts="$scripts $2" ;;
     --input) input=${2#*=} ;;
+    --from) from=$2 ;;
+    --save) save=$2 ;;
   esac
   shift 2
 done
-echo "$tick $part $place $bit" >> MARKS/calls
+if [ -n "$from" ]; then
+  [ -z "$scripts$input" ] || exit 2
+  read -r mark start of < "$from"
+  [ "$mark" = saved ] || { echo "xm_run: $from: magic" >&2; exit 1; }
+  [ "$of" = "$(cksum < "$box")" ] || { echo "xm_run: $from: container stored=1 found=2" >&2; exit 1; }
+  ticks=$((start + ticks))
+fi
+# A line of a tick that is in the run. A run that saves has no line of a later tick.
+line() {
+  if [ "$1" -ge "$start" ] && { [ -z "$save" ] || [ "$1" -lt "$ticks" ]; }; then
+    printf '[%s] %s\\n' "$1" "$2"
+    case $2 in *CON*) printf '%s' "${2#* CON }" >> "uart${2%"${2#??}"}.tmp" ;; esac
+  fi
+}
+echo "$tick $part $place $bit${from:+ from $start}${save:+ save $ticks}" >> MARKS/calls
+if [ -n "$save" ]; then
+  [ ! -e MARKS/refuses ] || { echo "xm_run: usage" >&2; exit 2; }
+  [ ! -e MARKS/kills ] || { rm MARKS/kills; kill -9 $PPID; }
+  [ -e MARKS/saves_none ] || echo "saved $ticks $([ -e MARKS/other ] && echo other || cksum < "$box")" > "$save"
+  [ ! -e MARKS/damages ] || echo damaged > "$save"
+fi
 other=$((1 - ${part:-0}))
 state0=idle state1=idle first='P0 CON one\\n' second='P1 CON two\\n' health= core= script=
 case $place in
@@ -75,18 +97,21 @@ case $place in
   w2) kill -9 $PPID ;;
   w3) while ! [ -e MARKS/go ]; do sleep 0.1; done ;;
 esac
+[ -z "$from" ] || [ ! -e MARKS/odd ] || first='P0 CON odd\\n'
+[ -z "$from" ] || [ ! -e MARKS/fails ] || exit 1
 echo "SYSTEM parts=2 plans=1 ticks=$ticks"
-say '[10] P0 CON start\\n'
-[ -z "$upset" ] || echo "[$tick] P$part UPSET $place bit $bit"
-[ -z "$health" ] || { echo "[$tick] P$part $health"; echo "[$tick] P$part WARM"; }
-[ $state0 = idle ] || echo "[$tick] P0 HALT"
-[ $state0 = halted ] || say "[3500] $first"
-[ $state1 = idle ] || echo "[3600] P1 HALT"
-say "[3700] $second"
+line 10 'P0 CON start\\n'
+[ -z "$upset" ] || line "$tick" "P$part UPSET $place bit $bit"
+[ -z "$health" ] || { line "$tick" "P$part $health"; line "$tick" "P$part WARM"; }
+[ $state0 = idle ] || line "$tick" "P0 HALT"
+[ $state0 = halted ] || line 3500 "$first"
+[ $state1 = idle ] || line 3600 "P1 HALT"
+line 3700 "$second"
 echo "END P0 $state0 resets=0 exec=10 pc=40100000"
 echo "END P1 $state1 resets=0 exec=10 pc=40180000"
 echo "END XM running plan=0 clock=$ticks ticks=$ticks"
 for each in $cores; do echo "core ${each%%=*} $([ "${each%%=*}" = "$core" ] && echo changed)" > "${each#*=}"; done
+for each in 0 1; do [ ! -e "uartP$each.tmp" ] || mv "uartP$each.tmp" "uart$each.out"; done
 for each in $scripts; do echo "script ${each%%=*} $([ "${each%%=*}" = "$script" ] && echo changed)" > "${each#*=}"; done
 """
 # What the stand-in makes of an upset of partition 0.
@@ -116,7 +141,7 @@ def campaign(folder: Path, *words: str) -> Done:
 
 
 def calls(folder: Path) -> list[str]:
-    """The calls of the stand-in, by their upsets; the run without upsets is an empty line."""
+    """The calls of the stand-in, by their upsets, and where they begin and save; the run without upsets is an empty line."""
     path = folder / "marks/calls"
     return [line.strip() for line in path.read_text().splitlines()] if path.exists() else []
 
@@ -420,7 +445,10 @@ BAD = [
     ('system = "built"\nticks = 1\noutcomes = ["lost"]\n', "outcomes: lost is none of"),
     ('system = "built"\nticks = 1\nfailed = ["lost"]\n', "failed: lost is none of"),
     ('system = "built"\nticks = 1\nkeep = 3\n', "keep is neither a text nor a list of texts"),
-    ('system = "built"\nticks = 1\nothers = 1\n', "others is neither true nor false"),
+    ('system = "built"\nticks = 1\nothers = 1\n', "others is neither true nor false nor cores"),
+    ('system = "built"\nticks = 1\nothers = "scripts"\n', "others is neither true nor false nor cores"),
+    ('system = "built"\nticks = 1\nbeginnings = 1001\n', "beginnings is no number from 0 to 1000"),
+    ('system = "built"\nticks = 1\nbeginnings = true\n', "beginnings is no number from 0 to 1000"),
     ('system = "built"\nticks = 1\nupsets = 3\n', "upsets is no list of tables"),
     ('system = "built"\nticks = 1\nupsets = [3]\n', "upsets 1 is no table"),
     (GOOD.replace("g1", "g8"), "g8 is no place"),
@@ -882,7 +910,7 @@ def test_files_of_many_setups(tmp_path: Path, monkeypatch: pytest.MonkeyPatch, c
     text = 'system = "built"\nticks = 4000\n[words]\nFIRST = { count = 4, sets = 9 }\nSECOND = { count = 4, sets = 3 }\n'
     set_up(tmp_path, text)
     needed = 'echo "END XM running'
-    program = (tmp_path / "program").read_text().replace("shift 2\nsay", 'box=$2\nshift 2\nsay', 1)
+    program = (tmp_path / "program").read_text()
     assert program.count(needed) == 1
     (tmp_path / "program").write_text(program.replace(needed, f'[ -r "$box" ] && [ -r "$input" ] && {needed}'))
     assert here(tmp_path, monkeypatch)[0] == 0

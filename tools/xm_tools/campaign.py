@@ -6,7 +6,7 @@ import json
 import math
 import tempfile
 import tomllib
-from collections.abc import Iterable, Iterator, Sequence
+from collections.abc import Callable, Iterable, Iterator, Sequence
 from dataclasses import dataclass, field
 from pathlib import Path
 from typing import Any
@@ -18,20 +18,23 @@ from xm_tools.expectations import expectations_of
 from xm_tools.failure import Unusable
 from xm_tools.files import content_of, text_of
 from xm_tools.outcomes import FAILED, MASKED, MET, OF_UPSETS, OUTCOMES, UNMET, WRONG
+from xm_tools.planning import Planner
 from xm_tools.report import MOST_TICKS
-from xm_tools.running import MOST_WORDS, NEVER, Case, Setup, Words, digest_of
+from xm_tools.running import CORES, MOST_WORDS, NEVER, Case, Setup, Words, digest_of
 from xm_tools.system import Partition, System
 from xm_tools.upset_sets import BlockReader, Upset, UpsetSet, upsets_of_text
 
 KEYS = (
     "system", "frames", "ticks", "plans", "images", "inputs", "words", "seed", "expect", "output", "outcomes", "others", "failed", "keep",
-    "upsets",
+    "beginnings", "upsets",
 )  # fmt: skip
 OF_WORDS = ("count", "sets", "from", "to", "seed")
 OF_UPSET_TABLES = ("partition", "places", "bits", "ticks", "sample", "seed", "file")
 OF_TICKS = ("from", "to", "step")
 MOST_SEED, MOST_WORD = (1 << 63) - 1, (1 << 32) - 1
 MOST_CONTAINERS, MOST_SETS, MOST_RUNS = 1000, 1_000_000, 10_000_000
+# How many saved machines a container has with some inputs, where the file does not say it, and how many bytes they have together.
+BEGINNINGS, MOST_BEGINNINGS, MOST_SAVED = 32, 1000, 1 << 26
 # How runs are judged, as a number that changes with it: results of another one are not taken over.
 JUDGEMENT = 1
 
@@ -77,7 +80,8 @@ class CampaignFile:
     expect: str | None = None
     output: list[str] | None = None
     outcomes: tuple[str, ...] = OF_UPSETS
-    has_others: bool = True
+    others: bool | str = True
+    beginnings: int | None = None
     failed: tuple[str, ...] = (UNMET, FAILED)
     keep: tuple[str, ...] = ()
     upsets: list[UpsetTable] = field(default_factory=list)
@@ -141,12 +145,6 @@ class Table:
         if not texts or not all(isinstance(text, str) and text for text in texts):
             raise self.fail(f"{self.of(key)} is neither a text nor a list of texts")
         return list(texts)
-
-    def flag(self, key: str, default: bool) -> bool:
-        found = self.values.get(key, default)
-        if not isinstance(found, bool):
-            raise self.fail(f"{self.of(key)} is neither true nor false")
-        return found
 
     def chosen(self, key: str, allowed: Sequence[str]) -> tuple[str, ...]:
         found = self.texts(key)
@@ -213,7 +211,10 @@ class CampaignReader:
             found.outcomes = top.chosen("outcomes", OF_UPSETS)
             if not {MASKED, WRONG} <= set(found.outcomes):
                 raise found.fail(f"outcomes: {MASKED} and {WRONG} are always distinguished")
-        found.has_others = top.flag("others", True)
+        found.others = top.values.get("others", True)
+        if not isinstance(found.others, bool) and found.others != CORES:
+            raise found.fail(f"others is neither true nor false nor {CORES}")
+        found.beginnings = top.number("beginnings", 0, MOST_BEGINNINGS) if top.has("beginnings") else None
         named = [*found.outcomes, UNMET, FAILED]
         if top.has("failed"):
             found.failed = tuple(dict.fromkeys([*top.chosen("failed", named), UNMET, FAILED]))
@@ -399,8 +400,18 @@ class Campaign:
     def rules_digest(self) -> str:
         """What decides how runs are judged, as a digest."""
         given = self.given
-        parts = [JUDGEMENT, self.expect, self.output, sorted(given.outcomes), given.has_others]
+        parts = [JUDGEMENT, self.expect, self.output, sorted(given.outcomes), given.others]
         return hashlib.sha256(json.dumps(parts).encode()).hexdigest()
+
+    @property
+    def most_beginnings(self) -> int:
+        return BEGINNINGS if self.given.beginnings is None else self.given.beginnings
+
+    def planner(self, least: Callable[[Setup, int], int]) -> Planner:
+        """What says from which saved machine each run goes on: by measuring where it pays, or by what the file says."""
+        longest = {made.digest: max(ticks for ticks, _ in self.lengths(made)) for made in self.containers}
+        scripted = len(self.first.partitions) if self.given.others is True else 0
+        return Planner(longest, self.most_beginnings, least if self.given.beginnings is None else lambda origin, ticks: 0, scripted)
 
     # Setups and their runs.
 

@@ -70,6 +70,11 @@ def choice_table(shown: Tallies) -> str:
 
 def others_line(results: Results) -> str:
     compared, reached, differing = results.others()
+    if results.is_by_cores():
+        return (
+            f"Other partitions, by core file and lines: {compared} compared, {differing} differ with the same script as without the "
+            f"upset. {reached} more differ and had another script."
+        )
     return (
         f"Other partitions with the same script as without the upset: {compared} compared, {differing} differ in core file or lines. "
         f"{reached} had another script, so they are not compared."

@@ -4,6 +4,7 @@ Dask does a task of a worker that is lost again, by another one, and starts a wo
 """
 
 import contextlib
+import dataclasses
 import importlib
 import itertools
 import logging
@@ -18,8 +19,10 @@ from dataclasses import dataclass
 from pathlib import Path
 from typing import Any
 
+from xm_tools.beginnings import BOOT
 from xm_tools.failure import Unusable
-from xm_tools.running import Case, Common, DoneBatch, do_batch, forget, tools_digest, tools_files
+from xm_tools.planning import MOST_ORIGINS
+from xm_tools.running import Case, Common, DoneBatch, Setup, begin, do_batch, forget, origin_of, tools_digest, tools_files
 
 # A worker is lost so often with one task before the task is taken to be the cause.
 LOSSES = 2
@@ -144,9 +147,11 @@ class Distribution:
         self.lost = 0
         self.suspects: list[Case] = []
         self.workers: set[str] = set()
-        self.count = 0
+        self.count = self.made = 0
         self.threads = 1
         self.cases: dict[str, tuple[Case, ...]] = {}
+        # The machines that are saved, of a container and inputs after each tick.
+        self.saved: dict[Setup, dict[int, Any]] = {}
         self.common = client.submit(unpacked, zlib.compress(pickle.dumps(common)), key=f"common-{common.name}", pure=False)
         self.name, self.scratch = common.name, common.scratch
         self.finished = self.dask.as_completed(raise_errors=False)
@@ -155,7 +160,21 @@ class Distribution:
         self.count += 1
         key = f"runs-{self.name}-{self.count}"
         self.cases[key] = cases
-        self.finished.add(self.client.submit(do_batch, self.common, cases, key=key, pure=False))
+        wanted = sorted({(origin_of(case.setup), case.begins) for case in cases if case.begins}, key=lambda one: one[1])
+        saved = [self.saved_at(origin, tick) for origin, tick in wanted]
+        self.finished.add(self.client.submit(do_batch, self.common, cases, tuple(wanted), *saved, key=key, pure=False))
+
+    def saved_at(self, origin: Setup, tick: int) -> Any:
+        """The machine after a tick, as what a task gives that goes on from an earlier one. It is there again where it is lost."""
+        own = {tick: saved for tick, saved in self.saved.pop(origin, {}).items() if saved.status != "error"}
+        if len(self.saved) >= MOST_ORIGINS:
+            del self.saved[next(iter(self.saved))]
+        self.saved[origin] = own
+        if tick not in own:
+            before = own[max(earlier)] if (earlier := [one for one in own if one < tick]) else BOOT
+            self.made += 1
+            own[tick] = self.client.submit(begin, self.common, origin, tick, before, key=f"saved-{self.name}-{self.made}", pure=False)
+        return own[tick]
 
     def room(self) -> int:
         """How many tasks may be given out in addition."""
@@ -206,8 +225,10 @@ class Distribution:
     def again(self, own: tuple[Case, ...]) -> None:
         """Runs of a task whose workers were lost, since one of them is the cause or one of another task that waited there: by halves.
 
-        A single one is done when all others are done, so that nothing but itself can be the cause then.
+        A single one is done when all others are done, so that nothing but itself can be the cause then. They begin at the boot, so that
+        a saved machine whose workers were lost is no cause either.
         """
+        own = tuple(dataclasses.replace(case, begins=0) for case in own)
         if len(own) == 1:
             self.suspects += own
             return

@@ -125,9 +125,12 @@ class Reference:
         return ""
 
     def others(self, run: Left, plain: bytes, struck: Collection[int]) -> tuple[int, tuple[int, ...], tuple[int, ...]]:
-        """How many partitions that were not struck have the same script; those that have not; those that differ all the same."""
-        own = [number for number in run.scripts if number not in struck]
-        reached = tuple(number for number in own if run.scripts[number] != self.left.scripts[number])
+        """How many partitions that were not struck have the same script; those that have not; those that differ all the same.
+
+        One without a script counts as if it had the same.
+        """
+        own = [number for number in run.cores if number not in struck]
+        reached = tuple(number for number in own if number in run.scripts and run.scripts[number] != self.left.scripts[number])
         alike = [number for number in own if number not in reached]
         lines = self.lines if plain == self.left.report else lines_by_owner(plain)
         differing = tuple(

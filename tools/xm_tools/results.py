@@ -14,10 +14,16 @@ from typing import Any
 
 from xm_tools.failure import Unusable
 from xm_tools.outcomes import FAILED, Verdict
-from xm_tools.running import Setup, Words, digest_of
-from xm_tools.upset_sets import Upset
+from xm_tools.running import CORES, Setup, Words, digest_of
+from xm_tools.upset_sets import Upset, text_of
 
 VERSION = 1
+# A table that results of earlier tools have not.
+BEGINNINGS = """
+CREATE TABLE IF NOT EXISTS beginnings (
+    program TEXT NOT NULL, container TEXT NOT NULL, inputs TEXT NOT NULL, tick INTEGER NOT NULL, digest TEXT NOT NULL,
+    UNIQUE (program, container, inputs, tick));
+"""
 TABLES = """
 CREATE TABLE facts (name TEXT PRIMARY KEY, value TEXT NOT NULL);
 CREATE TABLE files (digest TEXT PRIMARY KEY, content BLOB NOT NULL);
@@ -123,6 +129,8 @@ class Results:
             self.put_facts({"version": str(VERSION)})
         elif not {"facts", "files", "setups", "runs"} <= tables or self.fact("version") != str(VERSION):
             raise self.fail(ODD)
+        if is_new:
+            self.base.executescript(BEGINNINGS)
 
     def close(self) -> None:
         try:
@@ -203,6 +211,14 @@ class Results:
         if self.base.execute("SELECT report FROM setups WHERE id = ?", (setup,)).fetchone()[0] != report:
             raise self.fail(f"the run without upsets of setup {setup} has another report than before, by the same program")
 
+    def put_machine(self, program: str, origin: Setup, tick: int, digest: str) -> None:
+        """The digest of a saved machine, which has to be the one that it was before."""
+        of = (program, origin.container, inputs_text(origin), tick)
+        self.base.execute("INSERT OR IGNORE INTO beginnings VALUES (?, ?, ?, ?, ?)", (*of, digest))
+        words = "SELECT digest FROM beginnings WHERE program = ? AND container = ? AND inputs = ? AND tick = ?"
+        if self.base.execute(words, of).fetchone()[0] != digest:
+            raise self.fail(f"the saved machine of tick {tick} is another one than before, by the same program")
+
     def put_run(self, setup: int, upsets: tuple[Upset, ...], verdict: Verdict, seconds: float, beyond: float) -> int:
         """Puts a run, and gives its number."""
         own = upsets[0] if len(upsets) == 1 else None
@@ -275,12 +291,12 @@ class Results:
             raise self.fail(ODD)
         return found or 0
 
+    def is_by_cores(self) -> bool:
+        """Whether scripts were compared only where core file or lines differ."""
+        return self.fact("others") == CORES
+
     def others(self) -> tuple[int, int, int]:
         """How many other partitions were compared, how many were reached, and how many differ although their script is the same."""
         found = self.all(f"SELECT SUM(compared), SUM(reached), SUM(differing) {CURRENT}")[0]
         compared, reached, differing = (self.number(count) for count in found)
         return compared, reached, differing
-
-
-def text_of(upsets: Iterable[Upset]) -> str:
-    return "".join(upset.line() for upset in upsets)

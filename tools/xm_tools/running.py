@@ -1,11 +1,12 @@
 """Does runs of a campaign, each in a folder of its own, and judges them. It is what the workers of a campaign do.
 
-All that a run needs comes with the campaign as bytes: the program, containers and input words. So a worker of another machine
-needs no file of this one.
+All that a run needs comes with the campaign as bytes: the program, containers, input words and saved machines. So a worker of another
+machine needs no file of this one.
 """
 
 import atexit
 import contextlib
+import dataclasses
 import fcntl
 import functools
 import hashlib
@@ -21,15 +22,17 @@ from dataclasses import dataclass, field
 from importlib import resources
 from pathlib import Path
 
+from xm_tools.beginnings import BOOT, Beginning, lines_of, whole_report
 from xm_tools.container import read_container
 from xm_tools.expectations import expectations_of
 from xm_tools.failure import Unusable
 from xm_tools.outcomes import FAILED, Left, Reference, Rules, Verdict
 from xm_tools.system import System
-from xm_tools.upset_sets import Upset
+from xm_tools.upset_sets import Upset, text_of
 
 PREFIX, LOCK = "xm_campaign-", "lock"
-REPORT, ERRORS, UPSETS, COMMAND = "report.txt", "errors.txt", "run.upsets", "command.txt"
+REPORT, ERRORS, UPSETS, COMMAND, SAVED = "report.txt", "errors.txt", "run.upsets", "command.txt", "saved"
+UARTS = "uart[0-7].out"
 SHARED_MEMORY = "/dev/shm"
 ROOM = 1 << 28
 # Longer files of a run are kept only where another partition differs.
@@ -41,6 +44,11 @@ NEVER = "none"
 # About as many runs without upsets, and files of setups, are kept for the next runs of a worker.
 MOST_REFERENCES = 4
 MOST_FILES = 256
+# What a saved machine costs is measured as the least of so many runs, or of fewer that take so many seconds; the time of ticks by such
+# parts of a run, until they take so much longer than none. Less than such a part of a run's time is no gain.
+TRIES, LONG, PARTS, CLEAR, LEAST_GAIN = 3, 0.3, (32, 4, 1), 0.02, 0.03
+# How other partitions are compared where this is not by the scripts of each run: by core file and lines, and by scripts where these differ.
+CORES = "cores"
 
 
 @dataclass(frozen=True)
@@ -79,11 +87,17 @@ class Setup:
     labels: tuple[tuple[str, str], ...] = ()
 
 
+def origin_of(setup: Setup) -> Setup:
+    """What the runs of a setup have in common with those of other lengths: all that decides what happens before an upset."""
+    return Setup(setup.container, 0, setup.inputs)
+
+
 @dataclass(frozen=True)
 class Common:
     """What all runs of a campaign have in common. Files are by their digests; `keep` are the outcomes whose folders are kept.
 
-    `tools` is the digest of the tools that the command has, and that its workers have to have.
+    `others` says whether other partitions are compared, and how. Saved machines of more than `most_saved` bytes are not kept. `tools`
+    is the digest of the tools that the command has, and that its workers have to have.
     """
 
     name: str
@@ -93,38 +107,53 @@ class Common:
     expect_text: str = ""
     output: tuple[int, ...] | None = None
     outcomes: tuple[str, ...] = ()
-    has_others: bool = True
+    others: bool | str = True
     keep: tuple[str, ...] = ()
     scratch: str | None = None
     tools: str = ""
+    most_saved: int = 0
 
 
 @dataclass(frozen=True)
 class Done:
-    """How a run ended: what it is judged to be, how long the program took and all the rest, and the files that are kept."""
+    """How a run ended: what it is judged to be, how long the program took and all the rest, and the files that are kept.
+
+    `begun` is the tick of the saved machine from which it went on, 0 for the boot.
+    """
 
     verdict: Verdict
     seconds: float
     beyond: float
     files: Mapping[str, bytes] = field(default_factory=dict)
+    begun: int = 0
 
 
 @dataclass(frozen=True)
 class Case:
-    """A run of a setup with upsets, or without. `compares` says that runs of the setup are compared with that without upsets."""
+    """A run of a setup with upsets, or without. `compares` says that runs of the setup are compared with that without upsets.
+
+    `begins` is the tick of the saved machine from which it may go on: before its upsets, and before its end.
+    """
 
     setup: Setup
     upsets: tuple[Upset, ...]
     compares: bool
+    begins: int = 0
 
 
 @dataclass(frozen=True)
 class DoneBatch:
-    """How the runs of a batch ended, the digests of the reports without upsets that were needed, and which worker it was."""
+    """How the runs of a batch ended, the digests of the reports without upsets that were needed, and which worker it was.
+
+    `machines` are the digests of the saved machines that came with the batch, by what they are of and their ticks; `why` says why
+    another one was not kept.
+    """
 
     done: tuple[Done, ...]
     reports: Mapping[Setup, str]
     worker: str = ""
+    machines: Mapping[tuple[Setup, int], str] = field(default_factory=dict)
+    why: str = ""
 
 
 def tools_files() -> dict[str, bytes]:
@@ -160,13 +189,17 @@ def scratch_of(named: str | None) -> str:
 
 
 class Room:
-    """A folder of its own for a worker, which is locked as long as the worker lives."""
+    """A folder of its own for a worker, which is locked as long as the worker lives.
+
+    Its lock has its name once it is held, so that no other worker that starts at the same time takes the folder for one that is left.
+    """
 
     def __init__(self, above: str) -> None:
         remove_left_over(above)
         self.path = Path(tempfile.mkdtemp(prefix=PREFIX, dir=above))
-        self.lock = open(self.path / LOCK, "wb")
+        self.lock = open(self.path / f"{LOCK}.new", "wb")
         fcntl.flock(self.lock, fcntl.LOCK_EX)
+        os.rename(self.path / f"{LOCK}.new", self.path / LOCK)
 
     def remove(self) -> None:
         shutil.rmtree(self.path, ignore_errors=True)
@@ -179,14 +212,6 @@ def remove_left_over(above: str) -> None:
         with contextlib.suppress(OSError), open(lock, "rb") as file:
             fcntl.flock(file, fcntl.LOCK_EX | fcntl.LOCK_NB)
             shutil.rmtree(lock.parent, ignore_errors=True)
-
-
-def beginning(setup: Setup) -> list[str]:
-    """The words for where a run begins and ends: each begins at the boot, and ends after its ticks.
-
-    The program cannot save a machine yet. Where it can, runs that share a beginning are to go on from a saved one here.
-    """
-    return ["--ticks", str(setup.ticks)]
 
 
 class Bench:
@@ -221,6 +246,17 @@ class Bench:
             path.write_bytes(source.content() if isinstance(source, Words) else self.common.files[source])
             self.written[source] = str(path)
         return self.written[source]
+
+    def path_of_machine(self, begun: Beginning) -> str:
+        """The file with a saved machine, which has to be the one that was saved."""
+        if begun.digest not in self.written:
+            if digest_of(begun.machine) != begun.digest:
+                raise Unusable(f"the saved machine of tick {begun.tick} is damaged")
+            self.count += 1
+            path = self.room / f"file{self.count}"
+            path.write_bytes(begun.machine)
+            self.written[begun.digest] = str(path)
+        return self.written[begun.digest]
 
     def tidy(self) -> None:
         """Removes the files of earlier runs where there are many. It is called before a run has any."""
@@ -260,7 +296,7 @@ class Bench:
         partitions = range(len(self.system(setup).partitions))
         with self.folder() as folder:
             run = Run(self, setup, (), folder)
-            why = run.call(partitions, partitions if self.common.has_others else ())
+            why = run.call(partitions, partitions if self.common.others else ())
             reference = None
             try:
                 reference = None if why else Reference(run.left(), self.rules(setup))
@@ -288,27 +324,34 @@ class Bench:
                 os.unlink(entry.path)
             folder.rmdir()
 
-    def do(self, setup: Setup, upsets: tuple[Upset, ...], compares: bool) -> Done:
-        """Does a run. Where it is compared, the one of its setup without upsets comes first."""
-        if not compares:
-            return self.do_alone(setup)
-        reference, done = self.reference(setup)
-        if not upsets or reference is None:
+    def do(self, case: Case, begun: Beginning) -> Done:
+        """Does a run. One that fails from a saved machine is done again from the boot: how it fails is how the whole run does."""
+        done = self.do_from(case, begun)
+        return self.do_from(case, BOOT) if done.verdict.outcome == FAILED and begun.tick else done
+
+    def do_from(self, case: Case, begun: Beginning) -> Done:
+        """Does a run from a beginning. Where it is compared, the one of its setup without upsets comes first, from the boot."""
+        if not case.compares:
+            return self.do_alone(case.setup, begun)
+        reference, done = self.reference(case.setup)
+        if not case.upsets or reference is None:
             return done
         began = time.perf_counter()
         with self.folder() as folder:
-            run = Run(self, setup, upsets, folder)
-            struck = {upset.partition for upset in upsets}
+            run = Run(self, case.setup, case.upsets, folder, begun)
+            struck = {upset.partition for upset in case.upsets}
             others = [number for number in reference.left.scripts if number not in struck]
-            why = run.call(sorted({*struck, *others}), others)
-            verdict = Verdict(FAILED, why) if why else reference.verdict_of(run.left(reference.left), struck, upsets[-1].tick)
+            why = run.call(sorted({*struck, *others}), others if self.common.others is True else ())
+            verdict = run.verdict(reference, why)
+            if self.common.others == CORES and verdict.differing:
+                run, verdict = run.with_scripts(reference, verdict.differing)
             return self.finished(run, verdict, began)
 
-    def do_alone(self, setup: Setup) -> Done:
+    def do_alone(self, setup: Setup, begun: Beginning) -> Done:
         """Does a run that is compared with nothing."""
         began = time.perf_counter()
         with self.folder() as folder:
-            run = Run(self, setup, (), folder)
+            run = Run(self, setup, (), folder, begun)
             why = run.call((), ())
             try:
                 verdict = Verdict(FAILED, why) if why else Reference(run.left(), self.rules(setup)).verdict()
@@ -320,22 +363,66 @@ class Bench:
         keep = self.common.keep
         is_kept = NEVER not in keep and (bool(verdict.differing) or verdict.outcome in keep)
         files = run.kept(verdict) if is_kept else {}
-        return Done(verdict, run.seconds, time.perf_counter() - began - run.seconds, files)
+        return Done(verdict, run.seconds, time.perf_counter() - began - run.seconds, files, run.begun.tick)
+
+    def least(self, origin: Setup, ticks: int) -> int:
+        """The tick from which on it is quicker to go on from a saved machine than to come there from the boot, by the processor's time."""
+        start, length, whole = self.cost(origin, BOOT), 0, 0.0
+        for part in PARTS:
+            length = max(1, ticks // part)
+            whole = self.cost(dataclasses.replace(origin, ticks=length), BOOT)
+            if whole - start >= CLEAR:
+                break
+        rate, begun = (whole - start) / length, self.begin(origin, length, BOOT)
+        if rate <= 0 or not begun.tick:
+            return ticks + 1
+        reading = self.cost(dataclasses.replace(origin, ticks=length), begun) - start
+        return round((max(reading, 0.0) + LEAST_GAIN * (start + rate * ticks)) / rate)
+
+    def cost(self, setup: Setup, begun: Beginning) -> float:
+        """The least seconds of the processor that a run takes."""
+        found: list[float] = []
+        while len(found) < TRIES and sum(found) < LONG:
+            with self.folder() as folder:
+                run = Run(self, setup, (), folder, begun)
+                run.call((), ())
+                found.append(run.processor)
+        return min(found)
+
+    def begin(self, origin: Setup, tick: int, before: Beginning) -> Beginning:
+        """Goes on from a beginning to a later tick, and saves the machine there. Where it is not kept, the beginning stays what it was."""
+        with self.folder() as folder:
+            run = Run(self, dataclasses.replace(origin, ticks=tick), (), folder, before)
+            run.saves = True
+            why = run.call((), ())
+            if not why and not (folder / SAVED).exists():
+                why = "the program saves no machine"
+            if why:
+                return dataclasses.replace(before, why=why)
+            machine = (folder / SAVED).read_bytes()
+            found = Beginning(tick, machine, digest_of(machine), lines_of(run.report()), tuple(run.uarts().items()))
+            if found.size > self.common.most_saved:
+                why = f"the machine of tick {tick} and what was printed before it have {found.size} bytes, more than {self.common.most_saved}"
+                return dataclasses.replace(before, why=why)
+            return found
 
 
 class Run:
-    """One run in its folder."""
+    """One run in its folder, from the boot or from a saved machine, of which it leaves what the whole run leaves."""
 
-    def __init__(self, bench: Bench, setup: Setup, upsets: tuple[Upset, ...], folder: Path) -> None:
-        self.bench, self.setup, self.upsets, self.folder = bench, setup, upsets, folder
+    def __init__(self, bench: Bench, setup: Setup, upsets: tuple[Upset, ...], folder: Path, begun: Beginning = BOOT) -> None:
+        self.bench, self.setup, self.upsets, self.folder, self.begun = bench, setup, upsets, folder, begun
         self.cores: tuple[int, ...] = ()
         self.scripts: tuple[int, ...] = ()
-        self.seconds = 0.0
+        self.saves = False
+        self.seconds = self.processor = 0.0
 
     def words(self) -> list[str]:
         self.bench.tidy()
-        words = ["run", self.bench.path_of(self.setup.container), *beginning(self.setup)]
-        for number, source in self.setup.inputs:
+        words = ["run", self.bench.path_of(self.setup.container), "--ticks", str(self.setup.ticks - self.begun.tick)]
+        if self.begun.tick:
+            words += ["--from", self.bench.path_of_machine(self.begun)]
+        for number, source in () if self.begun.tick else self.setup.inputs:
             words += ["--input", f"{number}={self.bench.path_of(source)}"]
         if self.upsets:
             (self.folder / UPSETS).write_text("".join(upset.line() for upset in self.upsets))
@@ -344,7 +431,7 @@ class Run:
             words += ["--core", f"{number}={number}.core"]
         for number in self.scripts:
             words += ["--script", f"{number}={number}.script"]
-        return words
+        return [*words, "--save", SAVED] if self.saves else words
 
     def call(self, cores: Iterable[int], scripts: Iterable[int]) -> str:
         """Calls the program, and says why it failed, nothing where it did not."""
@@ -354,24 +441,67 @@ class Run:
             began = time.perf_counter()
             try:
                 called = subprocess.Popen(words, cwd=self.folder, stdin=subprocess.DEVNULL, stdout=out, stderr=errors)
-                status = called.wait()
+                _, ended, used = os.wait4(called.pid, 0)
+                called.returncode = status = os.waitstatus_to_exitcode(ended)
             except OSError as error:
                 raise Unusable(f"the program cannot be called: {error}") from None
-            self.seconds = time.perf_counter() - began
+            self.seconds, self.processor = time.perf_counter() - began, used.ru_utime + used.ru_stime
         if status == 0:
             return ""
         lines = (self.folder / ERRORS).read_text(encoding="utf-8", errors="replace").splitlines()
-        return lines[0] if lines else f"the program ended with {f'status {status}' if status > 0 else f'signal {-status}'}"
+        why = lines[0] if lines else f"the program ended with {f'status {status}' if status > 0 else f'signal {-status}'}"
+        return self.accepted(why)
+
+    def accepted(self, why: str) -> str:
+        """Why the program failed, where it is not that it refused the saved machine: that is no outcome of a run."""
+        if self.begun.tick:
+            _, named, reason = why.partition(f"{self.bench.path_of_machine(self.begun)}: ")
+            if named:
+                raise Unusable(f"the saved machine of tick {self.begun.tick} is refused: {reason}")
+        return why
+
+    def verdict(self, reference: Reference, why: str) -> Verdict:
+        """That of the run, which is called and failed where something says why."""
+        if why:
+            return Verdict(FAILED, why)
+        return reference.verdict_of(self.left(reference.left), {upset.partition for upset in self.upsets}, self.upsets[-1].tick)
+
+    def with_scripts(self, reference: Reference, differing: tuple[int, ...]) -> tuple["Run", Verdict]:
+        """The run again from the boot, with the scripts of other partitions that differ: did they receive the same?
+
+        All else that it leaves has to be what it left before, from wherever it began.
+        """
+        whole, left = Run(self.bench, self.setup, self.upsets, self.folder), self.left(reference.left)
+        verdict = whole.verdict(reference, whole.call(self.cores, differing))
+        if verdict.outcome != FAILED:
+            again = whole.left(reference.left)
+            if (again.report, again.cores) != (left.report, left.cores):
+                raise Unusable(f"a run from tick {self.begun.tick} on is not the one from the boot: {text_of(self.upsets).strip()}")
+        whole.seconds += self.seconds
+        return whole, verdict
+
+    def report(self) -> bytes:
+        """The report of the whole run."""
+        return whole_report(self.begun, (self.folder / REPORT).read_bytes())
+
+    def uarts(self) -> dict[str, bytes]:
+        """The UARTs' files of the whole run."""
+        found = dict(self.begun.uarts)
+        for path in sorted(self.folder.glob(UARTS)):
+            found[path.name] = found.get(path.name, b"") + path.read_bytes()
+        return found
 
     def left(self, wanted: Left = Left(b"")) -> Left:
         """What the run left; a file that is as that of another run is given as this one's."""
         cores = {number: self.bench.content(self.folder / f"{number}.core", wanted.cores.get(number)) for number in self.cores}
         scripts = {number: self.bench.content(self.folder / f"{number}.script", wanted.scripts.get(number)) for number in self.scripts}
-        return Left((self.folder / REPORT).read_bytes(), cores, scripts)
+        return Left(self.report(), cores, scripts)
 
     def kept(self, verdict: Verdict) -> dict[str, bytes]:
         """The files of a run that is kept: long ones only of partitions that differ from the run without upsets."""
         names = {f"{number}.{kind}" for number in verdict.differing for kind in ("core", "script")}
+        for name, content in {REPORT: self.report(), **self.uarts()}.items() if self.begun.tick else ():
+            (self.folder / name).write_bytes(content)
         found = {}
         for entry in os.scandir(self.folder):
             if entry.name in names or entry.stat().st_size <= MOST_KEPT and not entry.name.endswith((".core", ".script")):
@@ -398,15 +528,28 @@ def forget(name: str, scratch: str | None) -> None:
         remove_left_over(above)
 
 
-def do_batch(common: Common, cases: tuple[Case, ...]) -> DoneBatch:
-    """Does some runs in this process."""
+def check_tools(common: Common) -> None:
     if common.tools != tools_digest():
         raise Unusable("a worker has other tools than this command: start the workers again")
+
+
+def begin(common: Common, origin: Setup, tick: int, before: Beginning) -> Beginning:
+    """Saves a machine in this process, as far as a tick from an earlier beginning."""
+    check_tools(common)
+    return bench_of(common).begin(origin, tick, before)
+
+
+def do_batch(common: Common, cases: tuple[Case, ...], wanted: tuple[tuple[Setup, int], ...] = (), *begun: Beginning) -> DoneBatch:
+    """Does some runs in this process. Of each beginning that comes with them it says for which setup and tick it is."""
+    check_tools(common)
     bench = bench_of(common)
+    beginnings = dict(zip(wanted, begun))
     done, reports = [], {}
     for case in cases:
-        done.append(bench.do(case.setup, case.upsets, case.compares))
+        done.append(bench.do(case, beginnings[origin_of(case.setup), case.begins] if case.begins else BOOT))
         reference = bench.reference(case.setup)[0] if case.compares else None
         if reference and case.setup not in reports:
             reports[case.setup] = digest_of(reference.left.report)
-    return DoneBatch(tuple(done), reports, f"{socket.gethostname()}:{os.getpid()}")
+    machines = {(origin, one.tick): one.digest for (origin, _), one in beginnings.items() if one.tick}
+    why = next((one.why for one in begun if one.why), "")
+    return DoneBatch(tuple(done), reports, f"{socket.gethostname()}:{os.getpid()}", machines, why)

@@ -3,7 +3,7 @@
 import random
 import re
 from bisect import bisect_right
-from collections.abc import Iterator, Sequence
+from collections.abc import Iterable, Iterator, Sequence
 from dataclasses import dataclass, field
 
 from xm_tools.failure import Unusable
@@ -33,6 +33,10 @@ class Upset:
 
     def line(self) -> str:
         return f"{self.tick} {self.partition} {self.place} {self.bit}\n"
+
+
+def text_of(upsets: Iterable[Upset]) -> str:
+    return "".join(upset.line() for upset in upsets)
 
 
 @dataclass(frozen=True)

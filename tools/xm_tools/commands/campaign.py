@@ -16,7 +16,9 @@ inputs and expectations, is not repeated. What FILE.toml names lies beside it:
   outcomes = ["same", "masked", "wrong"]       which outcomes are distinguished; without it all of them
   failed = ["wrong", "dead"]                   outcomes that are failures; a run that is not met or not done always is one
   keep = ["dead"]                              whose folders are kept; without it of those that failed; "all" or "none"
-  others = false                               other partitions are not compared, which takes half of the time
+  others = "cores"                             scripts of other partitions only where core files differ, which takes half of the time;
+                                               or false: other partitions are not compared
+  beginnings = 0                               how many saved machines runs go on from; without it as many as pay, at most 32
   seed = 7                                     of all that is drawn by chance
   [images]
   payload = ["payload.elf", "other.elf"]       program files of a partition
@@ -52,16 +54,18 @@ import sys
 import time
 import uuid
 from collections.abc import Callable, Iterator
+from dataclasses import dataclass
 from pathlib import Path
 
-from xm_tools.campaign import Campaign, CampaignFile, read_campaign
+from xm_tools.campaign import MOST_SAVED, Campaign, CampaignFile, read_campaign
 from xm_tools.failure import UNMET, UNUSABLE, WELL, Unusable
 from xm_tools.files import content_of, make_folder, write, write_over
 from xm_tools.outcomes import FAILED, OUTCOMES
 from xm_tools.outcomes import UNMET as NOT_MET
 from xm_tools.program_file import program_file
-from xm_tools.results import COLUMNS, Results, Row, key_of, text_of
-from xm_tools.running import COMMAND, UPSETS, Case, Common, Done, DoneBatch, Setup, Words, beginning, digest_of, forget, tools_digest
+from xm_tools.results import COLUMNS, Results, Row, key_of
+from xm_tools.running import COMMAND, UPSETS, Case, Common, Done, DoneBatch, Setup, Words, bench_of, digest_of, forget, tools_digest
+from xm_tools.upset_sets import text_of
 from xm_tools.words import words_of
 
 USAGE = (
@@ -71,6 +75,27 @@ USAGE = (
 MOST_WORKERS = 1024
 # Folders of more runs are not kept, and no more rows of setups are remembered.
 MOST_KEPT, MOST_ROWS = 1000, 1000
+
+
+@dataclass
+class Later:
+    """How many runs went on from saved machines, how many ticks these had done, and those of all runs."""
+
+    runs: int = 0
+    saved: int = 0
+    ticks: int = 0
+    why: str = ""
+
+    def add(self, case: Case, done: Done) -> None:
+        self.runs += done.begun > 0
+        self.saved += done.begun
+        self.ticks += case.setup.ticks
+
+    def lines(self) -> Iterator[str]:
+        if self.runs:
+            yield f"{self.runs} runs went on from saved machines, which had done {100 * self.saved / self.ticks:.0f} % of all ticks"
+        if self.why:
+            yield f"not all machines were saved that runs could go on from: {self.why}"
 
 
 class Call:
@@ -89,12 +114,13 @@ class Call:
         self.keys: dict[Setup, str] = {}
         self.there = 0
         self.kept = 0
+        self.later = Later()
 
     def common(self, scratch: str | None) -> Common:
         campaign, given = self.campaign, self.given
         return Common(
             uuid.uuid4().hex, self.program_content, campaign.files, given.expect or "", campaign.expect, campaign.output, given.outcomes,
-            given.has_others, given.keep, scratch, tools_digest(),
+            given.others, given.keep, scratch, tools_digest(), MOST_SAVED // max(campaign.most_beginnings, 1),
         )  # fmt: skip
 
     def key(self, setup: Setup) -> str:
@@ -116,15 +142,23 @@ class Call:
                         self.keys[setup] = key
                     yield case
 
+    def planned(self, common: Common) -> Iterator[Case]:
+        """These runs, each with the tick of the saved machine from which it may go on. What that costs is measured in this process."""
+        return self.campaign.planner(lambda origin, ticks: bench_of(common).least(origin, ticks)).planned(self.missing())
+
     def save(self, cases: tuple[Case, ...], batch: DoneBatch) -> None:
         results = self.results
         with results.whole():
             for case, done in zip(cases, batch.done):
                 run = results.put_run(self.row(case.setup), case.upsets, done.verdict, done.seconds, done.beyond)
+                self.later.add(case, done)
                 if done.files and self.kept < MOST_KEPT:
                     self.keep_files(run, case, done)
             for setup, report in batch.reports.items():
                 results.put_report(self.row(setup), report)
+            for (origin, tick), digest in batch.machines.items():
+                results.put_machine(self.program_digest, origin, tick, digest)
+            self.later.why = self.later.why or batch.why
 
     def row(self, setup: Setup) -> int:
         """The row of a setup, which is made where there is none."""
@@ -149,7 +183,7 @@ class Call:
 def repeating(files: dict[str, bytes], setup: Setup, upsets: str, folder: str) -> list[str]:
     """Writes what a run needs into a folder, and gives the words of the program for it there."""
     write(str(Path(folder) / "system.xmp"), files[setup.container])
-    words = ["run", "system.xmp", *beginning(setup)]
+    words = ["run", "system.xmp", "--ticks", str(setup.ticks)]
     for number, source in setup.inputs:
         name = f"{number}.input"
         write(str(Path(folder) / name), source.content() if isinstance(source, Words) else files[source])
@@ -162,16 +196,16 @@ def repeating(files: dict[str, bytes], setup: Setup, upsets: str, folder: str) -
 
 def do_missing(call: Call, workers: int, scheduler: str | None, scratch: str | None) -> tuple[int, int, int]:
     """Does the runs that are not there: how many were done, by how many workers, and how many were lost with theirs."""
-    missing = call.missing()
-    first = next(missing, None)
-    if first is None:
-        return 0, 0, 0
-    from xm_tools.cluster import Distribution, client_of
-    from xm_tools.progress import progress
-
-    done, shown = 0, call.there
     common = call.common(scratch)
+    missing = call.planned(common)
     try:
+        first = next(missing, None)
+        if first is None:
+            return 0, 0, 0
+        from xm_tools.cluster import Distribution, client_of
+        from xm_tools.progress import progress
+
+        done, shown = 0, call.there
         with client_of(workers, scheduler) as client, progress(call.total, call.there) as advance:
             distribution = Distribution(client, common, call.total - call.there)
             for cases, batch in distribution.results(chained(first, missing)):
@@ -207,7 +241,9 @@ def summary(results: Results) -> Iterator[str]:
             events = f", {detected} with a health event" if detected and outcome != "detected" else ""
             yield f"{outcome:10}{count:10}  {100 * count / total:6.2f} %{events}"
     compared, reached, differing = results.others()
-    if compared or reached:
+    if (compared or reached) and results.is_by_cores():
+        yield f"other partitions: {compared} compared, {differing} differ with the same script; {reached} more differ with another script"
+    elif compared or reached:
         yield f"other partitions with the same script: {compared} compared, {differing} differ; {reached} had another script"
 
 
@@ -216,12 +252,14 @@ def do_campaign(path: str, results_path: str, keep: str, workers: int, scheduler
     with contextlib.closing(Results(results_path, is_new=True)) as results:
         call = Call(given, results, keep)
         results.begin(given.name, given.text)
-        results.put_facts({"failed": " ".join(given.failed)})
+        results.put_facts({"failed": " ".join(given.failed), "others": str(given.others)})
         results.put_files(call.campaign.files)
         began = time.monotonic()
         done, took_part, lost = do_missing(call, workers, scheduler, scratch)
         by = f" by {took_part} workers" if took_part > 1 else ""
         print(f"{given.name}: {done} runs in {time.monotonic() - began:.1f} s{by}, and {call.there} were there in {results_path}")
+        for line in call.later.lines():
+            print(line)
         is_failing = show(call, results)
     if lost:
         raise Unusable(f"{lost} runs were lost with their workers: the same command does them again")
