@@ -47,6 +47,11 @@ LEFT_OUT = shutil.ignore_patterns(".git", "out", "build", "__pycache__", "*.pyc"
 ZEROS = re.compile(rb"\0{64,}")
 
 
+def named(words: str) -> str:
+    """The file or the command that words name: the first of them that gives no variable a value."""
+    return next(word for word in words.split() if "=" not in word)
+
+
 @dataclass
 class Command:
     words: str
@@ -59,7 +64,7 @@ class Command:
         return "apt-get" in self.words
 
     def measures(self) -> bool:
-        first = next(word for word in self.words.split() if "=" not in word)
+        first = named(self.words)
         return first == "rt" or first.startswith("bench/") or first.endswith("pages.py") or first == "tools/check"
 
 
@@ -167,8 +172,8 @@ class Folder:
         return done.stdout + done.stderr
 
     def has(self, words: str) -> bool:
-        """Whether the first word of a command is a file of the copy or a command of the system."""
-        first = words.split()[0]
+        """Whether a command names a file of the copy or a command of the system."""
+        first = named(words)
         return (self.place / first).is_file() if "/" in first else shutil.which(first) is not None
 
     def remove(self) -> None:
