@@ -274,7 +274,7 @@ ANSWERS = [
     ("xm_run: a.xmc: not-fit rule=4", "it breaks rule 4"),
     ("xm_run: usage", "the arguments are no command"),
     ("xm_run: x: cannot read", "the file is not there"),
-    ("xm_run: uart 3: failed", "the run, its report, its core files and its scripts are whole"),
+    ("xm_run: uart 3: failed", "the run, its report, its core files, its scripts and its saved machine are whole"),
     ("xm_run: x.scr: cue tick=12", "the cue of tick 12, counted from 0, cannot be taken"),
 ]  # fmt: skip
 
