@@ -268,3 +268,11 @@ def test_files_of_cases_are_listed(program: Path, monkeypatch: pytest.MonkeyPatc
     monkeypatch.setattr(sys, "argv", ["tools/try"])
     assert tool.main() == 0
     assert [line.split() for line in lines(capsys)] == [["kinds", "39", "cases"], ["slow", "3", "cases"]]
+
+
+def test_a_file_that_stands_twice_is_refused() -> None:
+    shelf: dict[str, bytes] = {}
+    tool.suite.put(shelf, {"file": [{"name": "a", "hex": "01"}]})
+    assert shelf == {"a": b"\1"}
+    with pytest.raises(ValueError, match="a: stands twice"):
+        tool.suite.put(shelf, {"file": [{"name": "b", "hex": ""}, {"name": "a", "hex": "01"}]})
