@@ -1,5 +1,6 @@
 -- A block, word by word.
-use Rattle.std.proofs.Common.{◌≡◌, ℕ, ◌+◌, ◌-◌, ◌%◌, ◌^◌, ◌<◌, ◌≤◌, true, false, List, Some, sym, ap, ◌∙◌, subst, ⊎_elim, arith}
+use Rattle.std.proofs.Common.{◌≡◌, ℕ, ◌+◌, ◌-◌, ◌%◌, ◌^◌, ◌<◌, ◌≤◌, true, false, List, [], ◌∷◌, zero, suc, drop, Some, sym, ap, ◌∙◌, subst, ⊎_elim, arith}
+use Rattle.std.proofs.Math.Seq.{drop-nil}
 use Rattle.std.proofs.lemmas.Bool.{cases_lt}
 use Rattle.std.specs.Prelude.{slice_get}
 use Rattle.guest_bus.specs.Memory.{Area, Memory}
@@ -163,6 +164,21 @@ moved_part part origin from at limit count displacement areas old new memory aft
 
     reach : at_place origin (at + displacement) new ≡ at_place origin part.at new
     reach = moved_place origin at displacement is.distance new is.reach ∙ ap (λ (n : ℕ). at_place origin n new) (sym is.place)
+
+-- the rows that follow some more
+dropped_more : (rows : List Row) (at count : ℕ) → drop count (drop at rows) ≡ drop (at + count) rows
+dropped_more [] at count = ap (drop count) (drop-nil at) ∙ drop-nil count ∙ sym (drop-nil (at + count))
+dropped_more (row ∷ rows) zero count = ap (λ (n : ℕ). drop n (row ∷ rows)) none
+  where
+    none : count ≡ 0 + count
+    none = omega arith
+dropped_more (row ∷ rows) (suc at) count = dropped_more rows at count ∙ ap (λ (n : ℕ). drop n (row ∷ rows)) more
+  where
+    more : suc (at + count) ≡ suc at + count
+    more = omega arith
+
+pub more_dropped : (rows rest after : List Row) (at count : ℕ) → rest ≡ drop at rows → after ≡ drop count rest → after ≡ drop (at + count) rows
+more_dropped rows rest after at count is next = next ∙ ap (drop count) is ∙ dropped_more rows at count
 
 -- areas that did not change
 pub same_came : (c : Came) (origin at : ℕ) (here areas : List Area) (old new : Registers) (memory after : Memory) → here ≡ areas → IsCame c origin at here old new memory after → IsCame c origin at areas old new memory after

@@ -1,5 +1,5 @@
 -- Rows are still those of the words where other words are written.
-use Rattle.std.proofs.Common.{◌≡◌, ◌≢◌, ◌⊎◌, ℕ, zero, suc, ◌+◌, ◌-◌, ◌*◌, ◌/◌, ◌%◌, ◌^◌, ◌<◌, ◌≤◌, Bool, true, false, List, [], ◌∷◌, length, Option, Some, None, inl, inr, ⊎_elim, refl, sym, subst, arith, eqb-true}
+use Rattle.std.proofs.Common.{◌≡◌, ◌≢◌, ◌⊎◌, ℕ, zero, suc, ap, ◌∙◌, drop, ◌+◌, ◌-◌, ◌*◌, ◌/◌, ◌%◌, ◌^◌, ◌<◌, ◌≤◌, Bool, true, false, List, [], ◌∷◌, length, Option, Some, None, inl, inr, ⊎_elim, refl, sym, subst, arith, eqb-true}
 use Rattle.std.proofs.lemmas.Bool.{cases_lt}
 use Rattle.std.specs.Bool.{OnTrue}
 use Rattle.std.specs.Int.{byte_len, to_be_bytes}
@@ -101,3 +101,12 @@ pub index_is : (rows : List Row) (at : ℕ) (other row : Row) → slice_get rows
 index_is [] at other row there = absurd cc
 index_is (first ∷ rows) zero other row there = cc
 index_is (first ∷ rows) (suc at) other row there = index_is rows at other row there
+
+-- the first of the rows from a place on
+dropped_is : (rows : List Row) (at : ℕ) (other row : Row) → slice_get rows at ≡ Some row → slice_index_or (drop at rows) 0 other ≡ row
+dropped_is [] at other row there = absurd cc
+dropped_is (first ∷ rows) zero other row there = cc
+dropped_is (first ∷ rows) (suc at) other row there = dropped_is rows at other row there
+
+pub first_is : (rows rest : List Row) (at : ℕ) (other row : Row) → rest ≡ drop at rows → slice_get rows at ≡ Some row → slice_index_or rest 0 other ≡ row
+first_is rows rest at other row from there = ap (λ (r : List Row). slice_index_or r 0 other) from ∙ dropped_is rows at other row there

@@ -1,6 +1,6 @@
 //! Words of a block, within whose length the steps that are left do not end.
 
-ghost use Rattle.std.specs.Prelude.{◌≡◌, ◌<◌, ◌≤◌, ◌^◌, length};
+ghost use Rattle.std.specs.Prelude.{◌≡◌, ◌<◌, ◌≤◌, ◌^◌, drop, length};
 ghost use Rattle.fast_loop.specs.lemmas.Coming.{IsMoved, IsPart};
 ghost use Rattle.fast_loop.specs.Keeping.{AreRowsOf};
 ghost use Rattle.fast_loop.specs.lemmas.Ahead.{IsAheadWithin};
@@ -8,6 +8,7 @@ ghost use Rattle.fast_loop.specs.lemmas.Ahead.{IsAheadWithin};
 use crate::one::{Came, one};
 use crate::parts::{Part, PartEnd};
 use crate::places::distance;
+use crate::ways::Way;
 use guest_bus::HasWords;
 use predecode::Row;
 use sparc_step::Processor;
@@ -31,10 +32,41 @@ pub(crate) fn block<B: HasWords>(
     ensures others { B.others bus.new ≡ B.others bus.old }
 {
     let mut at = from;
+    let mut rest = after(rows, from);
     loop {
-        match one(own, rows, bus, origin, at) {
-            Came::Next => at += 1,
-            Came::Passed => at += 2,
+        match one(own, rows, rest, bus, origin, at) {
+            Came::Next(Way::Idle) => {
+                at += 1;
+                rest = after(rest, 1);
+            }
+            Came::Next(Way::Sums) => {
+                at += 1;
+                rest = after(rest, 1);
+            }
+            Came::Next(Way::Bits) => {
+                at += 1;
+                rest = after(rest, 1);
+            }
+            Came::Next(Way::Tests) => {
+                at += 1;
+                rest = after(rest, 1);
+            }
+            Came::Next(Way::Shifts) => {
+                at += 1;
+                rest = after(rest, 1);
+            }
+            Came::Next(Way::Loads) => {
+                at += 1;
+                rest = after(rest, 1);
+            }
+            Came::Next(Way::Stores) => {
+                at += 1;
+                rest = after(rest, 1);
+            }
+            Came::Passed => {
+                at += 2;
+                rest = after(rest, 2);
+            }
             Came::Jump(displacement) => return moved(at, limit, 1, displacement),
             Came::Turn(displacement) => return moved(at, limit, 2, displacement),
             Came::PairTurn(displacement) => return moved(at + 1, limit, 2, displacement),
@@ -48,6 +80,15 @@ pub(crate) fn block<B: HasWords>(
             Came::Stays => return Part::of(at, limit, PartEnd::Stays),
         }
     }
+}
+
+// The rows that follow this many.
+#[inline(always)]
+fn after(rows: &[Row], count: usize) -> &[Row]
+    requires { count ≤ length rows.now }
+    ensures { result.now ≡ drop count rows.now }
+{
+    rows.split_at(count).1
 }
 
 /// The part that ends where the word at a displacement from a place follows, this many steps after that place.

@@ -41,7 +41,7 @@ fn words<B: HasWords>(
     while at < stop {
         proof! { let _zero = own.get(0); }
         match execute(own, rows, bus, origin, at, false, false, OneByOne) {
-            Step::Next => at += 1,
+            Step::Next(_) => at += 1,
             Step::Passed => at += 1,
             Step::Compared => at += 1,
             Step::Taken(displacement) => {

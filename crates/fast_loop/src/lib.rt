@@ -16,6 +16,7 @@ mod runs;
 mod shifting;
 mod simple;
 mod sites;
+mod ways;
 mod working;
 
 pub use running::{RunEnd, SINGLE, UNKNOWN, run_rows};

@@ -16,6 +16,7 @@ ghost use Rattle.fast_loop.specs.Keeping.{AreRowsOf};
 ghost use Rattle.fast_loop.specs.lemmas.Moves.{HasMoved, HaveNoRows};
 
 use crate::simple::Step;
+use crate::ways::Way;
 use guest_bus::{Bus, Size};
 use predecode::{Kind, Row};
 use sparc_step::Processor;
@@ -42,7 +43,7 @@ pub(crate) fn load<B: Bus>(
     match bus.load(address, size) {
         Ok(value) => {
             own.put(row.rd, extended(value, size, signed));
-            Step::Next
+            Step::Next(Way::Loads)
         }
         Err(_) => Step::Stays,
     }
@@ -80,7 +81,7 @@ pub(crate) fn load_double<B: Bus>(own: &mut Processor, bus: &mut B, row: &Row, a
     match bus.load(address, Size::Eight) {
         Ok(value) => {
             own.set_pair(row.rd, value);
-            Step::Next
+            Step::Next(Way::Loads)
         }
         Err(_) => Step::Stays,
     }
@@ -134,7 +135,7 @@ pub(crate) fn store_register<B: Bus>(
         return Step::Stays;
     }
     if store_word(own, bus, rd, address, size) {
-        Step::Next
+        Step::Next(Way::Stores)
     } else {
         Step::Stays
     }
@@ -164,7 +165,7 @@ pub(crate) fn store_double<B: Bus>(
         return Step::Stays;
     }
     if store_pair(own, bus, rd, address) {
-        Step::Next
+        Step::Next(Way::Stores)
     } else {
         Step::Stays
     }

@@ -1,6 +1,6 @@
 //! One word of a block.
 
-ghost use Rattle.std.specs.Prelude.{◌≡◌, ◌<◌, false, length, slice_get, Some};
+ghost use Rattle.std.specs.Prelude.{◌≡◌, ◌<◌, drop, false, length, slice_get, Some};
 ghost use Rattle.predecode.specs.declared.rows.Row.{Row as Placed};
 ghost use Rattle.std.specs.Bool.{OnTrue};
 ghost use Rattle.fast_loop.specs.lemmas.Coming.{IsCame, IsOn, IsSlotDone};
@@ -9,8 +9,9 @@ ghost use Rattle.fast_loop.specs.lemmas.Ahead.{IsAhead};
 
 use crate::places::address;
 use crate::shifting::shift;
-use crate::simple::{Step, execute};
+use crate::simple::{Step, execute, execute_first};
 use crate::sites::{AfterBranch, AfterPair, InBlock};
+use crate::ways::Way;
 use guest_bus::HasWords;
 use predecode::Row;
 use sparc_step::Processor;
@@ -20,7 +21,7 @@ use xm_base::proof;
 #[derive(Clone, Copy, Debug)]
 pub(crate) enum Came {
     /// It was done, and the next word follows.
-    Next,
+    Next(Way),
     /// It and the branch after it were done, and the word after that follows.
     Passed,
     /// It was done, and the word at a displacement from its place follows.
@@ -44,11 +45,13 @@ pub(crate) enum Came {
 pub(crate) fn one<B: HasWords>(
     own: &mut Processor,
     rows: &[Row],
+    rest: &[Row],
     bus: &mut B,
     origin: u32,
     at: usize,
 ) -> Came
     requires ahead { IsAhead rows.now at }
+    requires rest { rest.now ≡ drop at rows.now }
     requires rows { AreRowsOf rows.now (B.areas bus.old) (B.memory bus.old) origin }
     ensures came { IsCame result origin at (B.areas bus.old) own.old own.new (B.memory bus.old) (B.memory bus.new) }
     ensures on { IsOn result rows.now at }
@@ -57,8 +60,8 @@ pub(crate) fn one<B: HasWords>(
     ensures others { B.others bus.new ≡ B.others bus.old }
 {
     proof! { let _zero = own.get(0); }
-    match execute(own, rows, bus, origin, at, true, false, InBlock) {
-        Step::Next => Came::Next,
+    match execute_first(own, rows, rest, bus, origin, at, true, false, InBlock) {
+        Step::Next(way) => Came::Next(way),
         Step::Passed => {
             proof! { let _then = own.get(0); }
             Came::Passed
@@ -83,7 +86,7 @@ pub(crate) fn one<B: HasWords>(
         Step::Calls => Came::Calls,
         Step::Shifts => {
             if shift(own, rows, bus, origin, at) {
-                Came::Next
+                Came::Next(Way::Loads)
             } else {
                 Came::Stays
             }
@@ -113,7 +116,7 @@ pub(crate) fn in_slot<B: HasWords, S: Copy>(
 {
     proof! { let _zero = own.get(0); }
     match execute(own, rows, bus, origin, at, false, true, site) {
-        Step::Next => true,
+        Step::Next(_) => true,
         Step::Shifts => shift(own, rows, bus, origin, at),
         Step::Passed => true,
         Step::Compared => true,

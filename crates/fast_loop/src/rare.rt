@@ -7,6 +7,7 @@ ghost use Rattle.fast_loop.specs.lemmas.Effects.{address_so};
 ghost use Rattle.fast_loop.specs.lemmas.Steps.{AreOperands, IsEntered};
 
 use crate::simple::Step;
+use crate::ways::Way;
 use crate::working::sum_of;
 use predecode::Row;
 use sparc_step::Processor;
@@ -22,7 +23,7 @@ pub(crate) fn save(own: &mut Processor, row: &Row) -> Step
         return Step::Shifts;
     }
     below(own, row);
-    Step::Next
+    Step::Next(Way::Loads)
 }
 
 /// RESTORE. One that needs a window filled is left.
@@ -36,7 +37,7 @@ pub(crate) fn restore(own: &mut Processor, row: &Row) -> Step
         return Step::Shifts;
     }
     above(own, row);
-    Step::Next
+    Step::Next(Way::Loads)
 }
 
 // The sum of the operands becomes a register of the window below, which is valid.

@@ -1,6 +1,6 @@
 //! What rows do.
 
-ghost use Rattle.std.specs.Prelude.{◌≡◌, ℕ, ◌%◌, ◌<◌, false, length, Some, slice_get, true};
+ghost use Rattle.std.specs.Prelude.{◌≡◌, ℕ, ◌%◌, ◌<◌, drop, false, length, Some, slice_get, true};
 ghost use Rattle.guest_bus.specs.Words.{word_address};
 ghost use Rattle.sparc_code.specs.declared.instruction.Arith.TheVariants as arith;
 ghost use Rattle.sparc_step.specs.Cached.{register_of};
@@ -17,6 +17,7 @@ ghost use Rattle.fast_loop.specs.lemmas.Steps.{AreOperands, IsAlone, IsAnnulled,
 use crate::moving::{load, load_double, store_double, store_register};
 use crate::places::{address, displacement};
 use crate::rare::{restore, save};
+use crate::ways::Way;
 use crate::working::{
     divide, divide_signed, first, product, put_product, put_product_coded, register, second, sum_of,
 };
@@ -33,7 +34,7 @@ use sparc_step::words::{
 #[derive(Clone, Copy, Debug)]
 pub(crate) enum Step {
     /// It was done, and the next word follows.
-    Next,
+    Next(Way),
     /// It and the branch after it were done, and the word after that follows.
     Passed,
     /// It was done, but for where it goes: by a displacement from its place, after its delay slot.
@@ -56,7 +57,7 @@ fn chosen(paired: bool, taken: bool) -> Step
     ensures { IsChosen result paired taken }
 {
     if !paired {
-        Step::Next
+        Step::Next(Way::Sums)
     } else if taken {
         Step::Compared
     } else {
@@ -155,7 +156,7 @@ fn divided(own: &mut Processor, row: &Row) -> Step
     ensures { IsDivided result arith.UDiv row.now own.old own.new }
 {
     if divide(own, row.rd, first(own, row), second(own, row)) {
-        Step::Next
+        Step::Next(Way::Shifts)
     } else {
         Step::Stays
     }
@@ -168,7 +169,7 @@ fn divided_signed(own: &mut Processor, row: &Row) -> Step
     ensures { IsDivided result arith.SDiv row.now own.old own.new }
 {
     if divide_signed(own, row.rd, first(own, row), second(own, row)) {
-        Step::Next
+        Step::Next(Way::Shifts)
     } else {
         Step::Stays
     }
@@ -295,7 +296,7 @@ fn branch(own: &Processor, row: &Row) -> Step
     if holds(row.rs1, own.icc()) {
         Step::Taken(row.number)
     } else {
-        Step::Next
+        Step::Next(Way::Idle)
     }
 }
 
@@ -390,6 +391,32 @@ pub(crate) fn execute<B: HasWords, S: Copy>(
     do_row(own, rows, bus, origin, at, &rows[at], paired, slot, site)
 }
 
+/// The same, where the rows from the place on are given, too.
+#[inline(always)]
+pub(crate) fn execute_first<B: HasWords, S: Copy>(
+    own: &mut Processor,
+    rows: &[Row],
+    rest: &[Row],
+    bus: &mut B,
+    origin: u32,
+    at: usize,
+    paired: bool,
+    slot: bool,
+    site: S,
+) -> Step
+    requires place { at < length rows.now }
+    requires rest { rest.now ≡ drop at rows.now }
+    requires rows { AreRowsOf rows.now (B.areas bus.old) (B.memory bus.old) origin }
+    ensures step { (row : Placed) → slice_get rows.now at ≡ Some row → IsStep result row origin at (B.areas bus.old) own.old own.new (B.memory bus.old) (B.memory bus.new) }
+    ensures alone { paired ≡ false → IsAlone result }
+    ensures still { slot ≡ true → IsStill result own.old own.new }
+    ensures rows { AreRowsOf rows.now (B.areas bus.old) (B.memory bus.new) origin }
+    ensures areas { B.areas bus.new ≡ B.areas bus.old }
+    ensures others { B.others bus.new ≡ B.others bus.old }
+{
+    do_row(own, rows, bus, origin, at, &rest[0], paired, slot, site)
+}
+
 // The same by the row itself.
 #[inline(always)]
 fn do_row<B: HasWords, S: Copy>(
@@ -415,194 +442,194 @@ fn do_row<B: HasWords, S: Copy>(
     match row.kind {
         Kind::Empty => Step::Stays,
         Kind::Other => Step::Stays,
-        Kind::Nothing => Step::Next,
+        Kind::Nothing => Step::Next(Way::Idle),
         Kind::AddNumber => {
             let value = sum(first(own, row), row.number, false);
             put(own, row, value);
-            Step::Next
+            Step::Next(Way::Sums)
         }
         Kind::AddRegister => {
             let value = sum(first(own, row), register(own, row), false);
             put(own, row, value);
-            Step::Next
+            Step::Next(Way::Sums)
         }
         Kind::SubNumber => {
             let value = difference(first(own, row), row.number, false);
             put(own, row, value);
-            Step::Next
+            Step::Next(Way::Sums)
         }
         Kind::SubRegister => {
             let value = difference(first(own, row), register(own, row), false);
             put(own, row, value);
-            Step::Next
+            Step::Next(Way::Sums)
         }
         Kind::SetNumber => {
             put(own, row, row.number);
-            Step::Next
+            Step::Next(Way::Bits)
         }
         Kind::SetRegister => {
             let value = register(own, row);
             put(own, row, value);
-            Step::Next
+            Step::Next(Way::Bits)
         }
         Kind::OrNumber => {
             let value = first(own, row) | row.number;
             put(own, row, value);
-            Step::Next
+            Step::Next(Way::Bits)
         }
         Kind::OrRegister => {
             let value = first(own, row) | register(own, row);
             put(own, row, value);
-            Step::Next
+            Step::Next(Way::Bits)
         }
         Kind::AndNumber => {
             let value = first(own, row) & row.number;
             put(own, row, value);
-            Step::Next
+            Step::Next(Way::Bits)
         }
         Kind::AndRegister => {
             let value = first(own, row) & register(own, row);
             put(own, row, value);
-            Step::Next
+            Step::Next(Way::Bits)
         }
         Kind::XorNumber => {
             let value = first(own, row) ^ row.number;
             put(own, row, value);
-            Step::Next
+            Step::Next(Way::Bits)
         }
         Kind::XorRegister => {
             let value = first(own, row) ^ register(own, row);
             put(own, row, value);
-            Step::Next
+            Step::Next(Way::Bits)
         }
         Kind::SllNumber => {
             let value = shifted_left(first(own, row), row.number);
             put(own, row, value);
-            Step::Next
+            Step::Next(Way::Shifts)
         }
         Kind::SllRegister => {
             let value = shifted_left(first(own, row), register(own, row));
             put(own, row, value);
-            Step::Next
+            Step::Next(Way::Shifts)
         }
         Kind::SrlNumber => {
             let value = shifted_right(first(own, row), row.number);
             put(own, row, value);
-            Step::Next
+            Step::Next(Way::Shifts)
         }
         Kind::SrlRegister => {
             let value = shifted_right(first(own, row), register(own, row));
             put(own, row, value);
-            Step::Next
+            Step::Next(Way::Shifts)
         }
         Kind::SraNumber => {
             let value = shifted_arithmetically(first(own, row), row.number);
             put(own, row, value);
-            Step::Next
+            Step::Next(Way::Shifts)
         }
         Kind::SraRegister => {
             let value = shifted_arithmetically(first(own, row), register(own, row));
             put(own, row, value);
-            Step::Next
+            Step::Next(Way::Shifts)
         }
         Kind::AndN => {
             let value = first(own, row) & !second(own, row);
             put(own, row, value);
-            Step::Next
+            Step::Next(Way::Bits)
         }
         Kind::OrN => {
             let value = first(own, row) | !second(own, row);
             put(own, row, value);
-            Step::Next
+            Step::Next(Way::Bits)
         }
         Kind::XNor => {
             let value = !(first(own, row) ^ second(own, row));
             put(own, row, value);
-            Step::Next
+            Step::Next(Way::Bits)
         }
         Kind::AddX => {
             let value = sum(first(own, row), second(own, row), carry(own.icc()));
             put(own, row, value);
-            Step::Next
+            Step::Next(Way::Sums)
         }
         Kind::SubX => {
             let value = difference(first(own, row), second(own, row), carry(own.icc()));
             put(own, row, value);
-            Step::Next
+            Step::Next(Way::Sums)
         }
         Kind::CompareNumber => {
             compare_number(own, row);
-            Step::Next
+            Step::Next(Way::Sums)
         }
         Kind::CompareRegister => {
             compare_register(own, row);
-            Step::Next
+            Step::Next(Way::Sums)
         }
         Kind::AddCc => {
             put_added(own, row);
-            Step::Next
+            Step::Next(Way::Sums)
         }
         Kind::SubCc => {
             put_compared(own, row);
-            Step::Next
+            Step::Next(Way::Sums)
         }
         Kind::AndCc => {
             let value = first(own, row) & second(own, row);
             put_logical(own, row, value);
-            Step::Next
+            Step::Next(Way::Tests)
         }
         Kind::OrCc => {
             let value = first(own, row) | second(own, row);
             put_logical(own, row, value);
-            Step::Next
+            Step::Next(Way::Tests)
         }
         Kind::XorCc => {
             let value = first(own, row) ^ second(own, row);
             put_logical(own, row, value);
-            Step::Next
+            Step::Next(Way::Tests)
         }
         Kind::AndNCc => {
             let value = first(own, row) & !second(own, row);
             put_logical(own, row, value);
-            Step::Next
+            Step::Next(Way::Tests)
         }
         Kind::OrNCc => {
             let value = first(own, row) | !second(own, row);
             put_logical(own, row, value);
-            Step::Next
+            Step::Next(Way::Tests)
         }
         Kind::XNorCc => {
             let value = !(first(own, row) ^ second(own, row));
             put_logical(own, row, value);
-            Step::Next
+            Step::Next(Way::Tests)
         }
         Kind::AddXCc => {
             put_sum(own, row);
-            Step::Next
+            Step::Next(Way::Sums)
         }
         Kind::SubXCc => {
             put_difference(own, row);
-            Step::Next
+            Step::Next(Way::Sums)
         }
         Kind::UMul => {
             let value = product(first(own, row), second(own, row));
             put_product(own, row.rd, value);
-            Step::Next
+            Step::Next(Way::Tests)
         }
         Kind::SMul => {
             let value = signed_product(first(own, row), second(own, row));
             put_product(own, row.rd, value);
-            Step::Next
+            Step::Next(Way::Tests)
         }
         Kind::UMulCc => {
             let value = product(first(own, row), second(own, row));
             put_product_coded(own, row.rd, value);
-            Step::Next
+            Step::Next(Way::Tests)
         }
         Kind::SMulCc => {
             let value = signed_product(first(own, row), second(own, row));
             put_product_coded(own, row.rd, value);
-            Step::Next
+            Step::Next(Way::Tests)
         }
         Kind::UDiv => divided(own, row),
         Kind::SDiv => divided_signed(own, row),
@@ -665,11 +692,11 @@ fn do_row<B: HasWords, S: Copy>(
         Kind::RdY => {
             let value = own.y();
             put(own, row, value);
-            Step::Next
+            Step::Next(Way::Tests)
         }
         Kind::WrY => {
             put_y(own, row);
-            Step::Next
+            Step::Next(Way::Tests)
         }
         Kind::Save => save(own, row),
         Kind::Restore => restore(own, row),

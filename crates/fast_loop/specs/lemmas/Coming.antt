@@ -17,7 +17,7 @@ use Rattle.fast_loop.specs.declared.parts.PartEnd.TheVariants as ends
 
 -- this many steps from its place led there
 abbrev pub IsCame : Came → ℕ → ℕ → List Area → Registers → Registers → Memory → Memory → Type 0
-IsCame came.Next origin at areas old new memory after = AreSteps 1 areas (at_place origin at old) memory (at_place origin (at + 1) new) after
+IsCame (came.Next way) origin at areas old new memory after = AreSteps 1 areas (at_place origin at old) memory (at_place origin (at + 1) new) after
 IsCame came.Passed origin at areas old new memory after = AreSteps 2 areas (at_place origin at old) memory (at_place origin (at + 2) new) after
 IsCame (came.Jump displacement) origin at areas old new memory after = AreSteps 1 areas (at_place origin at old) memory (at_place origin (at + displacement) new) after
 IsCame (came.Turn displacement) origin at areas old new memory after = AreSteps 2 areas (at_place origin at old) memory (at_place origin (at + displacement) new) after
@@ -33,7 +33,7 @@ NoExit rows at = (row : Row) → slice_get rows at ≡ Some row → is_exit row.
 
 -- so may those that went on
 abbrev pub IsOn : Came → List Row → ℕ → Type 0
-IsOn came.Next rows at = NoExit rows at
+IsOn (came.Next way) rows at = NoExit rows at
 IsOn came.Passed rows at = NoExit rows at × NoExit rows (at + 1)
 IsOn (came.PairTurn displacement) rows at = NoExit rows at × NoExit rows (at + 1)
 IsOn (came.PairSlot displacement) rows at = NoExit rows at × NoExit rows (at + 1)

@@ -12,7 +12,7 @@ use Rattle.fast_loop.specs.lemmas.Effects.{IsTransferred}
 
 -- a load or a store was done, or it is left to others
 abbrev pub HasMoved : Step → MemOp → ℕ → ℕ → List Area → Registers → Registers → Memory → Memory → Type 0
-HasMoved step.Next operation rd address areas old new memory after = IsTransferred operation rd address areas old new memory after
+HasMoved (step.Next way) operation rd address areas old new memory after = IsTransferred operation rd address areas old new memory after
 HasMoved step.Stays operation rd address areas old new memory after = (new ≡ old) × (after ≡ memory)
 HasMoved s operation rd address areas old new memory after = ⊥
 

@@ -8,7 +8,7 @@ use Rattle.sparc_step.specs.Conditions.{holds}
 use Rattle.sparc_code.specs.declared.instruction.Instr.{Instr}
 use Rattle.sparc_step.specs.Execution.{done, executed}
 use Rattle.sparc_step.specs.Registers.{Registers, in_window, placed, with_register}
-use Rattle.predecode.specs.Kinds.{Does, Leaves, Idles, Works, Compares, Sets, Moves, ReadsY, WritesY, Saves, Restores, Calls, Jumps, BranchesAlways, Branches, Annuls, AnnulsAlways, Traps, Form, Sum, does, follows}
+use Rattle.predecode.specs.Kinds.{Does, Idles, Works, Compares, Sets, Moves, ReadsY, WritesY, Saves, Restores, Calls, Jumps, BranchesAlways, Branches, Annuls, AnnulsAlways, Traps, Sum, does, follows}
 use Rattle.predecode.specs.Rows.{HasForm, moved_register}
 use Rattle.predecode.specs.declared.rows.Row.{Row}
 use Rattle.fast_loop.specs.declared.simple.Step.{Step}
@@ -71,7 +71,7 @@ HasCalled d row old = ⊥
 
 -- what came of the row of a place
 abbrev pub IsStep : Step → Row → ℕ → ℕ → List Area → Registers → Registers → Memory → Memory → Type 0
-IsStep step.Next row origin at areas old new memory after = HasDone (does row.kind) row areas old new memory after
+IsStep (step.Next way) row origin at areas old new memory after = HasDone (does row.kind) row areas old new memory after
 IsStep step.Passed row origin at areas old new memory after = HasDone (does row.kind) row areas old new memory after × FollowsBy false (follows row.kind) new
 IsStep step.Compared row origin at areas old new memory after = HasDone (does row.kind) row areas old new memory after × FollowsBy true (follows row.kind) new
 IsStep (step.Taken displacement) row origin at areas old new memory after = HasTaken (does row.kind) row origin at displacement old new × (after ≡ memory)
@@ -94,26 +94,26 @@ IsAlone s = ⊤
 
 -- what came of work that sets condition codes
 abbrev pub IsChosen : Step → Bool → Bool → Type 0
-IsChosen step.Next paired taken = paired ≡ false
+IsChosen (step.Next way) paired taken = paired ≡ false
 IsChosen step.Passed paired taken = (paired ≡ true) × (taken ≡ false)
 IsChosen step.Compared paired taken = (paired ≡ true) × (taken ≡ true)
 IsChosen s paired taken = ⊥
 
 -- what came of a division
 abbrev pub IsDivided : Step → Arith → Row → Registers → Registers → Type 0
-IsDivided step.Next operation row old new = (new ≡ left_so (Works operation Sum) row old) × (0 < operand Sum row old)
+IsDivided (step.Next way) operation row old new = (new ≡ left_so (Works operation Sum) row old) × (0 < operand Sum row old)
 IsDivided step.Stays operation row old new = new ≡ old
 IsDivided s operation row old new = ⊥
 
 -- what came of a window that is entered, if it is valid
 abbrev pub IsEntered : Step → ℕ → Row → Registers → Registers → Type 0
-IsEntered step.Next window row old new = HasEntered window row old new
+IsEntered (step.Next way) window row old new = HasEntered window row old new
 IsEntered step.Shifts window row old new = new ≡ old
 IsEntered s window row old new = ⊥
 
 -- what came of a branch that annuls nothing
 abbrev pub IsBranched : Step → Row → Registers → Type 0
-IsBranched step.Next row old = holds row.rs1 old.icc ≡ false
+IsBranched (step.Next way) row old = holds row.rs1 old.icc ≡ false
 IsBranched (step.Taken displacement) row old = (holds row.rs1 old.icc ≡ true) × (displacement ≡ row.number)
 IsBranched s row old = ⊥
 

@@ -1,12 +1,13 @@
 use Rattle.std.proofs.Common.{◌+◌, refl, sym, ◌∙◌, arith}
 use Rattle.fast_loop.specs.declared.simple.Step.TheVariants as step
+use Rattle.fast_loop.specs.declared.ways.Way.TheVariants as way
 use Rattle.fast_loop.proofs.BlockLemmas.{same_rows, words_called, words_ended, words_left, words_moved, words_next, words_slot}
 use Rattle.fast_loop.proofs.ComingLemmas.{called_step, done_step, jumped_step, same_step, slot_not, slot_then, shift_from, taken_step, with_row, word_done, word_shifted}
 use Rattle.fast_loop.proofs.careful.words.Goals as goal
 
 pub loop-at-preserved-in-Next : goal.loop-at-preserved-in-Next
 loop-at-preserved-in-Next g c = record {
-  words = words_next c.args.origin c.args.from c.loop-at.at (g.B.Bus.areas c.args.bus.now) c.args.own.now c.loop-at.own c.execute.new.own (g.B.Bus.memory c.args.bus.now) (g.B.Bus.memory c.loop-at.bus) (g.B.Bus.memory c.execute.new.bus) c.loop-at.invariant.words (done_step c.args.origin c.loop-at.at (g.B.Bus.areas c.args.bus.now) c.loop-at.own c.execute.new.own (g.B.Bus.memory c.loop-at.bus) (g.B.Bus.memory c.execute.new.bus) (with_row c.args.rows.now c.loop-at.at (omega (arith, c.loop-at-test.true, c.min-stop.ensures)) (λ row there. word_done c.args.rows.now c.args.origin c.loop-at.at (g.B.Bus.areas c.args.bus.now) (g.B.Bus.memory c.loop-at.bus) c.loop-at.invariant.rows (omega (arith, c.loop-at-test.true, c.min-stop.ensures)) row there c.loop-at.own c.execute.new.own (g.B.Bus.memory c.execute.new.bus) (sym c.get-zero.ensures.value ∙ c.get-zero.ensures.zero refl) (same_step step.Next row c.args.origin c.loop-at.at (g.B.Bus.areas c.loop-at.bus) (g.B.Bus.areas c.args.bus.now) c.loop-at.own c.execute.new.own (g.B.Bus.memory c.loop-at.bus) (g.B.Bus.memory c.execute.new.bus) c.loop-at.invariant.areas (c.in-Next.ensures.step row there)))));
+  words = words_next c.args.origin c.args.from c.loop-at.at (g.B.Bus.areas c.args.bus.now) c.args.own.now c.loop-at.own c.execute.new.own (g.B.Bus.memory c.args.bus.now) (g.B.Bus.memory c.loop-at.bus) (g.B.Bus.memory c.execute.new.bus) c.loop-at.invariant.words (done_step c.args.origin c.loop-at.at (g.B.Bus.areas c.args.bus.now) c.loop-at.own c.execute.new.own (g.B.Bus.memory c.loop-at.bus) (g.B.Bus.memory c.execute.new.bus) (with_row c.args.rows.now c.loop-at.at (omega (arith, c.loop-at-test.true, c.min-stop.ensures)) (λ row there. word_done c.args.rows.now c.args.origin c.loop-at.at (g.B.Bus.areas c.args.bus.now) (g.B.Bus.memory c.loop-at.bus) c.loop-at.invariant.rows (omega (arith, c.loop-at-test.true, c.min-stop.ensures)) row there c.loop-at.own c.execute.new.own (g.B.Bus.memory c.execute.new.bus) (sym c.get-zero.ensures.value ∙ c.get-zero.ensures.zero refl) (same_step (step.Next way.Idle) row c.args.origin c.loop-at.at (g.B.Bus.areas c.loop-at.bus) (g.B.Bus.areas c.args.bus.now) c.loop-at.own c.execute.new.own (g.B.Bus.memory c.loop-at.bus) (g.B.Bus.memory c.execute.new.bus) c.loop-at.invariant.areas (c.in-Next.ensures.step row there)))));
   rows = same_rows c.args.rows.now (g.B.Bus.areas c.loop-at.bus) (g.B.Bus.areas c.args.bus.now) (g.B.Bus.memory c.execute.new.bus) c.args.origin c.loop-at.invariant.areas c.execute.ensures.rows;
   reach = omega (arith, c.loop-at-test.true);
   areas = c.execute.ensures.areas ∙ c.loop-at.invariant.areas;

@@ -1,5 +1,4 @@
 use Rattle.std.proofs.Common.{◌≡◌, ℕ, subst, arith}
-use Rattle.predecode.specs.lemmas.Reached.{word_after}
 use Rattle.fast_loop.specs.lemmas.Moves.{HaveNoRows}
 use Rattle.fast_loop.proofs.SixteenLemmas.{HasNoneOf, all_unmade, none_more}
 use Rattle.fast_loop.proofs.moving.has_some.Goals as goal

@@ -1,5 +1,4 @@
 use Rattle.std.proofs.Common.{subst, ℕ, arith}
-use Rattle.predecode.specs.lemmas.Reached.{word_after}
 use Rattle.fast_loop.specs.lemmas.Moves.{HaveNoRows}
 use Rattle.fast_loop.proofs.KeptLemmas.{two_unmade}
 use Rattle.fast_loop.proofs.moving.have_two.Goals as goal

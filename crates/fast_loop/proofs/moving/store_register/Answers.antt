@@ -1,5 +1,4 @@
 use Rattle.std.proofs.Common.{subst, ℕ, arith}
-use Rattle.predecode.specs.lemmas.Reached.{word_after}
 use Rattle.sparc_step.specs.Registers.{register_at}
 use Rattle.fast_loop.specs.lemmas.Moves.{HaveNoRows}
 use Rattle.fast_loop.proofs.KeptLemmas.{single_rows}
