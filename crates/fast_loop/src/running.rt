@@ -6,7 +6,7 @@ ghost use Rattle.fast_loop.specs.Runs.{AreSteps, IsCall};
 ghost use Rattle.fast_loop.specs.Keeping.{AreLengths, AreRowsOf};
 ghost use Rattle.fast_loop.specs.lemmas.Places.{at_place, at_slot};
 
-use crate::blocks::block;
+use crate::blocks::blocks;
 use crate::careful::carefully;
 use crate::parts::{Part, PartEnd};
 use crate::places::{address, address_after, distance, place_of};
@@ -104,7 +104,7 @@ fn run_in<B: HasWords>(
         let left = limit.wrapping_sub(at);
         let length = lengths[at];
         let part = if extended(length) < left {
-            block(own, rows, bus, origin, at, limit)
+            blocks(own, rows, lengths, bus, origin, at, limit)
         } else {
             if left == 0 || length == UNKNOWN {
                 return ended(own, origin, at, most - left as u64, false, left > 0);
@@ -133,9 +133,9 @@ fn run_in<B: HasWords>(
     ended(own, origin, at, went, false, went < most)
 }
 
-// What the steps that are left are compared with: the length of a block less 1, or a number that is not below any, where it is none.
+/// What the steps that are left are compared with: the length of a block less 1, or a number that is not below any, where it is none.
 #[inline(always)]
-fn extended(length: u8) -> usize
+pub(crate) fn extended(length: u8) -> usize
     ensures known { length < 128 → result ≡ length }
     ensures none { 128 ≤ length → 2 ^ 63 ≤ result }
 {
