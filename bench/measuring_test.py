@@ -40,6 +40,7 @@ def test_the_mean_of_ratios_is_the_ratio_of_means():
 
 def test_a_rate_is_of_the_difference_of_the_best_runs(monkeypatch):
     seconds = iter([5, 30, 1, 12, 2, 11])
+    monkeypatch.setattr(measuring, "TURNS", 3)
     monkeypatch.setattr(measuring, "seconds_of", lambda run: next(seconds))
     assert measuring.rates({"a guest": [(50_000_000, None), (250_000_000, None)]}) == {"a guest": 20}
 
